@@ -1,0 +1,4 @@
+-- Laws that several proofs cite.
+pub mod Table
+pub mod Names
+pub mod Ranges

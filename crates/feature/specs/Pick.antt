@@ -1,0 +1,18 @@
+-- Choice by a test, and tests joined. Every definition of this project that goes by tests uses these.
+use mathlib.Core.Bool.{Bool, true, false}
+
+abbrev pub pick : {A : Type 0} → Bool → A → A → A
+pick true a b = a
+pick false a b = b
+
+abbrev pub both : Bool → Bool → Bool
+both true b = b
+both false b = false
+
+abbrev pub either : Bool → Bool → Bool
+either true b = true
+either false b = b
+
+abbrev pub neither : Bool → Bool
+neither true = false
+neither false = true
