@@ -9,7 +9,8 @@ use lib.ListN.{length, getD, List·getD-eq-default}
 use lib.Dec.{T, ltb, ltb→lt, eqb}
 use borrow.Author.Tests.{eq-eqb, ne-eqb, ltb-true, ltb-false, eqb-true, eqb-false}
 use Rattle.feature.specs.Pick.{either}
-use Rattle.feature.specs.Names.{symbols, letter, names, placeOf, begins, Ranked}
+use Rattle.feature.specs.Text.{letter}
+use Rattle.feature.specs.Names.{symbols, names, placeOf, begins, Ranked}
 use Rattle.feature.proofs.Table.{both-left, both-right, rising}
 
 pub names-length : length names ≡ symbols

@@ -1,4 +1,5 @@
 pub mod Pick
+pub mod Text
 pub mod Names
 pub mod Kinds
 pub mod Bonds

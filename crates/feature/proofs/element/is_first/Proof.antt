@@ -1,7 +1,7 @@
 use Prim.Native.Nat.{ℕ, _/_}
 use mathlib.Core.Path.{ap, _∙_}
 use lib.Dec.{eqb}
-use Rattle.feature.specs.Names.{letter}
+use Rattle.feature.specs.Text.{letter}
 use Rattle.feature.proofs.Names.{begun, unbegun}
 use borrow.Author.Needs.{needs}
 use Rattle.feature.proofs.element.is_first.Statement.{statement}

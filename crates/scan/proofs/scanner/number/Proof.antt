@@ -1,0 +1,29 @@
+use mathlib.Core.Path.{refl}
+use borrow.Author.Tests.{lt-ltb, le-ltb, lt-leb, le-leb, eq-eqb, ne-eqb}
+use Rattle.scan.specs.Scan.{numberAt}
+use borrow.Author.Needs.{needs}
+use Rattle.scan.proofs.scanner.number.Statement.{statement}
+use Rattle.scan.proofs.scanner.number.Tie as tie
+use Rattle.scan.proofs.scanner.number.Reads as reads
+use Rattle.scan.proofs.scanner.number.Lts as lts
+use Rattle.scan.proofs.scanner.more.Reads as more-reads
+
+-- src/scanner.rt:80:9
+more-requires : tie.Need-more-requires
+more-requires c κs = search needs
+
+-- src/scanner.rt:81:9
+more-requires-2 : tie.Need-more-requires-2
+more-requires-2 c κs = search needs
+
+-- src/scanner.rt:82:5
+more-requires-3 : tie.Need-more-requires-3
+more-requires-3 c κs = search needs
+
+-- src/scanner.rt:77:1
+returns : tie.Need-returns
+unfolding numberAt
+returns c = record { is = simp (← c .before .before .more .ensures .is, ← c .before .more2 .ensures .is, ← c .more3 .ensures .is); small = search needs }
+
+pub number-spec : {M : Type 1} → statement M
+number-spec = tie.close (tie.spec more-requires more-requires-2 more-requires-3 returns)

@@ -1,0 +1,71 @@
+-- Bytes laid one run after the other, and the letters of names. Assumes nothing.
+use Prim.Native.Nat.{ℕ, zero, suc, _+_, _-_, _*_, _/_, _%_, _<_, _≤_}
+use mathlib.Core.Path.{_≡_, refl, _∙_, ap, sym, subst}
+use mathlib.Core.List.{List, [], _∷_, _++_}
+use mathlib.Core.Bool.{Bool, true, false}
+use native.Mathlib.Omega.{arith}
+use native.Mathlib.Nat.{add-zero, add-suc, suc-add, zero-add}
+use lib.ListN.{length, getD, set, drop, length-append}
+use lib.Seq.{sets, sets-eq}
+use lib.Dec.{T, ltb, leb, eqb, leb→le, ltb→lt}
+use borrow.Author.Tests.{ne-eqb}
+use Rattle.feature.specs.Pick.{pick, both}
+use Rattle.feature.specs.Text.{letter}
+use Rattle.feature.specs.Names.{names, symbols}
+use Rattle.feature.proofs.Table.{at, both-left, both-right}
+use Rattle.spell.specs.Spell.{Laid, organic}
+
+pub sets-append : (l : List ℕ) (i : ℕ) (xs ys : List ℕ) → sets l i (xs ++ ys) ≡ sets (sets l i xs) (i + length xs) ys
+sets-append l i [] ys = ap (λ (n : ℕ). sets l n ys) (sym (add-zero i))
+sets-append l i (x ∷ xs) ys =
+    sets-append (set l i x) (suc i) xs ys
+    ∙ ap (λ (n : ℕ). sets (sets (set l i x) (suc i) xs) n ys) (suc-add i (length xs) ∙ sym (add-suc i (length xs)))
+
+pub laid-nil : {l : List ℕ} {at : ℕ} → Laid 0 l at [] l at
+laid-nil = record { is = refl; next = omega arith; small = omega arith }
+
+pub laid-then : {n n′ at r r′ : ℕ} {l m m′ xs ys : List ℕ} → Laid n l at xs m r → Laid n′ m r ys m′ r′ → Laid (n + n′) l at (xs ++ ys) m′ r′
+laid-then {n} {n′} {at} {r} {r′} {l} {m} {m′} {xs} {ys} a b =
+    record {
+      is = b .is ∙ ap (λ (t : List ℕ). sets t r ys) (a .is) ∙ ap (λ (k : ℕ). sets (sets l at xs) k ys) (a .next) ∙ sym (sets-append l at xs ys);
+      next = simp length-append (omega arith);
+      small = omega arith;
+    }
+
+pub laid-as : {n N at r : ℕ} {l m xs ys : List ℕ} → Laid n l at xs m r → T (leb n N) → xs ≡ ys → Laid N l at ys m r
+laid-as {n} {N} {at} {r} {l} {m} a h e =
+    record {
+      is = a .is ∙ ap (λ (b : List ℕ). sets l at b) e;
+      next = a .next ∙ ap (λ (b : List ℕ). at + length b) e;
+      small = omega (arith, leb→le n N h);
+    }
+
+-- where there is room a text stands at the front of what was there, and the rest is untouched
+pub in-front : {n r : ℕ} {l m xs : List ℕ} → Laid n l 0 xs m r → length xs ≤ length l → m ≡ xs ++ drop (length xs) l
+in-front {n} {r} {l} {m} {xs} a h = a .is ∙ sets-eq xs l 0 (omega arith) ∙ rw zero-add
+
+-- the letters of a name are bytes
+letters : ℕ → ℕ → Bool
+letters k x = both (ltb (x / letter) 128) (ltb (x % letter) 128)
+
+letters-at : (y : ℕ) → y < symbols → T (letters y (getD names y 0))
+unfolding names letters
+letters-at y h = at letters names tt y h
+
+pub first-small : (y : ℕ) → y < symbols → getD names y 0 / letter < 128
+unfolding letters
+first-small y h =
+    ltb→lt _ 128 (both-left (ltb (getD names y 0 / letter) 128) (ltb (getD names y 0 % letter) 128) (letters-at y h))
+
+pub second-small : (y : ℕ) → y < symbols → getD names y 0 % letter < 128
+unfolding letters
+second-small y h =
+    ltb→lt _ 128 (both-right (ltb (getD names y 0 / letter) 128) (ltb (getD names y 0 % letter) 128) (letters-at y h))
+
+-- the organic symbols are symbols
+isSymbol : ℕ → ℕ → Bool
+isSymbol k y = ltb y symbols
+
+pub organic-small : (n : ℕ) → n < 18 → getD organic n 0 < symbols
+unfolding organic isSymbol
+organic-small n h = ltb→lt _ symbols (at isSymbol organic tt n h)

@@ -1,0 +1,2 @@
+-- Laws that several proofs cite, and the theorems about texts.
+pub mod Laws
