@@ -11,7 +11,7 @@ use borrow.Author.Tests.{eq-eqb, ne-eqb, ltb-true, ltb-false, eqb-true, eqb-fals
 use Rattle.feature.specs.Pick.{either}
 use Rattle.feature.specs.Text.{letter}
 use Rattle.feature.specs.Names.{symbols, names, placeOf, begins, Ranked}
-use Rattle.feature.proofs.Table.{both-left, both-right, rising}
+use Rattle.feature.proofs.Table.{at, both-left, both-right, rising}
 
 pub names-length : length names ≡ symbols
 unfolding names
@@ -121,3 +121,14 @@ module _ (a r : ℕ) (ranked : Ranked (a * letter) r) where
   pub unbegun : symbols ≤ r → false ≡ begins a names
   unbegun l =
       sym (begins-none a names (λ j h d. omega (arith, ranked .below j (omega (arith, names-length)))))
+
+-- no name begins with what is no byte
+isByte : ℕ → ℕ → Bool
+isByte k x = ltb (x / letter) 256
+
+first-byte : (j : ℕ) → j < symbols → getD names j 0 / letter < 256
+unfolding names isByte
+first-byte j h = ltb→lt _ 256 (at isByte names tt j h)
+
+pub no-byte : (a : ℕ) → 255 < a → false ≡ begins a names
+no-byte a l = sym (begins-none a names (λ j h d. omega (arith, first-byte j (omega (arith, names-length)))))

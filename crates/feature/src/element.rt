@@ -214,9 +214,11 @@ pub fn find(key: u32) -> u32
 
 // Whether some name begins with a byte.
 pub fn is_first(byte: u32) -> bool
-    requires { ⌜ byte ≤ 256 ⌝ }
     ensures { λ r. ⌜ r ≡ begins byte names ⌝ }
 {
+    if 255 < byte {
+        return false;
+    }
     let place = rank(byte * LETTER);
     if place < SYMBOLS {
         return name(place) / LETTER == byte;

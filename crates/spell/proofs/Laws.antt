@@ -12,14 +12,9 @@ use borrow.Author.Tests.{ne-eqb}
 use Rattle.feature.specs.Pick.{pick, both}
 use Rattle.feature.specs.Text.{letter}
 use Rattle.feature.specs.Names.{names, symbols}
+use Rattle.feature.proofs.Lists.{sets-append}
 use Rattle.feature.proofs.Table.{at, both-left, both-right}
 use Rattle.spell.specs.Spell.{Laid, organic}
-
-pub sets-append : (l : List ℕ) (i : ℕ) (xs ys : List ℕ) → sets l i (xs ++ ys) ≡ sets (sets l i xs) (i + length xs) ys
-sets-append l i [] ys = ap (λ (n : ℕ). sets l n ys) (sym (add-zero i))
-sets-append l i (x ∷ xs) ys =
-    sets-append (set l i x) (suc i) xs ys
-    ∙ ap (λ (n : ℕ). sets (sets (set l i x) (suc i) xs) n ys) (suc-add i (length xs) ∙ sym (add-suc i (length xs)))
 
 pub laid-nil : {l : List ℕ} {at : ℕ} → Laid 0 l at [] l at
 laid-nil = record { is = refl; next = omega arith; small = omega arith }

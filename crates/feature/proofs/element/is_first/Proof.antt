@@ -2,7 +2,7 @@ use Prim.Native.Nat.{ℕ, _/_}
 use mathlib.Core.Path.{ap, _∙_}
 use lib.Dec.{eqb}
 use Rattle.feature.specs.Text.{letter}
-use Rattle.feature.proofs.Names.{begun, unbegun}
+use Rattle.feature.proofs.Names.{begun, unbegun, no-byte}
 use borrow.Author.Needs.{needs}
 use Rattle.feature.proofs.element.is_first.Statement.{statement}
 use Rattle.feature.proofs.element.is_first.Tie as tie
@@ -11,25 +11,31 @@ use Rattle.feature.proofs.element.is_first.Lts as lts
 use Rattle.feature.proofs.element.name.Reads as name-reads
 use Rattle.feature.proofs.element.rank.Reads as rank-reads
 
--- src/element.rt:211:22
+-- src/element.rt:220:9
+returns : tie.Need-returns
+returns c = no-byte _ (c .if1 .taken)
+
+-- src/element.rt:222:22
 mul-rank : tie.Need-mul-rank
 mul-rank c = search needs
 
--- src/element.rt:211:9
+-- src/element.rt:222:9
 rank-requires : tie.Need-rank-requires
 rank-requires c κs = search needs
 
--- src/element.rt:213:16
+-- src/element.rt:224:16
 name-requires : tie.Need-name-requires
 name-requires c κs = search needs
 
--- src/element.rt:213:9
-returns : tie.Need-returns
-returns c = ap (λ (x : ℕ). eqb (x / letter) (c .before .before .before .args .byte)) (c .name .ensures) ∙ begun _ _ (c .before .before .rank .ensures) (c .before .if1 .taken)
-
--- src/element.rt:207:1
+-- src/element.rt:224:9
 returns-2 : tie.Need-returns-2
-returns-2 c = unbegun _ _ (c .before .rank .ensures) (c .if1 .left)
+returns-2 c =
+    ap (λ (x : ℕ). eqb (x / letter) (c .before .before .before .before .args .byte)) (c .name .ensures) ∙ begun _ _ (c .before .before .rank .ensures) (c .before .if2 .taken)
+
+-- src/element.rt:216:1
+returns-3 : tie.Need-returns-3
+returns-3 c = unbegun _ _ (c .before .rank .ensures) (c .if2 .left)
 
 pub is-first-spec : {M : Type 1} → statement M
-is-first-spec = tie.close (tie.spec mul-rank rank-requires name-requires returns returns-2)
+is-first-spec =
+    tie.close (tie.spec returns mul-rank rank-requires name-requires returns-2 returns-3)
