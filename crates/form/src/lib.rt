@@ -1,0 +1,24 @@
+// The plain text form in which requests and answers are compared: numbers, bonds, atom kinds and texts, each printed and
+// parsed. oracle/README.md describes the form.
+//
+// A printer lays its bytes into the output that it is lent, from a place on, and answers the place after them. A byte
+// that finds no room is left out, so an output that is filled to its end may be cut short.
+//
+// A parser looks at a place of a text and answers what it found with the place after it. Where the text has something
+// else there, that place is `byte::NOWHERE`: whatever is looked for at it is missing too, so parsers can be chained, and
+// one test at the end tells whether all of it was there. A bond or a kind that is not there is `Bad`.
+//
+// byte: a byte at a place, and what holds of places.
+// number: a plain number.
+// text: any bytes, escaped.
+// bond: a bond's kind.
+// kind: an atom's kind. symbol, configuration and field: the fields of a bracket atom; organic: the atoms without one.
+pub mod bond;
+pub mod byte;
+mod configuration;
+pub mod field;
+pub mod kind;
+pub mod number;
+mod organic;
+mod symbol;
+pub mod text;

@@ -1,0 +1,77 @@
+-- The read call: 12 first; then the first refusal that the reading meets; after a whole line 3, the first failed join, then
+-- 4, the first open ring number; else the tables in their final form. After a refusal both tables are zero.
+use Prim.Native.Nat.{ℕ, _*_, _/_}
+use mathlib.Core.List.{List}
+use mathlib.Core.Bool.{Bool, true, false}
+use lib.ListN.{length, replicate}
+use lib.Dec.{ltb, eqb}
+use Rattle.feature.specs.Pick.{pick}
+use Rattle.record.specs.Words.{atomWords, bondWords}
+use Rattle.graph.specs.Limits.{textLimit, atomLimit, bondLimit, lesserOf}
+use Rattle.graph.specs.Rings.{numbers}
+use Rattle.graph.specs.State.{Bld, bld, startOf, refusedSt, entryWords, inversion, atomRoom, bondRoom}
+use Rattle.graph.specs.declared.builder.Builder.{Builder}
+use Rattle.build.specs.Build.{Outcome, tables, buildOf}
+use Rattle.build.specs.declared.Built.{Built}
+use Rattle.build.specs.declared.Built.the-variants as built
+use Rattle.reader.specs.Events.{run, endOfLine, character, nesting}
+use Rattle.reader.specs.Parse.{parse}
+use Rattle.reader.specs.declared.line.Came.{Came}
+use Rattle.read.specs.declared.Answer.{Answer}
+use Rattle.read.specs.declared.Answer.the-variants.{Done, EndOfLine, Character, Join, Rnum, Inversion, TextTooLong, AtomRoom, BondRoom, Nesting, NoAtom}
+
+-- an answer with the tables that it leaves
+pub record Said : Type 0 where
+  pub answer : Answer
+  pub atoms : List ℕ
+  pub bonds : List ℕ
+
+abbrev pub said : Answer → List ℕ → List ℕ → Said
+said r a b = record { answer = r; atoms = a; bonds = b }
+
+-- no byte may be left after a line
+unfoldable pub endedSt : List ℕ → Came → Builder
+endedSt s c =
+    pick (eqb (c .b .refusal) 0)
+    (pick (ltb (c .at) (length s)) (refusedSt (c .b) character (c .at)) (c .b))
+    (c .b)
+
+-- what a refusal is called
+unfoldable pub refusalOf : Builder → Answer
+refusalOf b =
+    pick (eqb (b .refusal) endOfLine) EndOfLine
+    (pick (eqb (b .refusal) character) (Character (b .carried))
+    (pick (eqb (b .refusal) inversion) (Inversion (b .carried))
+    (pick (eqb (b .refusal) atomRoom) (AtomRoom (b .carried))
+    (pick (eqb (b .refusal) bondRoom) (BondRoom (b .carried))
+    (pick (eqb (b .refusal) nesting) (Nesting (b .carried))
+    NoAtom)))))
+
+unfoldable pub builtAnswer : Built → Builder → Answer
+builtAnswer built.Done b = Done (b .atoms) (b .entries)
+builtAnswer (built.Join x y) b = Join x y
+builtAnswer (built.Rnum n) b = Rnum n
+
+unfoldable pub builtSaid : Outcome → Builder → Said
+builtSaid o b = said (builtAnswer (o .answer) b) (o .left .atoms) (o .left .bonds)
+
+-- the state that a text's events make of tables
+unfoldable pub stateOf : List ℕ → List ℕ → ℕ → List ℕ → List ℕ → List ℕ → Bld
+stateOf s a lb e p r =
+    run (bld a e p r (startOf (lesserOf atomLimit (length a / atomWords)) (lesserOf bondLimit (lb / bondWords)))) (parse s)
+
+-- what is said of a state
+unfoldable pub saidOf : ℕ → Bld → Said
+saidOf lb b =
+    pick (eqb (b .st .refusal) 0)
+    (builtSaid (buildOf (tables (b .atoms) (replicate lb 0) (b .path)) (b .entries) (b .st)) (b .st))
+    (said (refusalOf (b .st)) (replicate (length (b .atoms)) 0) (replicate lb 0))
+
+unfoldable pub within : List ℕ → List ℕ → ℕ → List ℕ → List ℕ → List ℕ → Said
+within s a lb e p r = saidOf lb (stateOf s a lb e p r)
+
+-- a text read into tables of these lengths
+unfoldable pub readOf : List ℕ → ℕ → ℕ → Said
+readOf s la lb =
+    pick (ltb textLimit (length s)) (said (TextTooLong (length s)) (replicate la 0) (replicate lb 0))
+    (within s (replicate la 0) lb (replicate (bondLimit * entryWords) 0) (replicate atomLimit 0) (replicate numbers 0))

@@ -1,0 +1,146 @@
+// The read call: a line's text into an atom table and a bond table.
+ghost use mathlib.Core.Path.{_≡_};
+ghost use Prim.Native.Nat.{ℕ, _≤_, _<_};
+ghost use mathlib.Core.List.{List};
+ghost use lib.ListN.{length, replicate};
+ghost use Rattle.graph.specs.Limits.{textLimit};
+ghost use Rattle.graph.specs.State.{bld};
+ghost use Rattle.read.specs.Read.{said, endedSt, refusalOf, builtAnswer, within, readOf};
+use build::Built;
+use build::build;
+use build::clear;
+use graph::builder::ATOM_ROOM;
+use graph::builder::BOND_ROOM;
+use graph::builder::Builder;
+use graph::builder::INVERSION;
+use graph::limits::BRANCHES;
+use graph::limits::TEXT;
+use graph::limits::atom_room;
+use graph::limits::bond_room;
+use reader::event::CHARACTER;
+use reader::event::END_OF_LINE;
+use reader::lead::Lead;
+use reader::line::Came;
+use reader::line::NESTING;
+use reader::line::read_line;
+
+// What the desk says of a line. Its numbers, in order: 0, 1, 2, 3, 4, 10, 12, 13, 14, 15, 18.
+pub enum Answer {
+    // Atoms and bond entries.
+    Done(usize, usize),
+    EndOfLine,
+    Character(usize),
+    // Closing atom, opening atom.
+    Join(u32, u32),
+    // The number of the join.
+    Rnum(u32),
+    // The atom's number.
+    Inversion(usize),
+    TextTooLong(usize),
+    AtomRoom(usize),
+    BondRoom(usize),
+    Nesting(usize),
+    // Never said of a line.
+    NoAtom,
+}
+
+// After a whole line no byte is left.
+fn end_line(text: &[u8], came: Came) -> Builder
+    ensures { λ r. ⌜ r ≡ endedSt (now (text .entry)) came ⌝ }
+{
+    let b = came.b;
+    if b.refusal != 0 {
+        return b;
+    }
+    let at = came.at;
+    if at < text.len() {
+        return b.refused(CHARACTER, at);
+    }
+    b
+}
+
+// What a builder's refusal is called.
+fn refusal(b: Builder) -> Answer
+    ensures { λ r. ⌜ r ≡ refusalOf b ⌝ }
+{
+    let n = b.refusal;
+    if n == END_OF_LINE {
+        return Answer::EndOfLine;
+    }
+    if n == CHARACTER {
+        return Answer::Character(b.carried);
+    }
+    if n == INVERSION {
+        return Answer::Inversion(b.carried);
+    }
+    if n == ATOM_ROOM {
+        return Answer::AtomRoom(b.carried);
+    }
+    if n == BOND_ROOM {
+        return Answer::BondRoom(b.carried);
+    }
+    if n == NESTING {
+        return Answer::Nesting(b.carried);
+    }
+    Answer::NoAtom
+}
+
+fn built(r: Built, b: Builder) -> Answer
+    ensures { λ a. ⌜ a ≡ builtAnswer r b ⌝ }
+{
+    match r {
+        Built::Done => Answer::Done(b.atoms, b.entries),
+        Built::Join(closing, opening) => Answer::Join(closing, opening),
+        Built::Rnum(number) => Answer::Rnum(number),
+    }
+}
+
+// A line within the limit, into tables of zeros, with work room lent.
+fn read_within(
+    text: &[u8],
+    atoms: &mut [u32],
+    bonds: &mut [u32],
+    entries: &mut [u32],
+    path: &mut [u32],
+    rings: &mut [u32],
+) -> Answer
+    requires { ⌜ (length (now text) ≤ textLimit) × (now bonds ≡ replicate (length (now bonds)) 0) ⌝ }
+    ensures { λ r. ⌜ said r (now (atoms .exit)) (now (bonds .exit))
+        ≡ within (now (text .entry)) (now (atoms .entry)) (length (now (bonds .entry))) (now (entries .entry)) (now (path .entry)) (now (rings .entry)) ⌝ }
+{
+    let start = Builder::start(atom_room(atoms), bond_room(bonds));
+    let came = read_line(
+        text,
+        0,
+        Lead::Dot,
+        BRANCHES,
+        atoms,
+        entries,
+        path,
+        rings,
+        start,
+    );
+    let b = end_line(text, came);
+    if b.refusal != 0 {
+        clear(atoms);
+        return refusal(b);
+    }
+    let r = build(atoms, bonds, entries, path, b);
+    built(r, b)
+}
+
+// Reads a line. The tables hold its graph in their final form, zeros after it; after a refusal they hold zeros.
+pub fn read(text: &[u8], atoms: &mut [u32], bonds: &mut [u32]) -> Answer
+    ensures { λ r. ⌜ said r (now (atoms .exit)) (now (bonds .exit))
+        ≡ readOf (now (text .entry)) (length (now (atoms .entry))) (length (now (bonds .entry))) ⌝ }
+{
+    clear(atoms);
+    clear(bonds);
+    if TEXT < text.len() {
+        return Answer::TextTooLong(text.len());
+    }
+    let mut entries = [0u32; 6912];
+    let mut path = [0u32; 1024];
+    let mut rings = [0u32; 100];
+    read_within(text, atoms, bonds, &mut entries, &mut path, &mut rings)
+}

@@ -1,0 +1,74 @@
+use mathlib.Core.Path.{refl}
+use borrow.Author.Tests.{lt-ltb, le-ltb, lt-leb, le-leb, eq-eqb, ne-eqb}
+use Rattle.reader.specs.Events.{numbOf, judged}
+use borrow.Author.Needs.{needs}
+use Rattle.reader.proofs.event.put_numb.Statement.{statement}
+use Rattle.reader.proofs.event.put_numb.Tie as tie
+use Rattle.reader.proofs.event.put_numb.Reads as reads
+use Rattle.reader.proofs.event.put_numb.Lts as lts
+use Rattle.feature.proofs.atom_kind.invert.Reads as invert-reads
+use Rattle.graph.proofs.builder.Builder.refused.Reads as refused-reads
+use Rattle.reader.proofs.event.count.Reads as count-reads
+
+-- src/event.rt:35:22
+enum-told : tie.Need-enum-told
+enum-told c = search needs
+
+-- src/event.rt:35:22
+count-requires : tie.Need-count-requires
+count-requires c κs = search needs
+
+-- src/event.rt:37:17
+enum-told-2 : tie.Need-enum-told-2
+enum-told-2 c = search needs
+
+-- src/event.rt:38:19
+invert-requires : tie.Need-invert-requires
+invert-requires c κs = search needs
+
+-- src/event.rt:39:38
+enum-told-3 : tie.Need-enum-told-3
+enum-told-3 c = search needs
+
+-- src/event.rt:39:38
+refused-requires : tie.Need-refused-requires
+refused-requires c κs = search needs
+
+-- src/event.rt:40:40
+enum-told-4 : tie.Need-enum-told-4
+enum-told-4 c = search needs
+
+-- src/event.rt:40:40
+count-requires-2 : tie.Need-count-requires-2
+count-requires-2 c κs = search needs
+
+-- src/event.rt:30:1
+returns : tie.Need-returns
+unfolding numbOf judged
+returns c = simp (c .before .enum-told .given .1, ← c .count .ensures)
+
+-- src/event.rt:30:1
+returns-2 : tie.Need-returns-2
+unfolding numbOf judged
+returns-2 c = simp (c .before .before .before .before .enum-told2 .given .1, ← c .before .before .before .invert .ensures, c .before .enum-told3 .given .1, ← c .refused .ensures)
+
+-- src/event.rt:30:1
+returns-3 : tie.Need-returns-3
+unfolding numbOf judged
+returns-3 c = simp (c .before .before .before .before .enum-told2 .given .1, ← c .before .before .before .invert .ensures, c .before .enum-told4 .given .1, ← c .count2 .ensures)
+
+pub put-numb-spec : {M : Type 1} → statement M
+put-numb-spec =
+    tie.close
+    (tie.spec
+    enum-told
+    count-requires
+    enum-told-2
+    invert-requires
+    enum-told-3
+    refused-requires
+    enum-told-4
+    count-requires-2
+    returns
+    returns-2
+    returns-3)

@@ -1,0 +1,245 @@
+// The grammar of a line, over lent tables.
+ghost use mathlib.Core.Path.{_≡_};
+ghost use mathlib.Core.List.{List};
+ghost use Prim.Native.Nat.{ℕ, _+_, _<_, _≤_};
+ghost use lib.ListN.{length};
+ghost use Rattle.feature.specs.Text.{byte};
+ghost use Rattle.scan.specs.Scan.{peekAt};
+ghost use Rattle.graph.specs.State.{bld};
+ghost use Rattle.reader.specs.Post.{cameMissing, Ready, AtomRead, RingRead, UnionRead, UnitRead, LineRead, BranchRead};
+use crate::event::put_atom;
+use crate::event::put_missing;
+use crate::event::put_ring;
+use crate::lead::Lead;
+use crate::lead::body;
+use crate::lead::read_lead;
+use feature::bond_kind::BondKind;
+use graph::builder::Builder;
+use scan::read_atom::read_atom;
+use scan::read_rnum::Ring;
+use scan::read_rnum::read_rnum;
+use scan::scanner::Found;
+use scan::scanner::missing_character;
+use scan::scanner::peek;
+
+// The desk's number of a branch too many.
+pub const NESTING: u32 = 15;
+
+// Where a reading ended, how many atoms its line then has, and the builder.
+pub struct Came {
+    pub at: usize,
+    pub n: usize,
+    pub b: Builder,
+}
+
+fn stopped(text: &[u8], at: usize, n: usize, b: Builder) -> Came
+    ensures { λ r. ⌜ r ≡ cameMissing (now (text .entry)) at n b ⌝ }
+{
+    let m = missing_character(text, at);
+    let b = put_missing(b, m);
+    Came { at, n, b }
+}
+
+// An atom at a place, which is its line's atom n.
+fn line_atom(
+    text: &[u8],
+    at: usize,
+    lead: Lead,
+    n: usize,
+    atoms: &mut [u32],
+    entries: &mut [u32],
+    path: &mut [u32],
+    b: Builder,
+) -> Came
+    requires { ⌜ Ready (now text) at b × (n ≤ at) ⌝ }
+    ensures { λ r. ⌜ ((s : List ℕ) → AtomRead (now (text .entry)) at lead n (bld (now (atoms .entry)) (now (entries .entry)) (now (path .entry)) s b)
+        (bld (now (atoms .exit)) (now (entries .exit)) (now (path .exit)) s (r .b)) (r .at) (r .n)) ⌝ }
+{
+    match read_atom(text, at) {
+        Found::Nothing => stopped(text, at, n, b),
+        Found::Lacks(m) => {
+            let b = put_missing(b, m);
+            Came { at, n, b }
+        }
+        Found::Atom(k, next) => {
+            let b = put_atom(atoms, entries, path, b, lead, k, at);
+            Came {
+                at: next,
+                n: n + 1,
+                b,
+            }
+        }
+    }
+}
+
+// A ring number at a place.
+fn line_ring(
+    text: &[u8],
+    at: usize,
+    bond: BondKind,
+    n: usize,
+    entries: &mut [u32],
+    path: &[u32],
+    rings: &mut [u32],
+    b: Builder,
+) -> Came
+    requires { ⌜ Ready (now text) at b × (n ≤ at) ⌝ }
+    ensures { λ r. ⌜ ((a : List ℕ) → RingRead (now (text .entry)) at bond n (bld a (now (entries .entry)) (now (path .entry)) (now (rings .entry)) b)
+        (bld a (now (entries .exit)) (now (path .entry)) (now (rings .exit)) (r .b)) (r .at) (r .n)) ⌝ }
+{
+    match read_rnum(text, at) {
+        Ring::Nothing => stopped(text, at, n, b),
+        Ring::Lacks(m) => {
+            let b = put_missing(b, m);
+            Came { at, n, b }
+        }
+        Ring::Number(number, next) => {
+            let b = put_ring(entries, path, rings, b, bond, number as usize, at);
+            Came { at: next, n, b }
+        }
+    }
+}
+
+// An atom or a ring number.
+fn line_union(
+    text: &[u8],
+    at: usize,
+    bond: BondKind,
+    n: usize,
+    atoms: &mut [u32],
+    entries: &mut [u32],
+    path: &mut [u32],
+    rings: &mut [u32],
+    b: Builder,
+) -> Came
+    requires { ⌜ Ready (now text) at b × (n ≤ at) ⌝ }
+    ensures { λ r. ⌜ UnionRead (now (text .entry)) at bond n (bld (now (atoms .entry)) (now (entries .entry)) (now (path .entry)) (now (rings .entry)) b)
+        (bld (now (atoms .exit)) (now (entries .exit)) (now (path .exit)) (now (rings .exit)) (r .b)) (r .at) (r .n) ⌝ }
+{
+    match read_atom(text, at) {
+        Found::Nothing => line_ring(text, at, bond, n, entries, path, rings, b),
+        Found::Lacks(m) => {
+            let b = put_missing(b, m);
+            Came { at, n, b }
+        }
+        Found::Atom(k, next) => {
+            let b = put_atom(atoms, entries, path, b, Lead::Bond(bond), k, at);
+            Came {
+                at: next,
+                n: n + 1,
+                b,
+            }
+        }
+    }
+}
+
+// A split or a union.
+fn line_unit(
+    text: &[u8],
+    at: usize,
+    n: usize,
+    atoms: &mut [u32],
+    entries: &mut [u32],
+    path: &mut [u32],
+    rings: &mut [u32],
+    b: Builder,
+) -> Came
+    requires { ⌜ Ready (now text) at b × (n ≤ at) ⌝ }
+    ensures { λ r. ⌜ UnitRead (now (text .entry)) at n (bld (now (atoms .entry)) (now (entries .entry)) (now (path .entry)) (now (rings .entry)) b)
+        (bld (now (atoms .exit)) (now (entries .exit)) (now (path .exit)) (now (rings .exit)) (r .b)) (r .at) (r .n) ⌝ }
+{
+    let l = read_lead(text, at);
+    let lead = l.lead;
+    match lead {
+        Lead::Dot => line_atom(text, l.next, Lead::Dot, n, atoms, entries, path, b),
+        Lead::Bond(bond) => line_union(text, l.next, bond, n, atoms, entries, path, rings, b),
+    }
+}
+
+// A branch, whose "(" stands at `at`. `room` is how many more may stand open.
+fn read_branch(
+    text: &[u8],
+    at: usize,
+    room: usize,
+    atoms: &mut [u32],
+    entries: &mut [u32],
+    path: &mut [u32],
+    rings: &mut [u32],
+    b: Builder,
+) -> Came
+    requires { ⌜ Ready (now text) at b × (peekAt (now text) at ≡ byte "(") ⌝ }
+    ensures { λ r. ⌜ BranchRead (now (text .entry)) at room (bld (now (atoms .entry)) (now (entries .entry)) (now (path .entry)) (now (rings .entry)) b)
+        (bld (now (atoms .exit)) (now (entries .exit)) (now (path .exit)) (now (rings .exit)) (r .b)) (r .at) ⌝ }
+{
+    if room == 0 {
+        let b = b.refused(NESTING, at);
+        return Came { at, n: 0, b };
+    }
+    let l = read_lead(text, at + 1);
+    let lead = l.lead;
+    let r = read_line(text, l.next, lead, room - 1, atoms, entries, path, rings, b);
+    let c = r.b;
+    if c.refusal != 0 {
+        return r;
+    }
+    let next = r.at;
+    let d = peek(text, next);
+    if d == b')' as u32 {
+        let p = c.pop(r.n);
+        return Came {
+            at: next + 1,
+            n: 0,
+            b: p,
+        };
+    }
+    stopped(text, next, 0, c)
+}
+
+// A line: an atom, and then bodies along a loop.
+pub fn read_line(
+    text: &[u8],
+    at: usize,
+    lead: Lead,
+    room: usize,
+    atoms: &mut [u32],
+    entries: &mut [u32],
+    path: &mut [u32],
+    rings: &mut [u32],
+    b: Builder,
+) -> Came
+    requires { ⌜ Ready (now text) at b ⌝ }
+    ensures { λ r. ⌜ LineRead (now (text .entry)) at lead room (bld (now (atoms .entry)) (now (entries .entry)) (now (path .entry)) (now (rings .entry)) b)
+        (bld (now (atoms .exit)) (now (entries .exit)) (now (path .exit)) (now (rings .exit)) (r .b)) (r .at) (r .n) ⌝ }
+{
+    let first = line_atom(text, at, lead, 0, atoms, entries, path, b);
+    let mut state = first.b;
+    if state.refusal != 0 {
+        return first;
+    }
+    let mut i = first.at;
+    let mut n = first.n;
+    loop {
+        let what = body(text, i);
+        if what == b'0' {
+            return Came { at: i, n, b: state };
+        }
+        if what == b'1' {
+            let r = read_branch(text, i, room, atoms, entries, path, rings, state);
+            let s = r.b;
+            if s.refusal != 0 {
+                return r;
+            }
+            i = r.at;
+            state = s;
+        } else {
+            let r = line_unit(text, i, n, atoms, entries, path, rings, state);
+            let s = r.b;
+            if s.refusal != 0 {
+                return r;
+            }
+            i = r.at;
+            n = r.n;
+            state = s;
+        }
+    }
+}

@@ -1,0 +1,10 @@
+-- What the contracts of the reading of a list cite. Assumes nothing.
+use Prim.Native.Nat.{ℕ}
+use Rattle.replay.specs.declared.list.Step.{Step}
+use Rattle.replay.specs.declared.list.Step.the-variants.{More, Ended, Failed}
+
+-- how many bytes stand at the block's front after a step
+abbrev pub heldAfter : Step → ℕ
+heldAfter (More p) = p .held
+heldAfter (Ended t) = 0
+heldAfter Failed = 0
