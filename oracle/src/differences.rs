@@ -1,13 +1,16 @@
 //! Where Mavisdrok is meant to answer something else than purr, and what: the
 //! OURS column of a list. Each rule says why.
 
+use std::cell::Cell;
 use std::collections::HashMap;
 use std::convert::TryFrom;
 
 use crate::answer;
+use crate::caught::caught;
 use crate::feature::{AtomKind, BondKind, Rnum};
 use crate::form;
-use crate::graph::Atom;
+use crate::graph::{Atom, Builder};
+use crate::read;
 use crate::walk::Follower;
 use crate::write::Writer;
 
@@ -19,7 +22,7 @@ pub fn meant(request: &str, rust: &str) -> Option<String> {
         "rnum" => rnum(&form::parse_text(arguments)?),
         "spellrnum" if arguments == "73" => Some("%73".to_string()),
         "invert" => invert(rust),
-        "read" => read(&form::parse_text(arguments)?),
+        "read" => read(&form::parse_text(arguments)?, rust),
         "rewrite" => rewrite(&form::parse_text(arguments)?, rust),
         "write" if hides_73(rust) => Some(written(form::parse_graph(arguments)?)),
         "builder" if arguments.contains("73") => {
@@ -32,8 +35,8 @@ pub fn meant(request: &str, rust: &str) -> Option<String> {
         _ => None,
     };
 
-    // Rule 3, panics: only for `invert` and `pool` is it settled what comes in
-    // a panic's place. Elsewhere the column stays empty.
+    // Rule 3, panics: for `invert`, `pool` and `read` it is settled what comes
+    // in a panic's place. Elsewhere the column stays empty.
     ours.filter(|ours| ours != rust && !ours.starts_with("panic"))
 }
 
@@ -84,11 +87,67 @@ fn graph_of(text: &str) -> Option<Result<Vec<Atom>, String>> {
     Some(outcome.map_err(|refusal| early(text, &refusal, "1", "2").unwrap_or(refusal)))
 }
 
-fn read(text: &str) -> Option<String> {
-    if is_special(text) {
-        graph_of(text).map(answer::graph_answer)
+fn read(text: &str, rust: &str) -> Option<String> {
+    let ours = if is_special(text) {
+        answer::graph_answer(graph_of(text)?)
     } else {
-        None
+        rust.to_string()
+    };
+
+    Some(if ours.starts_with("panic") {
+        format!("10 {}", uninverted(&without_73(text)?))
+    } else {
+        ours
+    })
+}
+
+// The number of the atom whose mark purr could not invert: reading panics
+// there, so it is how many atoms the builder had taken before.
+fn uninverted(text: &str) -> usize {
+    let taken = Cell::new(0);
+    let outcome = caught(|| {
+        let mut counted = Counted {
+            builder: Builder::new(),
+            taken: &taken,
+        };
+
+        read::read(text, &mut counted, None).is_ok()
+    });
+
+    debug_assert!(outcome.is_err());
+
+    taken.get()
+}
+
+/// Counts the atoms that a Builder has taken.
+struct Counted<'a> {
+    builder: Builder,
+    taken: &'a Cell<usize>,
+}
+
+impl Counted<'_> {
+    fn count(&self) {
+        self.taken.set(self.taken.get() + 1)
+    }
+}
+
+impl Follower for Counted<'_> {
+    fn root(&mut self, root: AtomKind) {
+        self.builder.root(root);
+        self.count()
+    }
+
+    fn extend(&mut self, bond_kind: BondKind, atom_kind: AtomKind) {
+        self.builder.extend(bond_kind, atom_kind);
+        self.count()
+    }
+
+    fn join(&mut self, bond_kind: BondKind, rnum: Rnum) {
+        self.builder.join(bond_kind, rnum)
+    }
+
+    fn pop(&mut self, depth: usize) {
+        self.builder.pop(depth)
     }
 }
 
