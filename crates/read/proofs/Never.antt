@@ -124,6 +124,7 @@ module _ (b : Bld) (going : b .st .refusal ≡ 0) where
           pick q
           (state (b .st .refusal) (b .st .carried) (b .st .places) (b .st .slots) (b .st .atoms) (b .st .entries) (b .st .top) (b .st .joins + 1) true (b .st .closing) (b .st .opening))
           (state (b .st .refusal) (b .st .carried) (b .st .places) (b .st .slots) (b .st .atoms) (b .st .entries) (b .st .top) (b .st .joins + 1) true x y)
+
       split : (q : Bool) → b .st .failed ≡ q → Fine (bld (b .atoms) (b .entries) (b .path) r (kept q)) d
       split true e = record { other = same-known; level = λ z f. absurd (no f) }
       split false e = record { other = same-known; level = λ z f. absurd (no f) }
