@@ -1,0 +1,37 @@
+// `label`, the desk's command line. It answers each line of the standard input by a line of the standard output:
+//
+//     NUMBER TAB ANSWER TAB NAME
+//
+// A line is a SMILES text and, after the first blank or tab, the name of the vial, which is carried through as it is.
+// The number is the desk's. Input, lines and names may be of any length: the memory that is needed does not grow.
+//
+// The first argument is a command:
+//     graph: the graph that the text stands for, or why it stands for none. This is what no argument means, too.
+// A command more is a variant and a word in `command`, and an arm in `answer`.
+//
+// command: the commands.
+// answer: the answer to a text.
+// output: what is written, gathered in a buffer.
+// line: a line, byte by byte.
+// tray: all lines of the standard input.
+mod answer;
+mod command;
+mod line;
+mod output;
+mod tray;
+
+use command::Command;
+use command::Named;
+
+fn main() {
+    if os::arg_count() < 2 {
+        tray::answer_all(Command::Graph);
+        return;
+    }
+    let mut word = io::buffer();
+    let n = os::arg(1, &mut word);
+    match command::look_up(&word[..n]) {
+        Named::Known(c) => tray::answer_all(c),
+        Named::Unknown => command::print_usage(),
+    }
+}
