@@ -41,6 +41,11 @@ pub fn answer(request: &str) -> Option<String> {
             reconciled(form::parse_bond(left)?, form::parse_bond(right)?)
         }
         "read" => graph_answer(graph_of(&form::parse_text(arguments)?)),
+        "readbytes" => {
+            let text = form::parse_latin(arguments)?;
+
+            in_characters(&text, graph_answer(graph_of(&text)))
+        }
         "rewrite" => match graph_of(&form::parse_text(arguments)?) {
             Ok(graph) => written(graph, Writer::new(), Writer::write),
             Err(refusal) => refusal,
@@ -172,6 +177,19 @@ fn read_refusal(text: &str, error: read::Error) -> String {
     match error {
         read::Error::EndOfLine => "1".to_string(),
         read::Error::Character(index) => format!("2 {}", byte_offset(text, index)),
+    }
+}
+
+/// An answer to a text, with the place of a wrong character counted in
+/// characters.
+pub fn in_characters(text: &str, answer: String) -> String {
+    match answer.strip_prefix("2 ").and_then(|offset| offset.parse().ok()) {
+        Some(offset) => {
+            let before: &str = &text[..offset];
+
+            format!("2 {}", before.chars().count())
+        }
+        None => answer,
     }
 }
 

@@ -8,7 +8,7 @@ use std::convert::TryFrom;
 use crate::answer;
 use crate::caught::caught;
 use crate::feature::{AtomKind, BondKind, Rnum};
-use crate::form;
+use crate::form::{self, Event};
 use crate::graph::{Atom, Builder};
 use crate::read;
 use crate::walk::Follower;
@@ -23,11 +23,15 @@ pub fn meant(request: &str, rust: &str) -> Option<String> {
         "spellrnum" if arguments == "73" => Some("%73".to_string()),
         "invert" => invert(rust),
         "read" => read(&form::parse_text(arguments)?, rust),
+        "readbytes" => {
+            let text = form::parse_latin(arguments)?;
+            let plain = answer::graph_answer(answer::graph_of(&text));
+
+            read(&text, &plain).map(|ours| answer::in_characters(&text, ours))
+        }
         "rewrite" => rewrite(&form::parse_text(arguments)?, rust),
         "write" if hides_73(rust) => Some(written(form::parse_graph(arguments)?)),
-        "builder" if arguments.contains("73") => {
-            Some(answer::builder(form::parse_events(arguments)?, meant_rnum))
-        }
+        "builder" => builder(arguments),
         "writer" if arguments.contains("73") => {
             Some(answer::writer(form::parse_events(arguments)?, meant_rnum))
         }
@@ -35,8 +39,8 @@ pub fn meant(request: &str, rust: &str) -> Option<String> {
         _ => None,
     };
 
-    // Rule 3, panics: for `invert`, `pool` and `read` it is settled what comes
-    // in a panic's place. Elsewhere the column stays empty.
+    // Rule 3, panics: for `invert`, `pool`, `read` and `builder` it is settled
+    // what comes in a panic's place. Elsewhere the column stays empty.
     ours.filter(|ours| ours != rust && !ours.starts_with("panic"))
 }
 
@@ -99,6 +103,29 @@ fn read(text: &str, rust: &str) -> Option<String> {
     } else {
         ours
     })
+}
+
+// A Builder panics where an event finds no atom to stand on, and where a mark
+// cannot be inverted: the event is refused, by 18 or by 10 and the atom's number.
+fn builder(arguments: &str) -> Option<String> {
+    let ours = answer::builder(form::parse_events(arguments)?, meant_rnum);
+    let events = form::parse_events(arguments)?;
+    let index: usize = match ours.strip_prefix("panic ").and_then(|rest| rest.split(' ').next()) {
+        Some(index) => index.parse().expect("an event of a Builder panics, its build never"),
+        None => return Some(ours),
+    };
+
+    Some(if ours.contains("inversion") {
+        format!("refused {} 10 {}", index, atoms_of(&events[..index]))
+    } else {
+        format!("refused {} 18", index)
+    })
+}
+
+fn atoms_of(events: &[Event]) -> usize {
+    let is_atom = |event: &&Event| matches!(event, Event::Root(..) | Event::Extend(..));
+
+    events.iter().filter(is_atom).count()
 }
 
 // The number of the atom whose mark purr could not invert: reading panics

@@ -99,8 +99,17 @@ pub enum Event {
 /// A TEXT argument. None also for bytes that are not UTF-8, which purr cannot
 /// be asked about.
 pub fn parse_text(source: &str) -> Option<String> {
+    String::from_utf8(parse_bytes(source)?).ok()
+}
+
+/// A TEXT argument of any bytes, each as the character of its number.
+pub fn parse_latin(source: &str) -> Option<String> {
+    Some(parse_bytes(source)?.into_iter().map(char::from).collect())
+}
+
+fn parse_bytes(source: &str) -> Option<Vec<u8>> {
     if source == "!-" {
-        return Some(String::new());
+        return Some(Vec::new());
     }
 
     let mut bytes = Vec::with_capacity(source.len());
@@ -118,7 +127,7 @@ pub fn parse_text(source: &str) -> Option<String> {
         return None;
     }
 
-    String::from_utf8(bytes).ok()
+    Some(bytes)
 }
 
 fn hex_digit(byte: u8) -> Option<u8> {
@@ -130,15 +139,19 @@ fn hex_digit(byte: u8) -> Option<u8> {
 }
 
 pub fn print_text(text: &str) -> String {
-    if text.is_empty() {
+    print_bytes(text.as_bytes())
+}
+
+pub fn print_bytes(bytes: &[u8]) -> String {
+    if bytes.is_empty() {
         return "!-".to_string();
     }
 
-    let mut result = String::with_capacity(text.len());
+    let mut result = String::with_capacity(bytes.len());
 
-    for byte in text.bytes() {
-        match byte {
-            33..=126 if byte != b'!' => result.push(byte as char),
+    for byte in bytes {
+        match *byte {
+            33..=126 if *byte != b'!' => result.push(*byte as char),
             _ => result.push_str(&format!("!{:02x}", byte)),
         }
     }

@@ -29,8 +29,9 @@ use std::thread;
 const USAGE: &str = "usage: oracle answer [FILE]
        oracle make [--requests] NAME [ARGUMENT ..]
 names: features | atoms SEED COUNT | short ALPHABET MAXLEN | lines SEED COUNT
-       damaged SEED COUNT | graphs SEED COUNT | broken SEED COUNT
-       builder SEED COUNT | writer SEED COUNT | pool SEED COUNT";
+       damaged SEED COUNT | bytes SEED COUNT | graphs SEED COUNT
+       broken SEED COUNT | builder SEED COUNT | writer SEED COUNT
+       pool SEED COUNT";
 
 /// purr's reader calls itself for every atom of a chain, so a long line needs
 /// much more than the usual stack.

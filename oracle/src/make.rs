@@ -40,6 +40,7 @@ fn random_request(name: &str) -> Option<fn(&mut Random) -> String> {
         "atoms" => atoms::request,
         "lines" => lines::request,
         "damaged" => lines::damaged_request,
+        "bytes" => lines::bytes_request,
         "graphs" => graphs::request,
         "broken" => graphs::broken_request,
         "builder" => events::builder_request,

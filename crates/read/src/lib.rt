@@ -85,7 +85,7 @@ fn refusal(b: Builder) -> Answer
     Answer::NoAtom
 }
 
-fn built(r: Built, b: Builder) -> Answer
+pub fn built(r: Built, b: Builder) -> Answer
     ensures { λ a. ⌜ a ≡ builtAnswer r b ⌝ }
 {
     match r {

@@ -6,7 +6,9 @@
 ghost use Prim.Native.Nat.{_≤_};
 ghost use lib.ListN.{length};
 use crate::bonds;
+use crate::events;
 use crate::kinds;
+use crate::lines;
 use crate::rings;
 use crate::slices::find;
 use crate::texts;
@@ -33,5 +35,13 @@ pub fn answer(request: &[u8], out: &mut [u8], text: &mut [u8]) -> usize
     if n > 0 {
         return n;
     }
-    rings::answer(operation, arguments, out)
+    let n = rings::answer(operation, arguments, out);
+    if n > 0 {
+        return n;
+    }
+    let n = lines::answer(operation, arguments, out, text);
+    if n > 0 {
+        return n;
+    }
+    events::answer(operation, arguments, out)
 }

@@ -3,13 +3,15 @@
 //
 // slices: what is asked of a slice of bytes.
 // tally: what came of the lines so far.
-// answer: our answer to a request. texts, kinds, bonds and rings: the requests by what they are about.
+// answer: our answer to a request. texts, kinds, bonds, rings, lines and events: the requests by what they are about.
 // line: a list's line judged.
 // list: a list read block by block.
 mod answer;
 mod bonds;
+mod events;
 mod kinds;
 mod line;
+mod lines;
 mod list;
 mod rings;
 mod slices;

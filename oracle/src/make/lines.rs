@@ -25,6 +25,25 @@ pub fn damaged_request(random: &mut Random) -> String {
     format!("read {}", form::print_text(&text))
 }
 
+/// Bytes that need not be a text: a line of which a few are others, or others
+/// only.
+pub fn bytes_request(random: &mut Random) -> String {
+    let mut bytes = line(random).into_bytes();
+
+    if random.one_in(4) {
+        bytes = vec![0; random.between(1, 8)];
+        bytes.iter_mut().for_each(|byte| *byte = random.below(256) as u8);
+    }
+
+    for _ in 0..random.between(1, 3) {
+        let place = random.below(bytes.len());
+
+        bytes[place] = random.below(256) as u8;
+    }
+
+    format!("readbytes {}", form::print_bytes(&bytes))
+}
+
 fn line(random: &mut Random) -> String {
     let limit = if random.one_in(100) {
         random.between(200, 2000)
