@@ -8,7 +8,7 @@ ghost use Rattle.graph.specs.Rings.{numbers, opensOf, joinedAt};
 pub const NUMBERS: usize = 100;
 
 pub struct Opens {
-    pub at: [u32; 100],
+    pub at: [u32; NUMBERS],
 }
 
 impl Opens {
@@ -26,7 +26,7 @@ impl Opens {
 fn taken(rings: &[u32]) -> Opens
     ensures { λ r. ⌜ r ≡ opensOf (now (rings .entry)) ⌝ }
 {
-    let mut o = Opens { at: [0u32; 100] };
+    let mut o = Opens { at: [0u32; NUMBERS] };
     let mut i: usize = 0;
     while i < NUMBERS {
         let v = record::look(rings, i);

@@ -12,11 +12,15 @@ use build::clear;
 use graph::builder::ATOM_ROOM;
 use graph::builder::BOND_ROOM;
 use graph::builder::Builder;
+use graph::builder::ENTRY_WORDS;
 use graph::builder::INVERSION;
+use graph::limits::ATOMS;
+use graph::limits::BONDS;
 use graph::limits::BRANCHES;
 use graph::limits::TEXT;
 use graph::limits::atom_room;
 use graph::limits::bond_room;
+use graph::opens::NUMBERS;
 use reader::event::CHARACTER;
 use reader::event::END_OF_LINE;
 use reader::lead::Lead;
@@ -139,8 +143,8 @@ pub fn read(text: &[u8], atoms: &mut [u32], bonds: &mut [u32]) -> Answer
     if TEXT < text.len() {
         return Answer::TextTooLong(text.len());
     }
-    let mut entries = [0u32; 6912];
-    let mut path = [0u32; 1024];
-    let mut rings = [0u32; 100];
+    let mut entries = [0u32; BONDS * ENTRY_WORDS];
+    let mut path = [0u32; ATOMS];
+    let mut rings = [0u32; NUMBERS];
     read_within(text, atoms, bonds, &mut entries, &mut path, &mut rings)
 }
