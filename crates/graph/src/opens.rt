@@ -26,7 +26,9 @@ impl Opens {
 fn taken(rings: &[u32]) -> Opens
     ensures { λ r. ⌜ r ≡ opensOf (now (rings .entry)) ⌝ }
 {
-    let mut o = Opens { at: [0u32; NUMBERS] };
+    let mut o = Opens {
+        at: [0u32; NUMBERS],
+    };
     let mut i: usize = 0;
     while i < NUMBERS {
         let v = record::look(rings, i);
