@@ -1,3 +1,5 @@
 -- Laws that the proofs cite.
 pub mod Whole
+pub mod Lines
 pub mod Never
+pub mod Bench

@@ -36,8 +36,10 @@ use Rattle.build.specs.declared.Built.the-variants as built
 use Rattle.read.specs.declared.Answer.{Answer}
 use Rattle.read.specs.declared.Answer.the-variants.{NoAtom, TextTooLong}
 use Rattle.read.specs.Read.{Said, said, refusalOf, builtAnswer, builtSaid, stateOf, saidOf, within, readOf}
+use Rattle.read.specs.Line.{lineOf}
 use Rattle.reader.proofs.Counts.{by-test, missing-not}
 use Rattle.reader.proofs.Turn.{run-stuck}
+use Rattle.read.proofs.Lines.{read-line}
 
 -- ---- events that keep an atom standing, from so many on the path
 
@@ -294,22 +296,22 @@ passed : (q : Bool) {x y z : Answer} → (x ≡ z → ⊥) → pick q x y ≡ z 
 passed true h e = absurd (h e)
 passed false h e = (refl, e)
 
-refusal-said : (b : Builder) → known (b .refusal) ≡ true → (b .refusal ≡ 0 → ⊥) → refusalOf b ≡ NoAtom → ⊥
+refusal-said : (r c : ℕ) → known r ≡ true → (r ≡ 0 → ⊥) → refusalOf r c ≡ NoAtom → ⊥
 unfolding refusalOf
-refusal-said b k nz e =
-    let r1 = passed (eqb (b .refusal) endOfLine) (λ h. let z : _≡_ {A = ℕ} 0 1 = cc in omega arith) e in
-    let r2 = passed (eqb (b .refusal) character) (λ h. let z : _≡_ {A = ℕ} 0 1 = cc in omega arith) (r1 .1) in
-    let r3 = passed (eqb (b .refusal) inversion) (λ h. let z : _≡_ {A = ℕ} 0 1 = cc in omega arith) (r2 .1) in
-    let r4 = passed (eqb (b .refusal) atomRoom) (λ h. let z : _≡_ {A = ℕ} 0 1 = cc in omega arith) (r3 .1) in
-    let r5 = passed (eqb (b .refusal) bondRoom) (λ h. let z : _≡_ {A = ℕ} 0 1 = cc in omega arith) (r4 .1) in
-    let r6 = passed (eqb (b .refusal) nesting) (λ h. let z : _≡_ {A = ℕ} 0 1 = cc in omega arith) (r5 .1) in
-    no (sym k ∙ simp (ne-eqb (b .refusal) 0 nz, r1 .0, r2 .0, r3 .0, r4 .0, r5 .0, r6 .0))
+refusal-said r c k nz e =
+    let r1 = passed (eqb r endOfLine) (λ h. let z : _≡_ {A = ℕ} 0 1 = cc in omega arith) e in
+    let r2 = passed (eqb r character) (λ h. let z : _≡_ {A = ℕ} 0 1 = cc in omega arith) (r1 .1) in
+    let r3 = passed (eqb r inversion) (λ h. let z : _≡_ {A = ℕ} 0 1 = cc in omega arith) (r2 .1) in
+    let r4 = passed (eqb r atomRoom) (λ h. let z : _≡_ {A = ℕ} 0 1 = cc in omega arith) (r3 .1) in
+    let r5 = passed (eqb r bondRoom) (λ h. let z : _≡_ {A = ℕ} 0 1 = cc in omega arith) (r4 .1) in
+    let r6 = passed (eqb r nesting) (λ h. let z : _≡_ {A = ℕ} 0 1 = cc in omega arith) (r5 .1) in
+    no (sym k ∙ simp (ne-eqb r 0 nz, r1 .0, r2 .0, r3 .0, r4 .0, r5 .0, r6 .0))
 
-built-said : (r : Built) (b : Builder) → builtAnswer r b ≡ NoAtom → ⊥
+built-said : (r : Built) (n m : ℕ) → builtAnswer r n m ≡ NoAtom → ⊥
 unfolding builtAnswer
-built-said built.Done b e = let z : _≡_ {A = ℕ} 0 1 = cc in omega arith
-built-said (built.Join x y) b e = let z : _≡_ {A = ℕ} 0 1 = cc in omega arith
-built-said (built.Rnum n) b e = let z : _≡_ {A = ℕ} 0 1 = cc in omega arith
+built-said built.Done n m e = let z : _≡_ {A = ℕ} 0 1 = cc in omega arith
+built-said (built.Join x y) n m e = let z : _≡_ {A = ℕ} 0 1 = cc in omega arith
+built-said (built.Rnum j) n m e = let z : _≡_ {A = ℕ} 0 1 = cc in omega arith
 
 state-known : (s a : List ℕ) (lb : ℕ) (e p r : List ℕ) → known (stateOf s a lb e p r .st .refusal) ≡ true
 unfolding stateOf Never
@@ -320,15 +322,16 @@ said-never : (lb : ℕ) (b : Bld) → known (b .st .refusal) ≡ true → saidOf
 unfolding saidOf builtSaid
 said-never lb b k =
     by-equal (λ (x : Said). x .answer ≡ NoAtom → ⊥) (eqb (b .st .refusal) 0)
-    (λ q. built-said _ (b .st)) (λ q. refusal-said (b .st) k (eqb-false _ _ q))
+    (λ q. built-said _ _ _) (λ q. refusal-said _ _ k (eqb-false _ _ q))
 
 -- no text, whatever is lent, is answered with 18
-pub never-18 : (s : List ℕ) (la lb : ℕ) → readOf s la lb .answer ≡ NoAtom → ⊥
+pub never-18 : (s : List ℕ) (la lb : ℕ) → lineOf s la lb .answer ≡ NoAtom → ⊥
 unfolding readOf within
-never-18 s la lb =
+never-18 s la lb e =
     by-test (λ (x : Said). x .answer ≡ NoAtom → ⊥) (ltb textLimit (length s))
-    (λ e. let z : _≡_ {A = ℕ} 0 1 = cc in omega arith) (said-never lb _ (state-known s _ lb _ _ _))
+    (λ h. let z : _≡_ {A = ℕ} 0 1 = cc in omega arith) (said-never lb _ (state-known s _ lb _ _ _))
+    (ap (λ (x : Said). x .answer) (read-line s la lb) ∙ e)
 
 -- two results that meet the claim of the read call are equal
-pub one-result : (s : List ℕ) (la lb : ℕ) (x y : Said) → x ≡ readOf s la lb → y ≡ readOf s la lb → x ≡ y
+pub one-result : (s : List ℕ) (la lb : ℕ) (x y : Said) → x ≡ lineOf s la lb → y ≡ lineOf s la lb → x ≡ y
 one-result s la lb x y p q = p ∙ sym q

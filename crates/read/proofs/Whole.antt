@@ -50,15 +50,15 @@ module _ (s a e p r : List ℕ) (lb : ℕ) (start : Builder) (is-start : start �
   state-is =
       ap (on b) is-st ∙ sym (ended s (bld a e p r start) b at n line) ∙ ap (λ (x : Builder). run (bld a e p r x) (parse s)) is-start
 
-  pub said-refused : (st .refusal ≡ 0 → ⊥) → (answer : Answer) (atoms bonds : List ℕ) → answer ≡ refusalOf st → atoms ≡ replicate (length (b .atoms)) 0 → bonds ≡ replicate lb 0 → said answer atoms bonds ≡ within s a lb e p r
+  pub said-refused : (st .refusal ≡ 0 → ⊥) → (answer : Answer) (atoms bonds : List ℕ) → answer ≡ refusalOf (st .refusal) (st .carried) → atoms ≡ replicate (length (b .atoms)) 0 → bonds ≡ replicate lb 0 → said answer atoms bonds ≡ within s a lb e p r
   unfolding within saidOf
   said-refused nz answer atoms bonds is-answer is-atoms is-bonds =
       ap (λ (x : Answer). said x atoms bonds) is-answer
-      ∙ ap (λ (x : List ℕ). said (refusalOf st) x bonds) is-atoms
-      ∙ ap (λ (x : List ℕ). said (refusalOf st) (replicate (length (b .atoms)) 0) x) is-bonds
+      ∙ ap (λ (x : List ℕ). said (refusalOf (st .refusal) (st .carried)) x bonds) is-atoms
+      ∙ ap (λ (x : List ℕ). said (refusalOf (st .refusal) (st .carried)) (replicate (length (b .atoms)) 0) x) is-bonds
       ∙ sym (ap (saidOf lb) (sym state-is) ∙ rw (ne-eqb _ _ nz))
 
-  pub said-built : st .refusal ≡ 0 → (bonds : List ℕ) → bonds ≡ replicate lb 0 → (built : Built) (left : Tables) → outcome built left ≡ buildOf (tables (b .atoms) bonds (b .path)) (b .entries) st → (answer : Answer) → answer ≡ builtAnswer built st → said answer (left .atoms) (left .bonds) ≡ within s a lb e p r
+  pub said-built : st .refusal ≡ 0 → (bonds : List ℕ) → bonds ≡ replicate lb 0 → (built : Built) (left : Tables) → outcome built left ≡ buildOf (tables (b .atoms) bonds (b .path)) (b .entries) st → (answer : Answer) → answer ≡ builtAnswer built (st .atoms) (st .entries) → said answer (left .atoms) (left .bonds) ≡ within s a lb e p r
   unfolding within saidOf builtSaid
   said-built z bonds is-bonds built left is answer is-answer =
       ap (λ (x : Answer). said x (left .atoms) (left .bonds)) is-answer

@@ -1,5 +1,6 @@
--- The read call: 12 first; then the first refusal that the reading meets; after a whole line 3, the first failed join, then
--- 4, the first open ring number; else the tables in their final form. After a refusal both tables are zero.
+-- The read call over tables of words, in the steps of the code: 12 first; then the first refusal that the reading meets;
+-- after a whole line 3, the first failed join, then 4, the first open ring number; else the tables in their final form. After
+-- a refusal both tables are zero. `Line` says the same of atoms and bonds.
 use Prim.Native.Nat.{ℕ, _*_, _/_}
 use mathlib.Core.List.{List}
 use mathlib.Core.Bool.{Bool, true, false}
@@ -36,24 +37,25 @@ endedSt s c =
     (pick (ltb (c .at) (length s)) (refusedSt (c .b) character (c .at)) (c .b))
     (c .b)
 
--- what a refusal is called
-unfoldable pub refusalOf : Builder → Answer
-refusalOf b =
-    pick (eqb (b .refusal) endOfLine) EndOfLine
-    (pick (eqb (b .refusal) character) (Character (b .carried))
-    (pick (eqb (b .refusal) inversion) (Inversion (b .carried))
-    (pick (eqb (b .refusal) atomRoom) (AtomRoom (b .carried))
-    (pick (eqb (b .refusal) bondRoom) (BondRoom (b .carried))
-    (pick (eqb (b .refusal) nesting) (Nesting (b .carried))
+-- what a refusal is called, with what it carries
+unfoldable pub refusalOf : ℕ → ℕ → Answer
+refusalOf r c =
+    pick (eqb r endOfLine) EndOfLine
+    (pick (eqb r character) (Character c)
+    (pick (eqb r inversion) (Inversion c)
+    (pick (eqb r atomRoom) (AtomRoom c)
+    (pick (eqb r bondRoom) (BondRoom c)
+    (pick (eqb r nesting) (Nesting c)
     NoAtom)))))
 
-unfoldable pub builtAnswer : Built → Builder → Answer
-builtAnswer built.Done b = Done (b .atoms) (b .entries)
-builtAnswer (built.Join x y) b = Join x y
-builtAnswer (built.Rnum n) b = Rnum n
+-- what a build of so many atoms and entries is called
+unfoldable pub builtAnswer : Built → ℕ → ℕ → Answer
+builtAnswer built.Done n m = Done n m
+builtAnswer (built.Join x y) n m = Join x y
+builtAnswer (built.Rnum j) n m = Rnum j
 
 unfoldable pub builtSaid : Outcome → Builder → Said
-builtSaid o b = said (builtAnswer (o .answer) b) (o .left .atoms) (o .left .bonds)
+builtSaid o b = said (builtAnswer (o .answer) (b .atoms) (b .entries)) (o .left .atoms) (o .left .bonds)
 
 -- the state that a text's events make of tables
 unfoldable pub stateOf : List ℕ → List ℕ → ℕ → List ℕ → List ℕ → List ℕ → Bld
@@ -65,7 +67,7 @@ unfoldable pub saidOf : ℕ → Bld → Said
 saidOf lb b =
     pick (eqb (b .st .refusal) 0)
     (builtSaid (buildOf (tables (b .atoms) (replicate lb 0) (b .path)) (b .entries) (b .st)) (b .st))
-    (said (refusalOf (b .st)) (replicate (length (b .atoms)) 0) (replicate lb 0))
+    (said (refusalOf (b .st .refusal) (b .st .carried)) (replicate (length (b .atoms)) 0) (replicate lb 0))
 
 unfoldable pub within : List ℕ → List ℕ → ℕ → List ℕ → List ℕ → List ℕ → Said
 within s a lb e p r = saidOf lb (stateOf s a lb e p r)

@@ -5,7 +5,8 @@ ghost use mathlib.Core.List.{List};
 ghost use lib.ListN.{length, replicate};
 ghost use Rattle.graph.specs.Limits.{textLimit};
 ghost use Rattle.graph.specs.State.{bld};
-ghost use Rattle.read.specs.Read.{said, endedSt, refusalOf, builtAnswer, within, readOf};
+ghost use Rattle.read.specs.Read.{said, endedSt, refusalOf, builtAnswer, within};
+ghost use Rattle.read.specs.Line.{lineOf};
 use build::Built;
 use build::build;
 use build::clear;
@@ -65,7 +66,7 @@ fn end_line(text: &[u8], came: Came) -> Builder
 
 // What a builder's refusal is called.
 fn refusal(b: Builder) -> Answer
-    ensures { λ r. ⌜ r ≡ refusalOf b ⌝ }
+    ensures { λ r. ⌜ r ≡ refusalOf (b .refusal) (b .carried) ⌝ }
 {
     let n = b.refusal;
     if n == END_OF_LINE {
@@ -90,7 +91,7 @@ fn refusal(b: Builder) -> Answer
 }
 
 pub fn built(r: Built, b: Builder) -> Answer
-    ensures { λ a. ⌜ a ≡ builtAnswer r b ⌝ }
+    ensures { λ a. ⌜ a ≡ builtAnswer r (b .atoms) (b .entries) ⌝ }
 {
     match r {
         Built::Done => Answer::Done(b.atoms, b.entries),
@@ -136,7 +137,7 @@ fn read_within(
 // Reads a line. The tables hold its graph in their final form, zeros after it; after a refusal they hold zeros.
 pub fn read(text: &[u8], atoms: &mut [u32], bonds: &mut [u32]) -> Answer
     ensures { λ r. ⌜ said r (now (atoms .exit)) (now (bonds .exit))
-        ≡ readOf (now (text .entry)) (length (now (atoms .entry))) (length (now (bonds .entry))) ⌝ }
+        ≡ lineOf (now (text .entry)) (length (now (atoms .entry))) (length (now (bonds .entry))) ⌝ }
 {
     clear(atoms);
     clear(bonds);

@@ -3,6 +3,7 @@ use mathlib.Core.Path.{ap, sym, _∙_}
 use lib.ListN.{replicate}
 use borrow.Author.Tests.{lt-ltb, le-ltb}
 use Rattle.read.specs.Read.{readOf}
+use Rattle.read.proofs.Lines.{by-line}
 use borrow.Author.Needs.{needs}
 use Rattle.read.proofs.read.Statement.{statement}
 use Rattle.read.proofs.read.Tie as tie
@@ -30,7 +31,8 @@ same-length-2 c = search needs
 -- src/lib.rt:129:9
 returns : tie.Need-returns
 unfolding readOf
-returns c = simp (lt-ltb _ _ (c .if1 .taken), c .before .before .before .before .before .before .before .clear .ensures, c .before .before .before .clear2 .ensures)
+returns c =
+    by-line _ _ _ _ (simp (lt-ltb _ _ (c .if1 .taken), c .before .before .before .before .before .before .before .clear .ensures, c .before .before .before .clear2 .ensures))
 
 -- src/lib.rt:134:37
 slice-aggregate-read-within : tie.Need-slice-aggregate-read-within
@@ -60,7 +62,8 @@ same-length-4 c = search needs
 -- src/lib.rt:122:1
 returns-2 : tie.Need-returns-2
 unfolding readOf
-returns-2 c = c .before .before .before .before .before .before .before .read-within .ensures ∙ simp (le-ltb _ _ (c .before .before .before .before .before .before .before .before .before .before .before .before .before .if1 .left), c .before .before .before .before .before .before .before .before .before .before .before .before .before .before .before .before .before .before .before .before .clear .ensures, c .before .before .before .before .before .before .before .before .before .before .before .before .before .before .before .before .clear2 .kept .0)
+returns-2 c =
+    by-line _ _ _ _ (c .before .before .before .before .before .before .before .read-within .ensures ∙ simp (le-ltb _ _ (c .before .before .before .before .before .before .before .before .before .before .before .before .before .if1 .left), c .before .before .before .before .before .before .before .before .before .before .before .before .before .before .before .before .before .before .before .before .clear .ensures, c .before .before .before .before .before .before .before .before .before .before .before .before .before .before .before .before .clear2 .kept .0))
 
 pub read-spec : {M : Type 1} → statement M
 read-spec =

@@ -1,0 +1,95 @@
+-- What the tables of words come to is what is said of a line's atoms and bonds. Assumes nothing.
+use Prim.Native.Nat.{ℕ, _*_, _<_, _≤_}
+use mathlib.Core.Path.{_≡_, ap, _∙_, subst}
+use mathlib.Core.List.{List}
+use native.Mathlib.Omega.{arith}
+use lib.ListN.{length, getD, replicate, length-replicate}
+use lib.Dec.{ltb, eqb}
+use Rattle.feature.specs.Pick.{pick}
+use Rattle.graph.specs.Limits.{textLimit, atomLimit, bondLimit}
+use Rattle.graph.specs.Rings.{numbers}
+use Rattle.graph.specs.State.{Bld, entryWords, inversion, atomRoom, bondRoom}
+use Rattle.reader.specs.Events.{endOfLine, character, nesting}
+use Rattle.reader.proofs.Counts.{by-test}
+use Rattle.build.specs.declared.Built.{Built}
+use Rattle.build.specs.declared.Built.the-variants as built
+use Rattle.sketch.specs.Sketch.{Sketch, BothEnds, sketchOf, finishS, atomTable, bondTable, padded, leftS}
+use Rattle.sketch.proofs.Ends.{zero-at}
+use Rattle.sketch.proofs.Text.{Reads, text-reads}
+use Rattle.read.specs.declared.Answer.{Answer}
+use Rattle.read.specs.declared.Answer.the-variants.{Done, TextTooLong}
+use Rattle.read.specs.Read.{Said, said, refusalOf, builtAnswer, builtSaid, stateOf, saidOf, within, readOf}
+use Rattle.read.specs.Line.{refusing, wholeOf, graphOf, lineOf}
+
+-- a state and a sketch that agree are answered alike
+same-said : (b : Bld) (d : Sketch) (la lb : ℕ) → Reads b d la lb → saidOf lb b ≡ graphOf d la lb
+unfolding saidOf builtSaid graphOf wholeOf
+same-said b d la lb r =
+    simp (r .built .answer, r .built .atoms, r .built .bonds, r .refusal, r .carried, r .atoms, r .entries, r .long)
+
+-- the work room that is lent: long enough, and no ring number held
+module _ (s : List ℕ) (la lb : ℕ) (e p r : List ℕ) (wide : bondLimit * entryWords ≤ length e) (deep : atomLimit ≤ length p) (round : numbers ≤ length r) (free : (n : ℕ) → n < numbers → getD r n 0 ≡ 0) where
+  reads : Reads (stateOf s (replicate la 0) lb e p r) (sketchOf s (length (replicate {A = ℕ} la 0)) lb) (length (replicate {A = ℕ} la 0)) lb
+  unfolding stateOf
+  reads = text-reads s (replicate la 0) e p r lb wide deep round (zero-at la) free
+
+  within-line : within s (replicate la 0) lb e p r ≡ graphOf (sketchOf s la lb) la lb
+  unfolding within
+  within-line =
+      same-said _ _ _ _ reads ∙ ap (λ (n : ℕ). graphOf (sketchOf s n lb) n lb) (length-replicate la 0)
+
+  reads-ends : BothEnds (sketchOf s la lb .nodes)
+  reads-ends = subst (λ (n : ℕ). BothEnds (sketchOf s n lb .nodes)) (length-replicate la 0) (reads .ends)
+
+-- zeros are such a room
+room-of : (n : ℕ) → n ≤ length (replicate {A = ℕ} n 0)
+room-of n = omega (arith, length-replicate {A = ℕ} n 0)
+
+pub read-line : (s : List ℕ) (la lb : ℕ) → readOf s la lb ≡ lineOf s la lb
+unfolding readOf lineOf
+read-line s la lb =
+    ap (pick (ltb textLimit (length s)) (refusing (TextTooLong (length s)) la lb))
+    (within-line s la lb _ _ _ (room-of (bondLimit * entryWords)) (room-of atomLimit) (room-of numbers) (λ n h. zero-at numbers n))
+
+-- so what is equal to the one is equal to the other
+pub by-line : (s : List ℕ) (la lb : ℕ) (x : Said) → x ≡ readOf s la lb → x ≡ lineOf s la lb
+by-line s la lb x e = e ∙ read-line s la lb
+
+-- ---- a line that is done
+-- whatever the line, each bond that it is read to is held at both ends as reverses
+pub both-held : (s : List ℕ) (la lb : ℕ) → BothEnds (sketchOf s la lb .nodes)
+both-held s la lb =
+    reads-ends s la lb (replicate (bondLimit * entryWords) 0) (replicate atomLimit 0) (replicate numbers 0) (room-of (bondLimit * entryWords)) (room-of atomLimit) (room-of numbers) (λ n h. zero-at numbers n)
+
+clash : _≡_ {A = ℕ} 0 1 → ⊥
+clash e = omega arith
+
+-- no refusal is called 0
+not-done : (r c n m : ℕ) → refusalOf r c ≡ Done n m → ⊥
+unfolding refusalOf
+not-done r c n m =
+    let Not : Answer → Type 0 = λ x. x ≡ Done n m → ⊥ in
+    by-test Not (eqb r endOfLine) (λ e. clash cc)
+    (by-test Not (eqb r character) (λ e. clash cc)
+    (by-test Not (eqb r inversion) (λ e. clash cc)
+    (by-test Not (eqb r atomRoom) (λ e. clash cc)
+    (by-test Not (eqb r bondRoom) (λ e. clash cc)
+    (by-test Not (eqb r nesting) (λ e. clash cc)
+    (λ e. clash cc))))))
+
+whole-done : (w : Built) (x y n m la lb : ℕ) (a b : List ℕ) → builtAnswer w x y ≡ Done n m → said (builtAnswer w x y) (leftS w la a) (leftS w lb b) ≡ said (Done n m) (padded la a) (padded lb b)
+unfolding builtAnswer leftS
+whole-done built.Done x y n m la lb a b e = ap (λ (r : Answer). said r (padded la a) (padded lb b)) e
+whole-done (built.Join v w) x y n m la lb a b e = absurd (clash cc)
+whole-done (built.Rnum j) x y n m la lb a b e = absurd (clash cc)
+
+-- a line that is answered 0 leaves the tables of its atoms, zeros after them, and each bond is held at both ends
+pub done-holds : (s : List ℕ) (la lb n m : ℕ) → lineOf s la lb .answer ≡ Done n m → (lineOf s la lb ≡ said (Done n m) (padded la (atomTable (sketchOf s la lb .nodes))) (padded lb (bondTable (sketchOf s la lb .nodes)))) × BothEnds (sketchOf s la lb .nodes)
+unfolding lineOf graphOf wholeOf
+done-holds s la lb n m e =
+    let d = sketchOf s la lb in
+    let Holds : Said → Type 0 = λ x. x .answer ≡ Done n m → x ≡ said (Done n m) (padded la (atomTable (d .nodes))) (padded lb (bondTable (d .nodes))) in (
+      by-test Holds (ltb textLimit (length s)) (λ h. absurd (clash cc))
+          (by-test Holds (eqb (d .refusal) 0) (whole-done (finishS d) _ _ n m la lb _ _) (λ h. absurd (not-done _ _ n m h))) e,
+      both-held s la lb,
+    )
