@@ -14,7 +14,7 @@ use Rattle.reader.proofs.Counts.{by-test}
 use Rattle.build.specs.declared.Built.{Built}
 use Rattle.build.specs.declared.Built.the-variants as built
 use Rattle.sketch.specs.Sketch.{Sketch, BothEnds, sketchOf, finishS, atomTable, bondTable, padded, leftS}
-use Rattle.sketch.proofs.Ends.{zero-at}
+use Rattle.build.proofs.Laws.{zero-at}
 use Rattle.sketch.proofs.Text.{Reads, text-reads}
 use Rattle.read.specs.declared.Answer.{Answer}
 use Rattle.read.specs.declared.Answer.the-variants.{Done, TextTooLong}

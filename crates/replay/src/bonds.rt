@@ -1,7 +1,7 @@
 // Requests about bonds: `spellbond` and `reverse` of one, `reconcile` of two.
 ghost use Prim.Native.Nat.{_≤_};
 ghost use lib.ListN.{length};
-use crate::slices::same;
+use check::same;
 use feature::bond_kind::BondKind;
 use feature::bond_kind::Reconciled;
 use feature::bond_kind::reconcile;

@@ -3,8 +3,8 @@
 ghost use Prim.Native.Nat.{_≤_};
 ghost use lib.ListN.{length};
 use crate::lines::print_answer;
-use crate::slices::same;
 use build::build;
+use check::same;
 use feature::atom_kind::AtomKind;
 use feature::bond_kind::BondKind;
 use form::bond;

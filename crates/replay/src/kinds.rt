@@ -1,7 +1,7 @@
 // Requests about an atom's kind: `spell`, `invert`, `targets` and `aromatic`.
 ghost use Prim.Native.Nat.{_≤_};
 ghost use lib.ListN.{length};
-use crate::slices::same;
+use check::same;
 use feature::atom_kind::AtomKind;
 use feature::atom_kind::Inverted;
 use feature::atom_kind::invert;

@@ -3,8 +3,8 @@ ghost use Prim.Native.Nat.{_≤_};
 ghost use lib.ListN.{length};
 use crate::answer::answer;
 use crate::slices::find;
-use crate::slices::same;
 use crate::tally::Tally;
+use check::same;
 use libc::STDOUT_FILENO;
 
 // How many lines of a list that differ are shown.

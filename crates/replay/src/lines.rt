@@ -1,7 +1,7 @@
 // Requests about a line: `read` and `readbytes`, its graph, and `readin A B`, the same into tables of A and B words.
 ghost use Prim.Native.Nat.{_≤_};
 ghost use lib.ListN.{length};
-use crate::slices::same;
+use check::same;
 use form::byte::pass;
 use form::byte::put;
 use form::byte::put_word;

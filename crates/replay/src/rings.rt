@@ -1,7 +1,7 @@
 // Requests about a ring number: `spellrnum`.
 ghost use Prim.Native.Nat.{_≤_};
 ghost use lib.ListN.{length};
-use crate::slices::same;
+use check::same;
 use form::number;
 use form::text;
 use spell::spell_rnum;

@@ -2,21 +2,6 @@
 ghost use Prim.Native.Nat.{_≤_};
 ghost use lib.ListN.{length};
 
-// Whether two slices hold the same bytes.
-pub fn same(a: &[u8], b: &[u8]) -> bool {
-    if a.len() != b.len() {
-        return false;
-    }
-    let mut i = 0;
-    while i < a.len() {
-        if a[i] != b[i] {
-            return false;
-        }
-        i += 1;
-    }
-    true
-}
-
 // The first place from a start on at which a byte stands, or the slice's end where it does not.
 pub fn find(s: &[u8], start: usize, b: u8) -> usize
     requires { ⌜ start ≤ length (now s) ⌝ }

@@ -1,7 +1,7 @@
 // Requests about a text: `atom`, `rnum` and `bond`, what stands at its start.
 ghost use Prim.Native.Nat.{_≤_};
 ghost use lib.ListN.{length};
-use crate::slices::same;
+use check::same;
 use form::bond;
 use form::byte::put;
 use form::byte::put_word;

@@ -1,23 +1,19 @@
 -- Whatever the events, every bond is held at both ends as reverses. Assumes nothing.
-use Prim.Native.Nat.{ℕ, zero, suc, _*_, _≤_}
-use mathlib.Core.Path.{_≡_, refl, sym, subst}
+use Prim.Native.Nat.{ℕ, _*_, _≤_}
+use mathlib.Core.Path.{sym, subst}
 use mathlib.Core.List.{List}
 use native.Mathlib.Omega.{arith}
-use lib.ListN.{getD, replicate, length-replicate}
+use lib.ListN.{replicate, length-replicate}
 use Rattle.record.specs.Words.{atomWords}
 use Rattle.graph.specs.Limits.{atomLimit, bondLimit}
 use Rattle.graph.specs.Rings.{numbers}
 use Rattle.graph.specs.State.{Bld, bld, startOf, entryWords}
 use Rattle.reader.specs.Events.{Event, run}
+use Rattle.build.proofs.Laws.{zero-at}
 use Rattle.sketch.specs.Sketch.{Sketch, BothEnds, startS, runS}
 use Rattle.sketch.proofs.Same.{Same}
 use Rattle.sketch.proofs.Twins.{twins-ends}
 use Rattle.sketch.proofs.Run.{AllOk, same-run, same-start}
-
-pub zero-at : (n i : ℕ) → getD {A = ℕ} (replicate n 0) i 0 ≡ 0
-zero-at zero i = refl
-zero-at (suc n) zero = refl
-zero-at (suc n) (suc i) = zero-at n i
 
 -- in a sketch that tables can say
 pub same-ends : (b : Bld) (d : Sketch) → Same b d → BothEnds (d .nodes)
