@@ -1,0 +1,133 @@
+-- Each way through a turn, on plain values: what the code's calls found is what the definition says. Assumes nothing.
+use Prim.Native.Nat.{ℕ, zero, suc, _+_, _-_, _≤_, _<_}
+use mathlib.Core.Path.{_≡_, refl, _∙_, ap, sym, subst}
+use mathlib.Core.Logic.{_≢_}
+use mathlib.Core.List.{List, [], _∷_, _++_}
+use mathlib.Core.Bool.{Bool, true, false}
+use native.Mathlib.Omega.{arith}
+use lib.ListN.{getD, set}
+use lib.Dec.{ltb, leb, eqb}
+use borrow.Author.Tests.{le-leb, lt-leb, eq-eqb, ne-eqb}
+use Rattle.feature.specs.Pick.{pick}
+use Rattle.feature.specs.declared.atom_kind.AtomKind.{AtomKind}
+use Rattle.feature.specs.declared.bond_kind.BondKind.{BondKind}
+use Rattle.pool.specs.declared.Pool.{Pool}
+use Rattle.pool.specs.declared.Given.{Given}
+use Rattle.pool.specs.declared.Given.the-variants.{Number, Full}
+use Rattle.pool.specs.Pairs.{hits, hitOf}
+use Rattle.writer.specs.declared.Writer.{Writer}
+use Rattle.writer.specs.Line.{Event, Root, Extend, Join, Pop}
+use Rattle.writer.specs.Tables as writer
+use Rattle.writer.specs.Tables.{Spoken, spoken, sayT, sayAll}
+use Rattle.ways.specs.declared.table.Bond.{Bond}
+use Rattle.ways.specs.declared.scan.Way.{Way}
+use Rattle.ways.specs.declared.scan.Way.the-variants.{Enters, Refuses}
+use Rattle.ways.specs.Graph.{Graph, kindAt, degreeAt, bondIn, bondOf}
+use Rattle.ways.specs.Ways.{saidAs, wayOf}
+use Rattle.walk.specs.declared.walker.Walker.{Walker}
+use Rattle.walk.specs.Walk.{Walk, walk, Turn, turn, quiet, refuse, refusedAs, passed, standingAt, backAt, atEnd, ringed, moved, pooled, metAt, tookAt, popsOf, popsThen, leftIn, rootOf, leaveOf, numberedOf, ringOf, enteredOf, enterOf, bondTurn, entryOf, atomOf, turnOf, unknownTarget, loop, ringNumbers, far, Did, Onward, Grows}
+
+-- ---- how far
+pub onward-as : {z y r : Walker} → r ≡ y → Onward z y → Onward z r
+onward-as {z} {y} {r} e h = subst (λ (x : Walker). Onward z x) (sym e) h
+
+pub onward-refused : (z : Walker) (n a b : ℕ) → Onward z (refusedAs z n a b)
+onward-refused z n a b = record { next = omega arith; pend = omega arith; count = omega arith }
+
+pub onward-same : (z : Walker) → Onward z z
+onward-same z = record { next = omega arith; pend = omega arith; count = omega arith }
+
+pub onward-passed : (z : Walker) → Onward z (passed z)
+onward-passed z = record { next = omega arith; pend = omega arith; count = omega arith }
+
+pub onward-met : (z : Walker) (a : ℕ) → Onward z (standingAt z a)
+onward-met z a = record { next = omega arith; pend = omega arith; count = omega arith }
+
+met-passed : (z : Walker) (a : ℕ) → Onward z (standingAt (passed z) a)
+met-passed z a = record { next = omega arith; pend = omega arith; count = omega arith }
+
+pub onward-root : {z y r : Walker} (a : ℕ) → y ≡ passed z → r ≡ standingAt y a → Onward z r
+onward-root {z} {y} {r} a e f = onward-as (f ∙ ap (λ (x : Walker). standingAt x a) e) (met-passed z a)
+
+pub passed-count : (z y : Walker) → y ≡ passed z → z .count < far → y .count < far
+passed-count z y e h = subst (λ (x : Walker). x .count < far) (sym e) h
+
+pub onward-ringed : (z : Walker) (p : Pool) → Onward z (ringed z p)
+onward-ringed z p = record { next = omega arith; pend = omega arith; count = omega arith }
+
+onward-end : (z : Walker) → Onward z (atEnd z)
+onward-end z = record { next = omega arith; pend = omega arith; count = omega arith }
+
+onward-back : (z : Walker) (a : ℕ) → Onward z (backAt z a)
+onward-back z a = record { next = omega arith; pend = omega arith; count = omega arith }
+
+pub grows-quiet : {y z : Walker} (line : Writer) → Onward y z → Grows y z line line
+grows-quiet line o = record { onward = o; pieces = omega arith; len = omega arith }
+
+pub grows-one : {y z : Walker} {line said : Writer} → Onward y z → writer.Grows line said → Grows y z line said
+grows-one o a = record { onward = o; pieces = omega (arith, a .pieces); len = omega (arith, a .len) }
+
+pub grows-two : {y z : Walker} {line popped said : Writer} → Onward y z → writer.Grows line popped → writer.Grows popped said → Grows y z line said
+grows-two o a b =
+    record { onward = o; pieces = omega (arith, a .pieces, b .pieces); len = omega (arith, a .len, b .len) }
+
+-- ---- what is said
+pub say-append : (s : Spoken) (xs ys : List Event) → sayAll s (xs ++ ys) ≡ sayAll (sayAll s xs) ys
+unfolding sayAll
+say-append s [] ys = refl
+say-append s (x ∷ xs) ys = say-append (sayT s x) xs ys
+
+pub pops-none : (s : Spoken) (n : ℕ) → n ≡ 0 → s ≡ sayAll s (popsOf n)
+unfolding popsOf sayAll
+pops-none s n e = simp (eq-eqb n 0 e)
+
+pub pops-some : (s x : Spoken) (n : ℕ) → n ≢ 0 → x ≡ sayT s (Pop n) → x ≡ sayAll s (popsOf n)
+unfolding popsOf sayAll
+pops-some s x n d e = e ∙ simp (ne-eqb n 0 d)
+
+pub say-one : (s x : Spoken) (e : Event) → x ≡ sayT s e → x ≡ sayAll s (e ∷ [])
+unfolding sayAll
+say-one s x e h = h
+
+pub say-none : (s : Spoken) → s ≡ sayAll s []
+unfolding sayAll
+say-none s = refl
+
+pub say-then : (s x y : Spoken) (n : ℕ) (e : Event) → x ≡ sayAll s (popsOf n) → y ≡ sayT x e → y ≡ sayAll s (popsThen n e)
+say-then s x y n e f g =
+    say-one x y e g ∙ ap (λ (q : Spoken). sayAll q (e ∷ [])) f ∙ sym (say-append s (popsOf n) (e ∷ []))
+
+pub did-as : {x y : Turn} {w : Walk} {s n : Spoken} → x ≡ y → Did y w s n → Did x w s n
+did-as {x} {y} {w} {s} {n} e h = subst (λ (t : Turn). Did t w s n) (sym e) h
+
+pub did-quiet : (w v : Walk) (s : Spoken) → v ≡ w → Did (quiet w) v s s
+did-quiet w v s e = record { after = e; said = say-none s }
+
+-- ---- an atom left
+pub left-end : (bonds first back : List ℕ) (z r : Walker) (a b : ℕ) → b ≡ getD back a 0 → b ≡ 0 → r ≡ atEnd z → (r ≡ leftIn bonds first back z a) × Onward z r
+unfolding leftIn
+left-end bonds first back z r a b e d h =
+    (h ∙ simp (eq-eqb _ _ (sym e ∙ d)), onward-as h (onward-end z))
+
+pub left-back : (bonds first back : List ℕ) (z r : Walker) (a b : ℕ) (o : Bond) → b ≡ getD back a 0 → b ≢ 0 → o ≡ bondIn bonds first a (b - 1) → r ≡ backAt z (o .to) → (r ≡ leftIn bonds first back z a) × Onward z r
+unfolding leftIn
+left-back bonds first back z r a b o e d f h =
+    (h ∙ ap (λ (x : Bond). backAt z (x .to)) f ∙ ap (λ (x : ℕ). backAt z (bondIn bonds first a (x - 1) .to)) e ∙ simp (ne-eqb _ _ (λ (q : getD back a 0 ≡ 0). d (e ∙ q))), onward-as h (onward-back z _))
+
+-- ---- a bond to an atom met before
+module _ (z r : Walker) (met walked back taken pairs pairs′ : List ℕ) (k : BondKind) (s t : ℕ) (h : Given) (p0 : hits h pairs′ ≡ hitOf (z .pool) pairs s t) where
+  ring-as : ringOf (walk z met walked back taken pairs) k s t ≡ numberedOf (walk z met walked back taken pairs) k s t h pairs′
+  unfolding ringOf
+  ring-as = rw (sym p0) refl
+
+  pub ring-full : (line : Spoken) → h ≡ Full → r ≡ refusedAs z ringNumbers s t → Did (ringOf (walk z met walked back taken pairs) k s t) (walk r met walked back taken pairs′) line line
+  unfolding numberedOf
+  ring-full line e f =
+      did-as (ring-as ∙ rw e refl)
+      (did-quiet (walk (refusedAs z ringNumbers s t) met walked back taken pairs′) _ line (ap (λ (x : Walker). walk x met walked back taken pairs′) f))
+
+  pub ring-number : (line popped said : Spoken) (p : Pool) (n : ℕ) → h ≡ Number p n → r ≡ ringed z p → popped ≡ sayAll line (popsOf (z .pend)) → said ≡ sayT popped (Join k n) → Did (ringOf (walk z met walked back taken pairs) k s t) (walk r met walked back taken pairs′) line said
+  unfolding numberedOf
+  ring-number line popped said p n e f g i =
+      did-as (ring-as ∙ rw e refl)
+      (record { after = ap (λ (x : Walker). walk x met walked back taken pairs′) f; said = say-then line popped said (z .pend) (Join k n) g i })

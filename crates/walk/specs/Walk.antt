@@ -1,0 +1,228 @@
+-- The walk: roots in number order, bonds in table order, depth first.
+--
+-- At a bond of the atom that stands: 5 if the target is none of the atoms, 6 if it is the source itself. If the target is
+-- new, `Ways` says whether it can be entered: 10, 8, 7 and 9. If it was met before, a ring number is asked for and nothing is
+-- compared; 11 if there is none left. Atoms that were left since the last event are popped before the next one; those left at
+-- the end of a component never are.
+use Prim.Native.Nat.{ℕ, zero, suc, _+_, _-_, _*_, _^_, _≤_, _<_}
+use mathlib.Core.Path.{_≡_}
+use mathlib.Core.List.{List, [], _∷_, _++_}
+use mathlib.Core.Bool.{Bool, true, false}
+use lib.ListN.{getD, set, replicate}
+use lib.Dec.{ltb, leb, eqb}
+use Rattle.feature.specs.Pick.{pick}
+use Rattle.feature.specs.declared.bond_kind.BondKind.{BondKind}
+use Rattle.pool.specs.declared.Pool.{Pool}
+use Rattle.pool.specs.declared.Given.{Given}
+use Rattle.pool.specs.declared.Given.the-variants.{Number, Full}
+use Rattle.pool.specs.Pairs.{hitOf, emptyOf}
+use Rattle.writer.specs.Line.{Event, Root, Extend, Join, Pop}
+use Rattle.ways.specs.declared.table.Bond.{Bond}
+use Rattle.ways.specs.declared.scan.Way.{Way}
+use Rattle.ways.specs.declared.scan.Way.the-variants.{Enters, Refuses}
+use Rattle.ways.specs.Graph.{Graph, kindAt, degreeAt, bondIn, bondOf}
+use Rattle.ways.specs.Ways.{saidAs, wayOf}
+use Rattle.walk.specs.declared.walker.Walker.{Walker}
+use Rattle.walk.specs.declared.turn.Turned.{Turned}
+use Rattle.writer.specs.declared.Writer.{Writer}
+use Rattle.writer.specs.Tables.{Spoken, sayAll}
+
+-- the desk's numbers of the refusals that are met here; those of a new atom's entries stand in `Ways`
+abbrev pub unknownTarget : ℕ
+unknownTarget = 5
+
+abbrev pub loop : ℕ
+loop = 6
+
+abbrev pub ringNumbers : ℕ
+ringNumbers = 11
+
+-- ---- how far a walk has come
+-- at: the next root to try, the atom that stands, the atoms left since the last event, how many were met, the pool's numbers
+-- and a refusal. For each atom: its number in walk order plus 1, or 0; the place of its entry back, from 1; how many of its
+-- entries were taken. For each number in walk order: the atom. And the words of the pool.
+pub record Walk : Type 0 where
+  pub at : Walker
+  pub met : List ℕ
+  pub walked : List ℕ
+  pub back : List ℕ
+  pub taken : List ℕ
+  pub pairs : List ℕ
+
+abbrev pub walk : Walker → List ℕ → List ℕ → List ℕ → List ℕ → List ℕ → Walk
+walk z met walked back taken pairs =
+    record { at = z; met = met; walked = walked; back = back; taken = taken; pairs = pairs }
+
+abbrev pub walker : ℕ → Bool → ℕ → ℕ → ℕ → Pool → ℕ → ℕ → ℕ → Walker
+walker next standing here pend count pool refusal first second =
+    record { next = next; standing = standing; here = here; pend = pend; count = count; pool = pool; refusal = refusal; first = first; second = second }
+
+-- nothing met
+abbrev pub startWalker : Walker
+startWalker = walker 0 false 0 0 0 emptyOf 0 0 0
+
+-- ---- what changes
+abbrev pub refusedAs : Walker → ℕ → ℕ → ℕ → Walker
+refusedAs z r a b = walker (z .next) (z .standing) (z .here) (z .pend) (z .count) (z .pool) r a b
+
+-- the next root passed over
+abbrev pub passed : Walker → Walker
+passed z =
+    walker (z .next + 1) (z .standing) (z .here) (z .pend) (z .count) (z .pool) (z .refusal) (z .first) (z .second)
+
+-- the atom a met and standing, so all pops were said
+abbrev pub standingAt : Walker → ℕ → Walker
+standingAt z a = walker (z .next) true a 0 (z .count + 1) (z .pool) (z .refusal) (z .first) (z .second)
+
+-- the atom that stands left for the one before, or for none
+abbrev pub backAt : Walker → ℕ → Walker
+backAt z a =
+    walker (z .next) true a (z .pend + 1) (z .count) (z .pool) (z .refusal) (z .first) (z .second)
+
+abbrev pub atEnd : Walker → Walker
+atEnd z = walker (z .next) false (z .here) 0 (z .count) (z .pool) (z .refusal) (z .first) (z .second)
+
+-- a ring number said, so all pops were
+abbrev pub ringed : Walker → Pool → Walker
+ringed z p = walker (z .next) (z .standing) (z .here) 0 (z .count) p (z .refusal) (z .first) (z .second)
+
+abbrev pub moved : Walk → Walker → Walk
+moved w z = walk z (w .met) (w .walked) (w .back) (w .taken) (w .pairs)
+
+-- atom a met, its entry back at place b
+abbrev pub metAt : Walk → Walker → ℕ → ℕ → Walk
+metAt w z a b =
+    walk (standingAt z a)
+    (set (w .met) a (z .count + 1))
+    (set (w .walked) (z .count) a)
+    (set (w .back) a b)
+    (w .taken) (w .pairs)
+
+-- one entry more of atom a taken
+abbrev pub tookAt : Walk → ℕ → ℕ → Walk
+tookAt w a i = walk (w .at) (w .met) (w .walked) (w .back) (set (w .taken) a (i + 1)) (w .pairs)
+
+-- other words of the pool
+abbrev pub pooled : Walk → List ℕ → Walk
+pooled w pairs = walk (w .at) (w .met) (w .walked) (w .back) (w .taken) pairs
+
+-- ---- a turn: what it leaves, and what it says
+pub record Turn : Type 0 where
+  pub after : Walk
+  pub said : List Event
+
+abbrev pub turn : Walk → List Event → Turn
+turn w es = record { after = w; said = es }
+
+abbrev pub quiet : Walk → Turn
+quiet w = turn w []
+
+abbrev pub refuse : Walk → ℕ → ℕ → ℕ → Turn
+refuse w r a b = quiet (moved w (refusedAs (w .at) r a b))
+
+-- the atoms left since the last event popped, then an event
+unfoldable pub popsOf : ℕ → List Event
+popsOf n = pick (eqb n 0) [] (Pop n ∷ [])
+
+abbrev pub popsThen : ℕ → Event → List Event
+popsThen n e = popsOf n ++ (e ∷ [])
+
+-- the next root
+unfoldable pub rootOf : Graph → Walk → Turn
+rootOf g w =
+    pick (leb (g .size) (w .at .next)) (quiet w)
+    (pick (eqb (getD (w .met) (w .at .next) 0) 0)
+    (turn (metAt w (passed (w .at)) (w .at .next) 0) (Root (saidAs (kindAt g (w .at .next)) 0) ∷ []))
+    (quiet (moved w (passed (w .at)))))
+
+-- the atom a that stands has no entry left: back to the one that it was reached from
+unfoldable pub leftIn : List ℕ → List ℕ → List ℕ → Walker → ℕ → Walker
+leftIn bonds first back z a =
+    pick (eqb (getD back a 0) 0) (atEnd z) (backAt z (bondIn bonds first a (getD back a 0 - 1) .to))
+
+abbrev pub leaveOf : Graph → Walk → ℕ → Turn
+leaveOf g w a = quiet (moved w (leftIn (g .bonds) (g .first) (w .back) (w .at) a))
+
+-- a bond of kind k from s to an atom t met before
+unfoldable pub numberedOf : Walk → BondKind → ℕ → ℕ → Given → List ℕ → Turn
+numberedOf w k s t Full pairs = refuse (pooled w pairs) ringNumbers s t
+numberedOf w k s t (Number p n) pairs =
+    turn (moved (pooled w pairs) (ringed (w .at) p)) (popsThen (w .at .pend) (Join k n))
+
+unfoldable pub ringOf : Walk → BondKind → ℕ → ℕ → Turn
+ringOf w k s t =
+    numberedOf w k s t (hitOf (w .at .pool) (w .pairs) s t .answer) (hitOf (w .at .pool) (w .pairs) s t .left)
+
+unfoldable pub enteredOf : Graph → Walk → BondKind → ℕ → Way → Turn
+enteredOf g w k t (Refuses r a b) = refuse w r a b
+enteredOf g w k t (Enters b) =
+    turn (metAt w (w .at) t b) (popsThen (w .at .pend) (Extend k (saidAs (kindAt g t) b)))
+
+-- a bond to a new atom t
+unfoldable pub enterOf : Graph → Walk → BondKind → ℕ → ℕ → Turn
+enterOf g w k s t = enteredOf g w k t (wayOf g k s t)
+
+-- a bond of the atom s
+unfoldable pub bondTurn : Graph → Walk → ℕ → Bond → Turn
+bondTurn g w s b =
+    pick (leb (g .size) (b .to)) (refuse w unknownTarget s (b .to))
+    (pick (eqb (b .to) s) (refuse w loop s 0)
+    (pick (eqb (getD (w .met) (b .to) 0) 0) (enterOf g w (b .kind) s (b .to)) (ringOf w (b .kind) s (b .to))))
+
+-- the entry i of the atom a, but for the one by which a was reached
+unfoldable pub entryOf : Graph → Walk → ℕ → ℕ → Turn
+entryOf g w a i =
+    pick (eqb (getD (w .back) a 0) (i + 1)) (quiet (tookAt w a i)) (bondTurn g (tookAt w a i) a (bondOf g a i))
+
+-- the atom a that stands
+unfoldable pub atomOf : Graph → Walk → ℕ → Turn
+atomOf g w a =
+    pick (leb (degreeAt g a) (getD (w .taken) a 0)) (leaveOf g w a) (entryOf g w a (getD (w .taken) a 0))
+
+unfoldable pub turnOf : Graph → Walk → Turn
+turnOf g w = pick (w .at .standing) (atomOf g w (w .at .here)) (rootOf g w)
+
+-- ---- turns
+-- a refused walk stays as it is
+unfoldable pub stepOf : Graph → Walk → Turn
+stepOf g w = pick (eqb (w .at .refusal) 0) (turnOf g w) (quiet w)
+
+-- what n turns leave, and what they say
+unfoldable pub walkTo : Graph → ℕ → Walk → Walk
+walkTo g zero w = w
+walkTo g (suc n) w = walkTo g n (stepOf g w .after)
+
+unfoldable pub eventsOf : Graph → ℕ → Walk → List Event
+eventsOf g zero w = []
+eventsOf g (suc n) w = stepOf g w .said ++ eventsOf g n (stepOf g w .after)
+
+-- each atom is tried as a root and left once, and each entry is taken once: so many turns are a whole walk
+unfoldable pub turnsOf : ℕ → ℕ → ℕ
+turnsOf atoms entries = 2 * atoms + entries
+
+-- ---- what a function of the walk does: it leaves the walk that a turn leaves, and the writer has said what the turn says
+pub record Did (x : Turn) (w : Walk) (s n : Spoken) : Type 0 where
+  pub after : w ≡ x .after
+  pub said : n ≡ sayAll s (x .said)
+
+-- far from where a number ends
+abbrev pub far : ℕ
+far = 2 ^ 31
+
+pub record Near (z : Walker) (line : Writer) : Type 0 where
+  pub next : z .next < far
+  pub pend : z .pend < far
+  pub count : z .count < far
+  pub pieces : line .pieces + 10 < far
+  pub len : line .len + 100 < far
+
+-- a turn goes on by at most so much
+pub record Onward (y z : Walker) : Type 0 where
+  pub next : z .next ≤ y .next + 1
+  pub pend : z .pend ≤ y .pend + 1
+  pub count : z .count ≤ y .count + 1
+
+pub record Grows (y z : Walker) (line said : Writer) : Type 0 where
+  pub onward : Onward y z
+  pub pieces : said .pieces ≤ line .pieces + 2
+  pub len : said .len ≤ line .len + 50

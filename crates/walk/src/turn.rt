@@ -1,0 +1,322 @@
+// One turn of a walk: a root tried, an entry of the atom that stands taken, or the atom left. What it says goes to the
+// writer at once.
+ghost use mathlib.Core.Path.{_≡_};
+ghost use mathlib.Core.List.{List};
+ghost use Prim.Native.Nat.{ℕ, _+_, _<_};
+ghost use lib.ListN.{set};
+ghost use Rattle.writer.specs.Tables.{spoken, sayAll};
+ghost use Rattle.ways.specs.Graph.{graph};
+ghost use Rattle.writer.specs.Tables as writer;
+ghost use Rattle.walk.specs.Walk.{walk, standingAt, popsOf, rootOf, leftIn, ringOf, enterOf, bondTurn, atomOf, turnOf, Did, far, Near, Onward, Grows};
+use crate::walker::LOOP;
+use crate::walker::RING_NUMBERS;
+use crate::walker::UNKNOWN_TARGET;
+use crate::walker::Walker;
+use feature::bond_kind::BondKind;
+use pool::Given;
+use record::look;
+use record::poke;
+use ways::scan::Way;
+use ways::scan::find_way;
+use ways::scan::said_as;
+use ways::table::Bond;
+use ways::table::bond_at;
+use ways::table::degree_at;
+use ways::table::kind_at;
+use writer::Writer;
+use writer::say::say_extend;
+use writer::say::say_join;
+use writer::say::say_pop;
+use writer::say::say_root;
+
+// Where a turn leaves the walk and the writer.
+pub struct Turned {
+    pub walker: Walker,
+    pub line: Writer,
+}
+
+// The atoms left since the last event, if any, popped.
+fn say_pops(out: &mut [u8], starts: &mut [u32], line: Writer, pend: usize) -> Writer
+    requires { ⌜ writer.Near line ⌝ }
+    ensures { λ r. ⌜ spoken r (now (out .exit)) (now (starts .exit)) ≡ sayAll (spoken line (now (out .entry)) (now (starts .entry))) (popsOf pend) ⌝ }
+    ensures { λ r. ⌜ writer.Grows line r ⌝ }
+{
+    if pend == 0 {
+        return line;
+    }
+    say_pop(out, starts, line, pend)
+}
+
+// An atom met: its number in walk order, its place there, and its entry back.
+fn mark(met: &mut [u32], walked: &mut [u32], back: &mut [u32], z: Walker, a: u32, b: u32) -> Walker
+    requires { ⌜ z .count < far ⌝ }
+    ensures { λ r. ⌜ (r ≡ standingAt z a) × (now (met .exit) ≡ set (now (met .entry)) a (z .count + 1)) × (now (walked .exit) ≡ set (now (walked .entry)) (z .count) a) × (now (back .exit) ≡ set (now (back .entry)) a b) ⌝ }
+{
+    let count = z.count;
+    poke(met, a as usize, count + 1);
+    poke(walked, count as usize, a);
+    poke(back, a as usize, b);
+    z.meet(a)
+}
+
+// The next root.
+fn try_root(
+    size: usize,
+    atoms: &[u32],
+    met: &mut [u32],
+    walked: &mut [u32],
+    back: &mut [u32],
+    starts: &mut [u32],
+    out: &mut [u8],
+    z: Walker,
+    line: Writer,
+) -> Turned
+    requires { ⌜ Near z line ⌝ }
+    ensures { λ r. ⌜ ((bonds first taken pairs : List ℕ) → Did (rootOf (graph size (now (atoms .entry)) bonds first) (walk z (now (met .entry)) (now (walked .entry)) (now (back .entry)) taken pairs)) (walk (r .walker) (now (met .exit)) (now (walked .exit)) (now (back .exit)) taken pairs) (spoken line (now (out .entry)) (now (starts .entry))) (spoken (r .line) (now (out .exit)) (now (starts .exit)))) ⌝ }
+    ensures { λ r. ⌜ Grows z (r .walker) line (r .line) ⌝ }
+{
+    let a = z.next;
+    if size <= a as usize {
+        return Turned { walker: z, line };
+    }
+    let passed = z.pass();
+    if look(met, a as usize) != 0 {
+        return Turned {
+            walker: passed,
+            line,
+        };
+    }
+    let kind = said_as(kind_at(atoms, a), 0);
+    let said = say_root(out, starts, line, kind);
+    Turned {
+        walker: mark(met, walked, back, passed, a, 0),
+        line: said,
+    }
+}
+
+// The atom that stands has no entry left.
+fn leave(bonds: &[u32], first: &[u32], back: &[u32], z: Walker, a: u32) -> Walker
+    requires { ⌜ z .pend < far ⌝ }
+    ensures { λ r. ⌜ r ≡ leftIn (now (bonds .entry)) (now (first .entry)) (now (back .entry)) z a ⌝ }
+    ensures { λ r. ⌜ Onward z r ⌝ }
+{
+    let b = look(back, a as usize);
+    if b == 0 {
+        return z.end();
+    }
+    z.leave(bond_at(bonds, first, a, b - 1).to)
+}
+
+// A bond to an atom met before: a ring number.
+fn ring(
+    pairs: &mut [u32],
+    starts: &mut [u32],
+    out: &mut [u8],
+    z: Walker,
+    line: Writer,
+    k: BondKind,
+    s: u32,
+    t: u32,
+) -> Turned
+    requires { ⌜ Near z line ⌝ }
+    ensures { λ r. ⌜ ((met walked back taken : List ℕ) → Did (ringOf (walk z met walked back taken (now (pairs .entry))) k s t) (walk (r .walker) met walked back taken (now (pairs .exit))) (spoken line (now (out .entry)) (now (starts .entry))) (spoken (r .line) (now (out .exit)) (now (starts .exit)))) ⌝ }
+    ensures { λ r. ⌜ Grows z (r .walker) line (r .line) ⌝ }
+{
+    match pool::hit(pairs, z.pool, s, t) {
+        Given::Full => Turned {
+            walker: z.refused(RING_NUMBERS, s, t),
+            line,
+        },
+        Given::Number(p, n) => {
+            let popped = say_pops(out, starts, line, z.pend);
+            let said = say_join(out, starts, popped, k, n);
+            Turned {
+                walker: z.ring(p),
+                line: said,
+            }
+        }
+    }
+}
+
+// A bond to a new atom: it is said and stands.
+fn enter(
+    atoms: &[u32],
+    bonds: &[u32],
+    first: &[u32],
+    met: &mut [u32],
+    walked: &mut [u32],
+    back: &mut [u32],
+    starts: &mut [u32],
+    out: &mut [u8],
+    z: Walker,
+    line: Writer,
+    k: BondKind,
+    s: u32,
+    t: u32,
+) -> Turned
+    requires { ⌜ Near z line ⌝ }
+    ensures { λ r. ⌜ ((n : ℕ) (taken pairs : List ℕ) → Did (enterOf (graph n (now (atoms .entry)) (now (bonds .entry)) (now (first .entry))) (walk z (now (met .entry)) (now (walked .entry)) (now (back .entry)) taken pairs) k s t) (walk (r .walker) (now (met .exit)) (now (walked .exit)) (now (back .exit)) taken pairs) (spoken line (now (out .entry)) (now (starts .entry))) (spoken (r .line) (now (out .exit)) (now (starts .exit)))) ⌝ }
+    ensures { λ r. ⌜ Grows z (r .walker) line (r .line) ⌝ }
+{
+    match find_way(atoms, bonds, first, k, s, t) {
+        Way::Refuses(number, a, b) => Turned {
+            walker: z.refused(number, a, b),
+            line,
+        },
+        Way::Enters(b) => {
+            let popped = say_pops(out, starts, line, z.pend);
+            let kind = said_as(kind_at(atoms, t), b);
+            let said = say_extend(out, starts, popped, k, kind);
+            Turned {
+                walker: mark(met, walked, back, z, t, b),
+                line: said,
+            }
+        }
+    }
+}
+
+// A bond of the atom s.
+fn take_bond(
+    size: usize,
+    atoms: &[u32],
+    bonds: &[u32],
+    first: &[u32],
+    met: &mut [u32],
+    walked: &mut [u32],
+    back: &mut [u32],
+    pairs: &mut [u32],
+    starts: &mut [u32],
+    out: &mut [u8],
+    z: Walker,
+    line: Writer,
+    s: u32,
+    b: Bond,
+) -> Turned
+    requires { ⌜ Near z line ⌝ }
+    ensures { λ r. ⌜ ((taken : List ℕ) → Did (bondTurn (graph size (now (atoms .entry)) (now (bonds .entry)) (now (first .entry))) (walk z (now (met .entry)) (now (walked .entry)) (now (back .entry)) taken (now (pairs .entry))) s b) (walk (r .walker) (now (met .exit)) (now (walked .exit)) (now (back .exit)) taken (now (pairs .exit))) (spoken line (now (out .entry)) (now (starts .entry))) (spoken (r .line) (now (out .exit)) (now (starts .exit)))) ⌝ }
+    ensures { λ r. ⌜ Grows z (r .walker) line (r .line) ⌝ }
+{
+    let t = b.to;
+    let k = b.kind;
+    if size <= t as usize {
+        return Turned {
+            walker: z.refused(UNKNOWN_TARGET, s, t),
+            line,
+        };
+    }
+    if t == s {
+        return Turned {
+            walker: z.refused(LOOP, s, 0),
+            line,
+        };
+    }
+    if look(met, t as usize) == 0 {
+        return enter(
+            atoms,
+            bonds,
+            first,
+            met,
+            walked,
+            back,
+            starts,
+            out,
+            z,
+            line,
+            k,
+            s,
+            t,
+        );
+    }
+    ring(pairs, starts, out, z, line, k, s, t)
+}
+
+// The atom that stands: its next entry, but for the one by which it was reached, or the way back.
+fn take_atom(
+    size: usize,
+    atoms: &[u32],
+    bonds: &[u32],
+    first: &[u32],
+    met: &mut [u32],
+    walked: &mut [u32],
+    back: &mut [u32],
+    taken: &mut [u32],
+    pairs: &mut [u32],
+    starts: &mut [u32],
+    out: &mut [u8],
+    z: Walker,
+    line: Writer,
+) -> Turned
+    requires { ⌜ Near z line ⌝ }
+    ensures { λ r. ⌜ Did (atomOf (graph size (now (atoms .entry)) (now (bonds .entry)) (now (first .entry))) (walk z (now (met .entry)) (now (walked .entry)) (now (back .entry)) (now (taken .entry)) (now (pairs .entry))) (z .here)) (walk (r .walker) (now (met .exit)) (now (walked .exit)) (now (back .exit)) (now (taken .exit)) (now (pairs .exit))) (spoken line (now (out .entry)) (now (starts .entry))) (spoken (r .line) (now (out .exit)) (now (starts .exit))) ⌝ }
+    ensures { λ r. ⌜ Grows z (r .walker) line (r .line) ⌝ }
+{
+    let a = z.here;
+    let at = a as usize;
+    let i = look(taken, at);
+    if degree_at(atoms, a) <= i {
+        return Turned {
+            walker: leave(bonds, first, back, z, a),
+            line,
+        };
+    }
+    poke(taken, at, i + 1);
+    if look(back, at) == i + 1 {
+        return Turned { walker: z, line };
+    }
+    let b = bond_at(bonds, first, a, i);
+    take_bond(
+        size,
+        atoms,
+        bonds,
+        first,
+        met,
+        walked,
+        back,
+        pairs,
+        starts,
+        out,
+        z,
+        line,
+        a,
+        b,
+    )
+}
+
+pub fn turn(
+    size: usize,
+    atoms: &[u32],
+    bonds: &[u32],
+    first: &[u32],
+    met: &mut [u32],
+    walked: &mut [u32],
+    back: &mut [u32],
+    taken: &mut [u32],
+    pairs: &mut [u32],
+    starts: &mut [u32],
+    out: &mut [u8],
+    z: Walker,
+    line: Writer,
+) -> Turned
+    requires { ⌜ Near z line ⌝ }
+    ensures { λ r. ⌜ Did (turnOf (graph size (now (atoms .entry)) (now (bonds .entry)) (now (first .entry))) (walk z (now (met .entry)) (now (walked .entry)) (now (back .entry)) (now (taken .entry)) (now (pairs .entry)))) (walk (r .walker) (now (met .exit)) (now (walked .exit)) (now (back .exit)) (now (taken .exit)) (now (pairs .exit))) (spoken line (now (out .entry)) (now (starts .entry))) (spoken (r .line) (now (out .exit)) (now (starts .exit))) ⌝ }
+    ensures { λ r. ⌜ Grows z (r .walker) line (r .line) ⌝ }
+{
+    if z.standing {
+        return take_atom(
+            size,
+            atoms,
+            bonds,
+            first,
+            met,
+            walked,
+            back,
+            taken,
+            pairs,
+            starts,
+            out,
+            z,
+            line,
+        );
+    }
+    try_root(size, atoms, met, walked, back, starts, out, z, line)
+}

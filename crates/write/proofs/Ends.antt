@@ -1,0 +1,150 @@
+-- The end of a walk: what the tables of its writer hold is the line that it said. Assumes nothing.
+use Prim.Native.Nat.{ℕ, zero, suc, _+_, _-_, _*_, _≤_, _<_}
+use mathlib.Core.Path.{_≡_, refl, _∙_, ap, sym, subst}
+use mathlib.Core.Logic.{_≢_}
+use mathlib.Core.List.{List, [], _∷_, _++_}
+use mathlib.Core.Bool.{Bool, true, false}
+use native.Mathlib.Omega.{arith}
+use native.Mathlib.Nat.{zero-add}
+use lib.ListN.{length, take, drop, replicate, length-replicate}
+use lib.Seq.{sets, sets-eq, length-sets}
+use lib.Dec.{ltb, eqb}
+use borrow.Author.Tests.{lt-ltb, le-ltb, eq-eqb, ne-eqb, ltb-true, ltb-false, eqb-true, eqb-false}
+use Rattle.feature.specs.Pick.{pick}
+use Rattle.graph.specs.Limits.{atomLimit, bondLimit, lesserOf}
+use Rattle.build.specs.Build.{startsOf}
+use Rattle.writer.specs.declared.Writer.{Writer}
+use Rattle.writer.specs.Line.{Event, lineOf, writeEvents}
+use Rattle.writer.specs.Tables.{Spoken, spoken, writer, sayAll, pieceRoom}
+use Rattle.writer.specs.Pieces.{Holds}
+use Rattle.writer.proofs.Pieces.{holds-all, holds-none}
+use Rattle.ways.specs.Graph.{Graph, graph}
+use Rattle.walk.specs.declared.walker.Walker.{Walker}
+use Rattle.walk.specs.Walk.{Walk, walk, startWalker, walkTo, eventsOf, turnsOf}
+use Rattle.write.specs.declared.answer.Written.{Written}
+use Rattle.write.specs.declared.answer.Written.the-variants.{Done, OutRoom}
+use Rattle.write.specs.Write.{zeros, pairWords, graphOf, startIn, walkIn, walkOf, saidIn, saidOf, lineSaid, refusalOf, Left, left, refusing, putLine, ended, concluded, graphWritten}
+use Rattle.write.specs.Order as made
+
+-- ---- each way out
+pub end-refused : (out o : List ℕ) (z : Walker) (line : Writer) (r : Written) → z .refusal ≢ 0 → o ≡ zeros (length out) → r ≡ refusalOf z → left r o ≡ ended out z line
+unfolding ended
+end-refused out o z line r d e f =
+    ap (λ (x : Written). left x o) f ∙ ap (λ (x : List ℕ). left (refusalOf z) x) e ∙ simp (ne-eqb _ _ d)
+
+pub end-short : (out o : List ℕ) (z : Walker) (line : Writer) → z .refusal ≡ 0 → length out < line .len → o ≡ zeros (length out) → left (OutRoom (line .len)) o ≡ ended out z line
+unfolding ended
+end-short out o z line d h e =
+    ap (λ (x : List ℕ). left (OutRoom (line .len)) x) e ∙ simp (eq-eqb _ _ d, lt-ltb _ _ h)
+
+pub end-done : (out : List ℕ) (z : Walker) (line : Writer) → z .refusal ≡ 0 → line .len ≤ length out → left (Done (line .len)) out ≡ ended out z line
+unfolding ended
+end-done out z line d h = simp (eq-eqb _ _ d, le-ltb _ _ h)
+
+pub left-zeros : (r : Written) (o : List ℕ) (n : ℕ) → o ≡ zeros n → left r o ≡ refusing n r
+left-zeros r o n e = ap (λ (x : List ℕ). left r x) e
+
+pub few : (n m : ℕ) → n ≤ atomLimit → m ≤ bondLimit → turnsOf n m < 1000000
+unfolding turnsOf
+few n m h i = omega (arith, h, i)
+
+-- ---- the line in the output
+pub zeros-self : {o : List ℕ} (n : ℕ) → o ≡ zeros n → o ≡ zeros (length o)
+zeros-self {o} n e =
+    e ∙ ap zeros (sym (length-replicate {A = ℕ} n 0) ∙ ap length (sym e))
+
+drop-zeros : (k n : ℕ) → drop k (zeros n) ≡ zeros (n - k)
+drop-zeros zero n = let e : n ≡ n - 0 = omega arith in ap zeros e
+drop-zeros (suc k) zero = let e : 0 ≡ 0 - suc k = omega arith in ap zeros e
+drop-zeros (suc k) (suc n) = let e : n - k ≡ suc n - suc k = omega arith in drop-zeros k n ∙ ap zeros e
+
+laid-out : (room : ℕ) (line : List ℕ) → length line ≤ room → sets (zeros room) 0 line ≡ line ++ zeros (room - length line)
+laid-out room line h =
+    let l : length (zeros room) ≡ room = length-replicate {A = ℕ} room 0 in
+    let q : 0 + length line ≤ length (zeros room) = omega (arith, l, h) in
+    sets-eq line (zeros room) 0 q
+    ∙ ap (λ (k : ℕ). line ++ drop k (zeros room)) (zero-add (length line))
+    ∙ ap (λ (x : List ℕ). line ++ x) (drop-zeros (length line) room)
+
+module _ (room : ℕ) (out : List ℕ) (z : Walker) (w : Writer) (line : List ℕ) (has : w .len ≡ length line) (holds : out ≡ sets (zeros room) 0 line) where
+  long : length out ≡ room
+  long = ap length holds ∙ length-sets (zeros room) 0 line ∙ length-replicate {A = ℕ} room 0
+
+  fits : (b : Bool) → ltb room (length line) ≡ b → pick b (refusing room (OutRoom (length line))) (left (Done (length line)) out) ≡ putLine room line
+  unfolding putLine
+  fits true e = simp e
+  fits false e =
+      ap (λ (x : List ℕ). left (Done (length line)) x) (holds ∙ laid-out room line (ltb-false room (length line) e)) ∙ simp e
+
+  pub ended-is : ended out z w ≡ concluded room z line
+  unfolding ended concluded
+  ended-is =
+      ap (λ (k : ℕ). pick (eqb (z .refusal) 0) (pick (ltb k (w .len)) (refusing k (OutRoom (w .len))) (left (Done (w .len)) out)) (refusing k (refusalOf z))) long
+      ∙ ap (λ (k : ℕ). pick (eqb (z .refusal) 0) (pick (ltb room k) (refusing room (OutRoom k)) (left (Done k) out)) (refusing room (refusalOf z))) has
+      ∙ ap (λ (x : Left). pick (eqb (z .refusal) 0) x (refusing room (refusalOf z))) (fits (ltb room (length line)) refl)
+
+-- ---- a graph written
+full-room : pieceRoom (zeros atomLimit) ≡ atomLimit
+unfolding pieceRoom lesserOf
+full-room = ap (λ (k : ℕ). pick (ltb k atomLimit) k atomLimit) (length-replicate {A = ℕ} atomLimit 0)
+
+said-holds : (o out starts : List ℕ) (w : Writer) (es : List Event) → spoken w out starts ≡ sayAll (spoken (writer 0 0) o (zeros atomLimit)) es → Holds o (writeEvents atomLimit es []) (spoken w out starts)
+said-holds o out starts w es e =
+    subst (λ (s : Spoken). Holds o (writeEvents atomLimit es []) s) (sym e)
+    (subst (λ (n : ℕ). Holds o (writeEvents n es []) (sayAll (spoken (writer 0 0) o (zeros atomLimit)) es)) full-room (holds-all es (holds-none o (zeros atomLimit))))
+
+module _ (atoms bonds first : List ℕ) (n m : ℕ) (fst : first ≡ startsOf n atoms (zeros atomLimit)) where
+  graph-is : graph n atoms bonds first ≡ graphOf n atoms bonds
+  graph-is = ap (λ (x : List ℕ). graph n atoms bonds x) fst
+
+  walk-is : (lm lw lb : ℕ) (w : Walk) → w ≡ walkTo (graph n atoms bonds first) (turnsOf n m) (startIn lm lw lb) → w ≡ walkIn lm lw lb atoms n bonds m
+  unfolding walkIn
+  walk-is lm lw lb w e = e ∙ ap (λ (g : Graph). walkTo g (turnsOf n m) (startIn lm lw lb)) graph-is
+
+  said-is : (lm lw lb : ℕ) (s x : Spoken) → x ≡ sayAll s (eventsOf (graph n atoms bonds first) (turnsOf n m) (startIn lm lw lb)) → x ≡ sayAll s (saidIn lm lw lb atoms n bonds m)
+  unfolding saidIn
+  said-is lm lw lb s x e = e ∙ ap (λ (g : Graph). sayAll s (eventsOf g (turnsOf n m) (startIn lm lw lb))) graph-is
+
+  pub graph-written : (room : ℕ) (o out starts met walked back taken pairs : List ℕ) (z : Walker) (line : Writer) (r : Left) → o ≡ zeros room → walk z met walked back taken pairs ≡ walkTo (graph n atoms bonds first) (turnsOf n m) (startIn atomLimit atomLimit atomLimit) → spoken line out starts ≡ sayAll (spoken (writer 0 0) o (zeros atomLimit)) (eventsOf (graph n atoms bonds first) (turnsOf n m) (startIn atomLimit atomLimit atomLimit)) → r ≡ ended out z line → r ≡ graphWritten room atoms n bonds m
+  unfolding graphWritten
+  graph-written room o out starts met walked back taken pairs z line r zo w s e =
+      let h = said-holds o out starts line (saidOf atoms n bonds m) (said-is atomLimit atomLimit atomLimit _ _ s) in
+      e
+      ∙ ended-is room out z line (lineSaid (saidOf atoms n bonds m)) (h .len) (h .line ∙ ap (λ (x : List ℕ). sets x 0 (lineSaid (saidOf atoms n bonds m))) zo)
+      ∙ ap (λ (x : Walk). concluded room (x .at) (lineSaid (saidOf atoms n bonds m))) (walk-is atomLimit atomLimit atomLimit _ w)
+
+-- ---- a walk order
+pub order-refused : (walked met back w′ m′ b′ : List ℕ) (n : ℕ) (z : Walker) (r : Written) → z .refusal ≢ 0 → w′ ≡ zeros (length walked) → m′ ≡ zeros (length met) → b′ ≡ zeros (length back) → r ≡ refusalOf z → made.order r w′ m′ b′ ≡ made.concluded n z walked met back
+unfolding made.concluded
+order-refused walked met back w′ m′ b′ n z r d e f g h =
+    ap (λ (x : Written). made.order x w′ m′ b′) h
+    ∙ ap (λ (x : List ℕ). made.order (refusalOf z) x m′ b′) e
+    ∙ ap (λ (x : List ℕ). made.order (refusalOf z) (zeros (length walked)) x b′) f
+    ∙ ap (λ (x : List ℕ). made.order (refusalOf z) (zeros (length walked)) (zeros (length met)) x) g
+    ∙ simp (ne-eqb _ _ d)
+
+pub order-done : (walked met back m′ : List ℕ) (n : ℕ) (z : Walker) → z .refusal ≡ 0 → m′ ≡ made.lowered met → made.order (Done n) walked m′ back ≡ made.concluded n z walked met back
+unfolding made.concluded
+order-done walked met back m′ n z d e =
+    ap (λ (x : List ℕ). made.order (Done n) walked x back) e ∙ simp (eq-eqb _ _ d)
+
+pub tables-zero : (r : Written) (a b c : List ℕ) (k l n : ℕ) → a ≡ zeros k → b ≡ zeros l → c ≡ zeros n → made.order r a b c ≡ made.refusing k l n r
+tables-zero r a b c k l n e f g =
+    ap (λ (x : List ℕ). made.order r x b c) e
+    ∙ ap (λ (x : List ℕ). made.order r (zeros k) x c) f
+    ∙ ap (λ (x : List ℕ). made.order r (zeros k) (zeros l) x) g
+
+-- the tables that a walk starts with
+start-is : (z : Walker) (lm lw lb : ℕ) (met walked back taken pairs : List ℕ) → met ≡ zeros lm → walked ≡ zeros lw → back ≡ zeros lb → walk z met walked back taken pairs ≡ walk z (zeros lm) (zeros lw) (zeros lb) taken pairs
+start-is z lm lw lb met walked back taken pairs e f g =
+    ap (λ (x : List ℕ). walk z x walked back taken pairs) e
+    ∙ ap (λ (x : List ℕ). walk z (zeros lm) x back taken pairs) f
+    ∙ ap (λ (x : List ℕ). walk z (zeros lm) (zeros lw) x taken pairs) g
+
+pub graph-ordered : (atoms bonds first : List ℕ) (n m lm lw lb : ℕ) (m₀ w₀ b₀ met walked back taken pairs : List ℕ) (z : Walker) (r : made.Order) → first ≡ startsOf n atoms (zeros atomLimit) → m₀ ≡ zeros lm → w₀ ≡ zeros lw → b₀ ≡ zeros lb → walk z met walked back taken pairs ≡ walkTo (graph n atoms bonds first) (turnsOf n m) (walk startWalker m₀ w₀ b₀ (zeros atomLimit) (zeros pairWords)) → r ≡ made.concluded n z walked met back → r ≡ made.graphOrdered lw lm lb atoms n bonds m
+unfolding made.graphOrdered
+graph-ordered atoms bonds first n m lm lw lb m₀ w₀ b₀ met walked back taken pairs z r f e1 e2 e3 w e =
+    e
+    ∙ ap (λ (x : Walk). made.concluded n (x .at) (x .walked) (x .met) (x .back))
+    (walk-is atoms bonds first n m f lm lw lb (walk z met walked back taken pairs)
+    (w ∙ ap (λ (x : Walk). walkTo (graph n atoms bonds first) (turnsOf n m) x) (start-is startWalker lm lw lb m₀ w₀ b₀ (zeros atomLimit) (zeros pairWords) e1 e2 e3)))

@@ -1,0 +1,5 @@
+-- Laws that the proofs of the write call and the walk order cite.
+pub mod Tables
+pub mod Ends
+pub mod Judging
+pub mod Calls

@@ -1,0 +1,53 @@
+// The answer of the write call and of the walk order: a variant for each of the desk's numbers that they give.
+ghost use mathlib.Core.Path.{_≡_};
+ghost use Rattle.write.specs.Write.{refusalOf};
+use walk::walker::LOOP;
+use walk::walker::UNKNOWN_TARGET;
+use walk::walker::Walker;
+use ways::scan::DUPLICATE_BOND;
+use ways::scan::HALF_BOND;
+use ways::scan::INCOMPATIBLE_BOND;
+use ways::scan::INVERSION;
+
+pub enum Written {
+    // Bytes written; of the walk order, atoms walked.
+    Done(usize),
+    UnknownTarget(u32, u32),
+    Loop(u32),
+    HalfBond(u32, u32),
+    DuplicateBond(u32, u32),
+    // The target, then the source, as in the Rust.
+    IncompatibleBond(u32, u32),
+    Inversion(u32),
+    RingNumbers(u32, u32),
+    AtomRoom(usize),
+    BondRoom(usize),
+    OutRoom(usize),
+    BadTable(usize),
+}
+
+// The refusal that stopped a walk.
+pub fn refusal(z: Walker) -> Written
+    ensures { λ r. ⌜ r ≡ refusalOf z ⌝ }
+{
+    let number = z.refusal;
+    if number == UNKNOWN_TARGET {
+        return Written::UnknownTarget(z.first, z.second);
+    }
+    if number == LOOP {
+        return Written::Loop(z.first);
+    }
+    if number == HALF_BOND {
+        return Written::HalfBond(z.first, z.second);
+    }
+    if number == DUPLICATE_BOND {
+        return Written::DuplicateBond(z.first, z.second);
+    }
+    if number == INCOMPATIBLE_BOND {
+        return Written::IncompatibleBond(z.first, z.second);
+    }
+    if number == INVERSION {
+        return Written::Inversion(z.first);
+    }
+    Written::RingNumbers(z.first, z.second)
+}

@@ -1,0 +1,97 @@
+// The write call and the walk order: tables judged, then walked, and what the walk says written into one lent output.
+//
+// answer: what the calls answer.
+// order: the walk order.
+ghost use mathlib.Core.Path.{_≡_};
+ghost use Prim.Native.Nat.{_≤_};
+ghost use lib.ListN.{length, replicate};
+ghost use Rattle.graph.specs.Limits.{atomLimit, bondLimit};
+ghost use Rattle.write.specs.Write.{zeros, left, ended, graphWritten, writeOf};
+use answer::Written;
+use answer::refusal;
+use build::lay_starts;
+use graph::limits::ATOMS;
+use graph::limits::atom_room;
+use graph::limits::bond_room;
+use judge::judge;
+use pool::PAIRS;
+use walk::turn::Turned;
+use walk::turns::walk;
+
+pub mod answer;
+pub mod order;
+
+// Zeros all through an output.
+fn clear_bytes(out: &mut [u8])
+    ensures { λ _. ⌜ now (out .exit) ≡ replicate (length (now (out .entry))) 0 ⌝ }
+{
+    let mut at: usize = 0;
+    while at < out.len() {
+        out[at] = 0;
+        at += 1;
+    }
+}
+
+// What the end of a walk comes to, with the output that it was told to.
+fn conclude(out: &mut [u8], end: Turned) -> Written
+    ensures { λ r. ⌜ left r (now (out .exit)) ≡ ended (now (out .entry)) (end .walker) (end .line) ⌝ }
+{
+    let len = end.line.len;
+    if end.walker.refusal != 0 {
+        clear_bytes(out);
+        return refusal(end.walker);
+    }
+    if out.len() < len {
+        clear_bytes(out);
+        return Written::OutRoom(len);
+    }
+    Written::Done(len)
+}
+
+// A graph written into an output of zeros.
+fn write_graph(atoms: &[u32], n: usize, bonds: &[u32], m: usize, out: &mut [u8]) -> Written
+    requires { ⌜ (n ≤ atomLimit) × (m ≤ bondLimit) × (now out ≡ zeros (length (now out))) ⌝ }
+    ensures { λ r. ⌜ left r (now (out .exit)) ≡ graphWritten (length (now (out .entry))) (now (atoms .entry)) n (now (bonds .entry)) m ⌝ }
+{
+    let mut first = [0u32; ATOMS];
+    let mut met = [0u32; ATOMS];
+    let mut walked = [0u32; ATOMS];
+    let mut back = [0u32; ATOMS];
+    let mut taken = [0u32; ATOMS];
+    let mut pairs = [0u32; PAIRS];
+    let mut starts = [0u32; ATOMS];
+    lay_starts(&mut first, atoms, n);
+    let end = walk(
+        n,
+        m,
+        atoms,
+        bonds,
+        &first,
+        &mut met,
+        &mut walked,
+        &mut back,
+        &mut taken,
+        &mut pairs,
+        &mut starts,
+        out,
+    );
+    conclude(out, end)
+}
+
+// Writes the graph of n atoms and m bond entries. The bytes after its line are zero; after a refusal all are.
+pub fn write(atoms: &[u32], n: usize, bonds: &[u32], m: usize, out: &mut [u8]) -> Written
+    ensures { λ r. ⌜ left r (now (out .exit)) ≡ writeOf (length (now (out .entry))) (now (atoms .entry)) n (now (bonds .entry)) m ⌝ }
+{
+    clear_bytes(out);
+    if atom_room(atoms) < n {
+        return Written::AtomRoom(n);
+    }
+    if bond_room(bonds) < m {
+        return Written::BondRoom(m);
+    }
+    let bad = judge(atoms, n, bonds, m);
+    if bad < n + m {
+        return Written::BadTable(bad);
+    }
+    write_graph(atoms, n, bonds, m, out)
+}

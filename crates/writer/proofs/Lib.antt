@@ -1,0 +1,5 @@
+-- Laws that several proofs cite, and the theorems about the line.
+pub mod Stores
+pub mod Laws
+pub mod Pieces
+pub mod Lengths
