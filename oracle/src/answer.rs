@@ -8,6 +8,7 @@ use crate::caught::caught;
 use crate::feature::{AtomKind, BondKind, Rnum};
 use crate::form::{self, Event};
 use crate::graph::{self, reconcile, Atom, Builder, JoinPool};
+use crate::order::Order;
 use crate::read::{self, read, read_bond, read_bracket, read_organic, read_rnum, Scanner};
 use crate::walk::{self, walk, Follower};
 use crate::write::Writer;
@@ -47,10 +48,16 @@ pub fn answer(request: &str) -> Option<String> {
             in_characters(&text, graph_answer(graph_of(&text)))
         }
         "rewrite" => match graph_of(&form::parse_text(arguments)?) {
-            Ok(graph) => written(graph, Writer::new(), Writer::write),
+            Ok(graph) => written(graph),
             Err(refusal) => refusal,
         },
-        "write" => written(form::parse_graph(arguments)?, Writer::new(), Writer::write),
+        "write" => written(form::parse_graph(arguments)?),
+        "writein" => {
+            let (_, graph) = form::parse_room(arguments)?;
+
+            written(graph)
+        }
+        "order" => order(form::parse_graph(arguments)?),
         "builder" => builder(form::parse_events(arguments)?, purr_rnum),
         "writer" => writer(form::parse_events(arguments)?, purr_rnum),
         "pool" => pool(&form::parse_pairs(arguments)?),
@@ -134,13 +141,10 @@ fn invert(mut kind: AtomKind) -> String {
 }
 
 fn targets(kind: &AtomKind) -> String {
-    match kind.targets() {
-        [] => "-".to_string(),
-        targets => joined(targets),
-    }
+    numbers(kind.targets())
 }
 
-pub fn joined<T: ToString>(items: &[T]) -> String {
+fn joined<T: ToString>(items: &[T]) -> String {
     items
         .iter()
         .map(T::to_string)
@@ -216,13 +220,27 @@ pub fn graph_answer(outcome: Result<Vec<Atom>, String>) -> String {
     }
 }
 
-/// The answer for a graph that is walked with the follower, from which `write`
-/// gets the line.
-pub fn written<F: Follower>(graph: Vec<Atom>, mut follower: F, write: fn(F) -> String) -> String {
-    let outcome = caught(|| walk(graph, &mut follower).map(|()| write(follower)));
+fn written(graph: Vec<Atom>) -> String {
+    let mut writer = Writer::new();
 
+    walked(caught(|| walk(graph, &mut writer)), || {
+        text_answer(&writer.write())
+    })
+}
+
+fn order(graph: Vec<Atom>) -> String {
+    let size = graph.len();
+    let mut order = Order::new(&graph);
+
+    walked(caught(|| walk(graph, &mut order)), || {
+        format!("0 {} {}", size, order.text())
+    })
+}
+
+// The answer for a walk, which is `done` if the walk was.
+fn walked(outcome: Result<Result<(), walk::Error>, String>, done: impl FnOnce() -> String) -> String {
     match outcome {
-        Ok(Ok(text)) => text_answer(&text),
+        Ok(Ok(())) => done(),
         Ok(Err(error)) => walk_refusal(error),
         Err(message) => format!("panic {}", message),
     }
@@ -307,5 +325,13 @@ fn pool(pairs: &[(usize, usize)]) -> String {
         }
     }
 
-    joined(&numbers)
+    self::numbers(&numbers)
+}
+
+/// Numbers joined, or `-` for none.
+pub fn numbers<T: ToString>(numbers: &[T]) -> String {
+    match numbers {
+        [] => "-".to_string(),
+        numbers => joined(numbers),
+    }
 }

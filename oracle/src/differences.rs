@@ -2,17 +2,16 @@
 //! OURS column of a list. Each rule says why.
 
 use std::cell::Cell;
-use std::collections::HashMap;
-use std::convert::TryFrom;
 
 use crate::answer;
 use crate::caught::caught;
 use crate::feature::{AtomKind, BondKind, Rnum};
 use crate::form::{self, Event};
 use crate::graph::{Atom, Builder};
+use crate::model::{self, meant_rnum, Pool};
+use crate::order::Order;
 use crate::read;
 use crate::walk::Follower;
-use crate::write::Writer;
 
 /// What is meant instead of purr's answer `rust`, if anything.
 pub fn meant(request: &str, rust: &str) -> Option<String> {
@@ -30,31 +29,24 @@ pub fn meant(request: &str, rust: &str) -> Option<String> {
             read(&text, &plain).map(|ours| answer::in_characters(&text, ours))
         }
         "rewrite" => rewrite(&form::parse_text(arguments)?, rust),
-        "write" if hides_73(rust) => Some(written(form::parse_graph(arguments)?)),
+        "write" => written(&form::parse_graph(arguments)?, rust),
+        "writein" => written_in(arguments, rust),
+        "order" => order(&form::parse_graph(arguments)?, rust),
         "builder" => builder(arguments),
-        "writer" if arguments.contains("73") => {
-            Some(answer::writer(form::parse_events(arguments)?, meant_rnum))
-        }
+        "writer" => writer(arguments),
         "pool" => Some(pool(&form::parse_pairs(arguments)?)),
         _ => None,
     };
 
-    // Rule 3, panics: for `invert`, `pool`, `read` and `builder` it is settled
-    // what comes in a panic's place. Elsewhere the column stays empty.
-    ours.filter(|ours| ours != rust && !ours.starts_with("panic"))
+    // Rule 3, panics: something is meant in each one's place.
+    assert!(ours.iter().all(|ours| !ours.starts_with("panic")));
+
+    ours.filter(|ours| ours != rust)
 }
 
 // Rule 1, ring number 73. purr's conversion from a number makes 73 into R74, a
 // slip in its table: %73 and %74 are one ring number when read, and no line is
 // ever written with %73. Meant is that 73 is 73.
-
-/// The Rnum that is meant for a number; made without purr's table for 73.
-fn meant_rnum(number: u16) -> Rnum {
-    match number {
-        73 => Rnum::R73,
-        _ => Rnum::try_from(number).expect("a ring number is at most 99"),
-    }
-}
 
 fn rnum(text: &str) -> Option<String> {
     text.strip_prefix("%73").map(|_| "rnum 73 3".to_string())
@@ -179,149 +171,70 @@ impl Follower for Counted<'_> {
 }
 
 fn rewrite(text: &str, rust: &str) -> Option<String> {
-    if is_special(text) || hides_73(rust) {
-        graph_of(text).map(|outcome| outcome.map_or_else(|refusal| refusal, written))
+    match graph_of(text)? {
+        Ok(graph) if is_special(text) => Some(model::written(&graph)),
+        Ok(graph) => written(&graph, rust),
+        Err(refusal) if refusal.starts_with("panic") => read(text, &refusal),
+        Err(refusal) => Some(refusal),
+    }
+}
+
+// What is meant for a graph that purr writes as `rust`: where it panics the
+// walk is refused, by 10 or by 11. Wherever purr's answer stands, the walk that
+// is meant has to come to the same.
+fn written(graph: &[Atom], rust: &str) -> Option<String> {
+    let ours = model::written(graph);
+
+    if rust.starts_with("panic") || hides_73(rust) {
+        return Some(ours);
+    }
+
+    assert_eq!(ours, rust, "the model walks as purr does");
+    None
+}
+
+// The same for the order of a walk.
+fn order(graph: &[Atom], rust: &str) -> Option<String> {
+    if !rust.starts_with("panic") {
+        return None;
+    }
+
+    Some(match model::walk(graph, &mut Order::new(graph)) {
+        Ok(()) => unreachable!("purr panics only where a walk is refused"),
+        Err(refusal) => refusal,
+    })
+}
+
+// An output that is too short is refused with the bytes that the line needs;
+// purr has none that is.
+fn written_in(arguments: &str, rust: &str) -> Option<String> {
+    let (room, graph) = form::parse_room(arguments)?;
+    let ours = written(&graph, rust).unwrap_or_else(|| rust.to_string());
+    let bytes: Option<usize> = ours
+        .strip_prefix("0 ")
+        .and_then(|rest| rest.split(' ').next())
+        .and_then(|bytes| bytes.parse().ok());
+
+    Some(match bytes {
+        Some(bytes) if room < bytes => format!("16 {}", bytes),
+        _ => ours,
+    })
+}
+
+// A Writer panics where a join finds no piece and where a pop takes all pieces
+// or more: the event is refused, by 18 or by 19.
+fn writer(arguments: &str) -> Option<String> {
+    let ours = answer::writer(form::parse_events(arguments)?, meant_rnum);
+    let index = match ours.strip_prefix("panic ").and_then(|rest| rest.split(' ').next()) {
+        Some(index) => index,
+        None => return Some(ours),
+    };
+
+    Some(if ours.contains("overpop") {
+        format!("refused {} 19", index)
     } else {
-        None
-    }
-}
-
-fn written(graph: Vec<Atom>) -> String {
-    let renumbering = Renumbering::new(&graph);
-
-    answer::written(graph, renumbering, |renumbering| renumbering.writer.write())
-}
-
-/// Passes a walk on to a Writer, with its own ring numbers. A Follower is not
-/// told between which atoms a join is, so it keeps track of the walk.
-struct Renumbering {
-    writer: Writer,
-    pool: Pool,
-    /// The targets of each atom, in the order in which the walk takes them.
-    targets: Vec<Vec<usize>>,
-    /// How many of them the walk has taken.
-    taken: Vec<usize>,
-    visited: Vec<bool>,
-    path: Vec<usize>,
-}
-
-impl Renumbering {
-    fn new(graph: &[Atom]) -> Self {
-        Self {
-            writer: Writer::new(),
-            pool: Pool::new(),
-            targets: graph
-                .iter()
-                .map(|atom| atom.bonds.iter().map(|bond| bond.tid).collect())
-                .collect(),
-            taken: vec![0; graph.len()],
-            visited: vec![false; graph.len()],
-            path: Vec::new(),
-        }
-    }
-
-    fn enter(&mut self, atom: usize) {
-        self.visited[atom] = true;
-        self.path.push(atom);
-    }
-
-    fn head(&self) -> usize {
-        *self.path.last().expect("the walk begins with a root")
-    }
-
-    fn next_target(&mut self) -> usize {
-        let head = self.head();
-        let target = self.targets[head][self.taken[head]];
-
-        self.taken[head] += 1;
-        target
-    }
-}
-
-impl Follower for Renumbering {
-    fn root(&mut self, root: AtomKind) {
-        // The walk begins each component at its lowest number.
-        let atom = self
-            .visited
-            .iter()
-            .position(|visited| !visited)
-            .expect("a root is an atom not visited");
-
-        self.path.clear();
-        self.enter(atom);
-        self.writer.root(root);
-    }
-
-    fn extend(&mut self, bond_kind: BondKind, atom_kind: AtomKind) {
-        let parent = self.head();
-        let child = self.next_target();
-
-        // The walk does not go back to where it came from.
-        self.targets[child].retain(|&target| target != parent);
-        self.enter(child);
-        self.writer.extend(bond_kind, atom_kind);
-    }
-
-    fn join(&mut self, bond_kind: BondKind, _: Rnum) {
-        let head = self.head();
-        let target = self.next_target();
-        let number = self.pool.hit(head, target).expect("ring number up to 99");
-
-        self.writer.join(bond_kind, meant_rnum(number));
-    }
-
-    fn pop(&mut self, depth: usize) {
-        self.path.truncate(self.path.len() - depth);
-        self.writer.pop(depth);
-    }
-}
-
-/// An independent model of purr's pool of ring numbers, which answers bare
-/// numbers.
-struct Pool {
-    /// Wraps round like purr's, which is compiled without overflow checks.
-    counter: u16,
-    spare: Option<u16>,
-    open: HashMap<(usize, usize), u16>,
-}
-
-impl Pool {
-    fn new() -> Self {
-        Self {
-            counter: 1,
-            spare: None,
-            open: HashMap::new(),
-        }
-    }
-
-    /// The ring number for a join of the pair, or None over 99, where purr
-    /// panics.
-    fn hit(&mut self, left: usize, right: usize) -> Option<u16> {
-        let pair = (left.min(right), left.max(right));
-        // purr takes a number before it knows whether it needs one. A closing
-        // pair throws it away.
-        let fresh = self.spare.take().unwrap_or_else(|| self.count());
-
-        let number = match self.open.remove(&pair) {
-            Some(number) => {
-                self.spare = Some(number);
-                number
-            }
-            None => {
-                self.open.insert(pair, fresh);
-                fresh
-            }
-        };
-
-        Some(number).filter(|&number| number <= 99)
-    }
-
-    fn count(&mut self) -> u16 {
-        let number = self.counter;
-
-        self.counter = number.wrapping_add(1);
-        number
-    }
+        format!("refused {} 18", index)
+    })
 }
 
 // By rules 1 and 3: the numbers as counted, and a refusal for a panic.
@@ -339,7 +252,7 @@ fn pool(pairs: &[(usize, usize)]) -> String {
         }
     }
 
-    answer::joined(&numbers)
+    answer::numbers(&numbers)
 }
 
 // Rule 2, a character that is not ASCII right after @TB or @OH. purr takes the

@@ -289,6 +289,13 @@ pub fn parse_graph(text: &str) -> Option<Vec<Atom>> {
     }
 }
 
+/// How many bytes an output has, and the graph to be written into it.
+pub fn parse_room(text: &str) -> Option<(usize, Vec<Atom>)> {
+    let (room, graph) = text.split_once(' ')?;
+
+    Some((parse_number(room)?, parse_graph(graph)?))
+}
+
 fn parse_atom(text: &str) -> Option<Atom> {
     let mut parts = text.split(' ');
     let kind = parse_kind(parts.next()?)?;

@@ -7,6 +7,8 @@ mod caught;
 mod differences;
 mod form;
 mod make;
+mod model;
+mod order;
 mod random;
 
 // purr's own modules: what the oracle does not use of them is no fault.
@@ -27,11 +29,11 @@ use std::process;
 use std::thread;
 
 const USAGE: &str = "usage: oracle answer [FILE]
-       oracle make [--requests] NAME [ARGUMENT ..]
+       oracle make [--requests] [--as OPERATION] NAME [ARGUMENT ..]
 names: features | atoms SEED COUNT | short ALPHABET MAXLEN | lines SEED COUNT
        damaged SEED COUNT | bytes SEED COUNT | graphs SEED COUNT
        broken SEED COUNT | builder SEED COUNT | writer SEED COUNT
-       pool SEED COUNT";
+       pool SEED COUNT | rooms SEED COUNT";
 
 /// purr's reader calls itself for every atom of a chain, so a long line needs
 /// much more than the usual stack.
@@ -72,14 +74,20 @@ fn run(arguments: &[String]) -> Result<bool, String> {
             answer_all(BufReader::new(input), &mut output)
         }
         ["make", rest @ ..] => {
-            let (options, generator): (Vec<&str>, Vec<&str>) =
-                rest.iter().copied().partition(|&word| word == "--requests");
-            let requests = make::requests(&generator).ok_or(USAGE)?;
+            let (only_requests, rest) = match rest {
+                ["--requests", rest @ ..] => (true, rest),
+                rest => (false, rest),
+            };
+            let requests = match rest {
+                ["--as", operation, generator @ ..] => make::requests_as(operation, generator),
+                generator => make::requests(generator),
+            }
+            .ok_or(USAGE)?;
 
-            if options.is_empty() {
-                print_answers(requests, &mut output)
-            } else {
+            if only_requests {
                 print_requests(requests, &mut output)
+            } else {
+                print_answers(requests, &mut output)
             }
         }
         _ => return Err(USAGE.to_string()),

@@ -8,6 +8,7 @@ mod lines;
 mod rings;
 mod short;
 
+use crate::answer;
 use crate::form;
 use crate::random::Random;
 
@@ -35,6 +36,17 @@ pub fn requests(words: &[&str]) -> Option<Box<dyn Iterator<Item = String>>> {
     }
 }
 
+/// The like with another operation of the same arguments. Those that it cannot
+/// take are left out.
+pub fn requests_as(operation: &str, words: &[&str]) -> Option<Box<dyn Iterator<Item = String>>> {
+    let operation = operation.to_string();
+    let changed = requests(words)?
+        .map(move |request| format!("{} {}", operation, answer::split(&request).1))
+        .filter(|request| answer::answer(request).is_some());
+
+    Some(Box::new(changed))
+}
+
 fn random_request(name: &str) -> Option<fn(&mut Random) -> String> {
     Some(match name {
         "atoms" => atoms::request,
@@ -46,6 +58,7 @@ fn random_request(name: &str) -> Option<fn(&mut Random) -> String> {
         "builder" => events::builder_request,
         "writer" => events::writer_request,
         "pool" => events::pool_request,
+        "rooms" => graphs::room_request,
         _ => return None,
     })
 }

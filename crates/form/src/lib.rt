@@ -1,5 +1,5 @@
 // The plain text form in which requests and answers are compared: numbers, bonds, atom kinds and texts, each printed and
-// parsed. oracle/README.md describes the form.
+// parsed, and events, parsed. oracle/README.md describes the form.
 //
 // A printer lays its bytes into the output that it is lent, from a place on, and answers the place after them. A byte
 // that finds no room is left out, so an output that is filled to its end may be cut short.
@@ -12,10 +12,12 @@
 // number: a plain number.
 // text: any bytes, escaped.
 // bond: a bond's kind.
+// event: an event of a builder or a writer.
 // kind: an atom's kind. symbol, configuration and field: the fields of a bracket atom; organic: the atoms without one.
 pub mod bond;
 pub mod byte;
 mod configuration;
+pub mod event;
 pub mod field;
 pub mod kind;
 pub mod number;

@@ -7,7 +7,6 @@ use native.Mathlib.Omega.{arith}
 use lib.Dec.{ltb, leb}
 use borrow.Author.Tests.{lt-ltb, le-ltb, le-leb, lt-leb}
 use Rattle.feature.specs.Pick.{pick}
-use Rattle.judge.specs.declared.Judged.{Judged}
 use Rattle.judge.specs.declared.Judged.the-variants.{Bad, Holds}
 use Rattle.judge.specs.Judge.{degreeOf, atomStands, bondStands, atomsFrom, bondsFrom}
 

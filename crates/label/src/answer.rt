@@ -3,19 +3,26 @@ ghost use Prim.Native.Nat.{_≤_};
 ghost use lib.ListN.{length};
 use crate::command::Command;
 use form::byte::put;
+use form::byte::put_word;
 use form::number;
 use graph::limits::ATOMS;
 use graph::limits::BONDS;
 use read::Answer;
 use read::read;
-use show::desk;
+use show::desk::DONE;
+use show::desk::Said;
+use show::desk::print_number;
 use show::desk::print_refusal;
-use show::desk::print_refusal_of_one;
-use show::desk::print_refusal_of_two;
-use show::graph::print_graph;
+use show::order::print_order;
+use show::said::of_read;
+use show::said::of_written;
+use show::tables::print_graph;
+use write::order::order;
+use write::write;
 
 // No answer has more bytes than that of the largest graph, 60,428: `0`, a tab, the two counts and a blank after each; for
-// an atom at most 31 for its kind, and one for the `;`; for a bond entry a blank, its kind and at most ten digits.
+// an atom at most 31 for its kind, and one for the `;`; for a bond entry a blank, its kind and at most ten digits. A walk
+// order has at most 32 bytes an atom, and a written line less than either.
 const COUNT_BYTES: usize = 12;
 
 const ATOM_BYTES: usize = 32;
@@ -23,6 +30,9 @@ const ATOM_BYTES: usize = 32;
 const ENTRY_BYTES: usize = 12;
 
 pub const LONGEST: usize = COUNT_BYTES + ATOMS * ATOM_BYTES + BONDS * ENTRY_BYTES;
+
+// Room for the longest written line: 24 bytes an atom and 4 a bond entry.
+const LINE: usize = 24 * ATOMS + 4 * BONDS;
 
 // What the read call says of a text. Of one that was too long for its room, only the length is known.
 fn read_text(text: &[u8], size: usize, atoms: &mut [u32], bonds: &mut [u32]) -> Answer {
@@ -32,41 +42,90 @@ fn read_text(text: &[u8], size: usize, atoms: &mut [u32], bonds: &mut [u32]) -> 
     read(&text[0..size], atoms, bonds)
 }
 
-fn print_done(
+// The graph of n atoms and m bond entries, with these counts.
+fn print_counted(
     out: &mut [u8],
     at: usize,
+    atoms: &[u32],
     n: usize,
-    entries: usize,
+    bonds: &[u32],
+    m: usize,
+) -> usize
+    ensures { λ r. ⌜ r ≤ length (now (out .exit)) ⌝ }
+{
+    let at = print_number(out, at, DONE);
+    let at = number::print(out, at, n);
+    let at = put(out, at, b' ');
+    let at = number::print(out, at, m);
+    let at = put(out, at, b' ');
+    print_graph(out, at, atoms, bonds, n)
+}
+
+// The line that it is written as.
+fn print_rewritten(
+    out: &mut [u8],
+    at: usize,
+    atoms: &[u32],
+    n: usize,
+    bonds: &[u32],
+    m: usize,
+) -> usize
+    ensures { λ r. ⌜ r ≤ length (now (out .exit)) ⌝ }
+{
+    let mut line = [0u8; LINE];
+    let s = of_written(write(atoms, n, bonds, m, &mut line));
+    if s.no != DONE {
+        return print_refusal(out, at, s);
+    }
+    let at = print_number(out, at, DONE);
+    let len = s.first;
+    if LINE < len {
+        return at;
+    }
+    put_word(out, at, &line[0..len])
+}
+
+// The order in which it is walked.
+fn print_walked(
+    out: &mut [u8],
+    at: usize,
+    atoms: &[u32],
+    n: usize,
+    bonds: &[u32],
+    m: usize,
+) -> usize
+    ensures { λ r. ⌜ r ≤ length (now (out .exit)) ⌝ }
+{
+    let mut walked = [0u32; ATOMS];
+    let mut number = [0u32; ATOMS];
+    let mut back = [0u32; ATOMS];
+    let w = order(atoms, n, bonds, m, &mut walked, &mut number, &mut back);
+    let s = of_written(w);
+    if s.no != DONE {
+        return print_refusal(out, at, s);
+    }
+    let at = print_number(out, at, DONE);
+    print_order(out, at, atoms, n, &walked, &number, &back)
+}
+
+// What a command has to say of a text, by what the read call said and the tables that it left.
+fn print_of(
+    out: &mut [u8],
+    at: usize,
+    command: Command,
+    s: Said,
     atoms: &[u32],
     bonds: &[u32],
 ) -> usize
     ensures { λ r. ⌜ r ≤ length (now (out .exit)) ⌝ }
 {
-    let at = desk::print_number(out, at, desk::DONE);
-    let at = number::print(out, at, n);
-    let at = put(out, at, b' ');
-    let at = number::print(out, at, entries);
-    let at = put(out, at, b' ');
-    print_graph(out, at, atoms, bonds, n)
-}
-
-fn print_read(out: &mut [u8], at: usize, answer: Answer, atoms: &[u32], bonds: &[u32]) -> usize
-    ensures { λ r. ⌜ r ≤ length (now (out .exit)) ⌝ }
-{
-    match answer {
-        Answer::Done(n, entries) => print_done(out, at, n, entries, atoms, bonds),
-        Answer::EndOfLine => print_refusal(out, at, desk::END_OF_LINE),
-        Answer::Character(place) => print_refusal_of_one(out, at, desk::CHARACTER, place),
-        Answer::Join(closing, opening) => {
-            print_refusal_of_two(out, at, desk::JOIN, closing as usize, opening as usize)
-        }
-        Answer::Rnum(join) => print_refusal_of_one(out, at, desk::RNUM, join as usize),
-        Answer::Inversion(atom) => print_refusal_of_one(out, at, desk::INVERSION, atom),
-        Answer::TextTooLong(size) => print_refusal_of_one(out, at, desk::TEXT_TOO_LONG, size),
-        Answer::AtomRoom(place) => print_refusal_of_one(out, at, desk::ATOM_ROOM, place),
-        Answer::BondRoom(place) => print_refusal_of_one(out, at, desk::BOND_ROOM, place),
-        Answer::Nesting(place) => print_refusal_of_one(out, at, desk::NESTING, place),
-        Answer::NoAtom => print_refusal(out, at, desk::NO_ATOM),
+    if s.no != DONE {
+        return print_refusal(out, at, s);
+    }
+    match command {
+        Command::Rewrite => print_rewritten(out, at, atoms, s.first, bonds, s.second),
+        Command::Order => print_walked(out, at, atoms, s.first, bonds, s.second),
+        Command::Graph => print_counted(out, at, atoms, s.first, bonds, s.second),
     }
 }
 
@@ -83,10 +142,6 @@ pub fn print_answer(
 ) -> usize
     ensures { λ r. ⌜ r ≤ length (now (out .exit)) ⌝ }
 {
-    match command {
-        Command::Graph => {
-            let answer = read_text(text, size, atoms, bonds);
-            print_read(out, at, answer, atoms, bonds)
-        }
-    }
+    let s = of_read(read_text(text, size, atoms, bonds));
+    print_of(out, at, command, s, atoms, bonds)
 }

@@ -3,6 +3,8 @@ use check::same;
 use libc::STDOUT_FILENO;
 
 pub enum Command {
+    Rewrite,
+    Order,
     Graph,
 }
 
@@ -12,20 +14,30 @@ pub enum Named {
 }
 
 pub fn look_up(word: &[u8]) -> Named {
+    if same(word, b"rewrite") {
+        return Named::Known(Command::Rewrite);
+    }
+    if same(word, b"order") {
+        return Named::Known(Command::Order);
+    }
     if same(word, b"graph") {
         return Named::Known(Command::Graph);
     }
     Named::Unknown
 }
 
+fn print_line(line: &[u8]) {
+    io::write_all(STDOUT_FILENO, line);
+    io::write_all(STDOUT_FILENO, b"\n");
+}
+
 pub fn print_usage() {
-    io::write_all(STDOUT_FILENO, b"usage: label [graph] <LINES\n");
-    io::write_all(
-        STDOUT_FILENO,
-        b"Each line is a SMILES text, and after a blank or a tab a name.\n",
+    print_line(b"usage: label [rewrite|order|graph] <LINES");
+    print_line(b"Each line is a SMILES text, and after a blank or a tab a name.");
+    print_line(b"Each is answered by NUMBER, a tab, the answer or the refusal, a tab, the name:");
+    print_line(b"  rewrite  the line read and written; this is what no word means, too");
+    print_line(
+        b"  order    for each atom in walk order: its number, its number in walk order, its text",
     );
-    io::write_all(
-        STDOUT_FILENO,
-        b"  graph  for each line: NUMBER, a tab, the graph or the refusal, a tab, the name\n",
-    );
+    print_line(b"  graph    the atoms, each with its bonds");
 }

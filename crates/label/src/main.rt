@@ -6,7 +6,10 @@
 // The number is the desk's. Input, lines and names may be of any length: the memory that is needed does not grow.
 //
 // The first argument is a command:
-//     graph: the graph that the text stands for, or why it stands for none. This is what no argument means, too.
+//     rewrite: the line that the text is written as, once read, or why there is none. This is what no argument means, too.
+//     order: the order in which its atoms are then written, or the same refusal. For each, separated by `:`, its number in
+//         the text, its number in that order, and its text as written; a `;` between them.
+//     graph: the graph that the text stands for, or why it stands for none.
 // A command more is a variant and a word in `command`, and an arm in `answer`.
 //
 // command: the commands.
@@ -25,7 +28,7 @@ use command::Named;
 
 fn main() {
     if os::arg_count() < 2 {
-        tray::answer_all(Command::Graph);
+        tray::answer_all(Command::Rewrite);
         return;
     }
     let mut word = io::buffer();

@@ -1,18 +1,15 @@
 -- What a pool answers, with the words it leaves, from what each step of the code found. Assumes nothing.
 use Prim.Native.Nat.{ℕ, zero, suc, _+_, _-_, _*_, _≤_, _<_}
 use mathlib.Core.Path.{_≡_, refl, sym, ap, _∙_}
-use mathlib.Core.Bool.{Bool, true, false}
+use mathlib.Core.Bool.{true, false}
 use mathlib.Core.List.{List}
-use native.Mathlib.Numerals.{add-one}
 use native.Mathlib.Omega.{arith}
 use lib.ListN.{getD, set}
 use lib.Dec.{eqb}
 use borrow.Author.Tests.{eq-eqb, ne-eqb, lt-ltb, le-ltb}
-use Rattle.feature.specs.Pick.{pick}
 use Rattle.pool.specs.declared.Pool.{Pool}
-use Rattle.pool.specs.declared.Given.{Given}
 use Rattle.pool.specs.declared.Given.the-variants.{Number, Full}
-use Rattle.pool.specs.Pairs.{highest, slotWords, pool, opens, numberOf, slot, counterOf, nextOf, hits, openOf, closeOf, calledOf, pairOf, hitOf}
+use Rattle.pool.specs.Pairs.{highest, slotWords, pool, opens, numberOf, slot, counterOf, nextOf, hits, openOf, closeOf, calledOf, pairOf}
 
 -- ---- the search, which goes down
 pub number-some : (pairs : List ℕ) (lo hi n : ℕ) → 0 < n → opens pairs n lo hi ≡ true → numberOf pairs lo hi n ≡ n

@@ -3,20 +3,14 @@
 //
 // slices: what is asked of a slice of bytes.
 // tally: what came of the lines so far.
-// answer: our answer to a request. texts, kinds, bonds, rings, lines and events: the requests by what they are about.
+// answer: our answer to a request, which ask_read or ask_write has.
 // line: a list's line judged.
 // list: a list read block by block.
 mod answer;
-mod bonds;
-mod events;
-mod kinds;
 mod line;
-mod lines;
 mod list;
-mod rings;
 mod slices;
 mod tally;
-mod texts;
 
 // Replays the list that an argument names, or says why it cannot.
 fn replay_argument(i: usize) {

@@ -1,5 +1,4 @@
-// What the desk says of a line: a number, a tab and, where it refuses, the refusal's name and the numbers that it
-// carries, each after a blank.
+// What the desk says: a number, and what it carries. Where it refuses, the number has a name.
 ghost use Prim.Native.Nat.{_≤_};
 ghost use lib.ListN.{length};
 use form::byte::put;
@@ -17,7 +16,19 @@ pub const JOIN: u32 = 3;
 
 pub const RNUM: u32 = 4;
 
+pub const UNKNOWN_TARGET: u32 = 5;
+
+pub const LOOP: u32 = 6;
+
+pub const HALF_BOND: u32 = 7;
+
+pub const DUPLICATE_BOND: u32 = 8;
+
+pub const INCOMPATIBLE_BOND: u32 = 9;
+
 pub const INVERSION: u32 = 10;
+
+pub const RING_NUMBERS: u32 = 11;
 
 pub const TEXT_TOO_LONG: u32 = 12;
 
@@ -27,7 +38,49 @@ pub const BOND_ROOM: u32 = 14;
 
 pub const NESTING: u32 = 15;
 
+pub const OUT_ROOM: u32 = 16;
+
+pub const BAD_TABLE: u32 = 17;
+
 pub const NO_ATOM: u32 = 18;
+
+pub const OVERPOP: u32 = 19;
+
+// A number of the desk's and what it carries.
+pub struct Said {
+    pub no: u32,
+    // How many numbers are carried; those that are not are 0.
+    pub carries: u32,
+    pub first: usize,
+    pub second: usize,
+}
+
+pub fn alone(no: u32) -> Said {
+    Said {
+        no,
+        carries: 0,
+        first: 0,
+        second: 0,
+    }
+}
+
+pub fn with_one(no: u32, first: usize) -> Said {
+    Said {
+        no,
+        carries: 1,
+        first,
+        second: 0,
+    }
+}
+
+pub fn with_two(no: u32, first: usize, second: usize) -> Said {
+    Said {
+        no,
+        carries: 2,
+        first,
+        second,
+    }
+}
 
 // The name of a refusal, `?` for a number that is none.
 fn print_name(out: &mut [u8], at: usize, no: u32) -> usize
@@ -38,12 +91,21 @@ fn print_name(out: &mut [u8], at: usize, no: u32) -> usize
         CHARACTER => put_word(out, at, b"Character"),
         JOIN => put_word(out, at, b"Join"),
         RNUM => put_word(out, at, b"Rnum"),
+        UNKNOWN_TARGET => put_word(out, at, b"UnknownTarget"),
+        LOOP => put_word(out, at, b"Loop"),
+        HALF_BOND => put_word(out, at, b"HalfBond"),
+        DUPLICATE_BOND => put_word(out, at, b"DuplicateBond"),
+        INCOMPATIBLE_BOND => put_word(out, at, b"IncompatibleBond"),
         INVERSION => put_word(out, at, b"Inversion"),
+        RING_NUMBERS => put_word(out, at, b"RingNumbers"),
         TEXT_TOO_LONG => put_word(out, at, b"TextTooLong"),
         ATOM_ROOM => put_word(out, at, b"AtomRoom"),
         BOND_ROOM => put_word(out, at, b"BondRoom"),
         NESTING => put_word(out, at, b"Nesting"),
+        OUT_ROOM => put_word(out, at, b"OutRoom"),
+        BAD_TABLE => put_word(out, at, b"BadTable"),
         NO_ATOM => put_word(out, at, b"NoAtom"),
+        OVERPOP => put_word(out, at, b"Overpop"),
         _ => put(out, at, b'?'),
     }
 }
@@ -56,34 +118,36 @@ pub fn print_number(out: &mut [u8], at: usize, no: u32) -> usize
     put(out, at, b'\t')
 }
 
-// A refusal that carries nothing.
-pub fn print_refusal(out: &mut [u8], at: usize, no: u32) -> usize
+// What is carried, each number after a blank.
+fn print_carried(out: &mut [u8], at: usize, s: Said) -> usize
+    requires { ⌜ at ≤ length (now out) ⌝ }
     ensures { λ r. ⌜ r ≤ length (now (out .exit)) ⌝ }
 {
-    let at = print_number(out, at, no);
-    print_name(out, at, no)
+    if s.carries == 0 {
+        return at;
+    }
+    let at = put(out, at, b' ');
+    let at = number::print(out, at, s.first);
+    if s.carries == 1 {
+        return at;
+    }
+    let at = put(out, at, b' ');
+    number::print(out, at, s.second)
 }
 
-// A refusal that carries one number.
-pub fn print_refusal_of_one(out: &mut [u8], at: usize, no: u32, carried: usize) -> usize
+// A refusal: its number, a tab, its name and what it carries.
+pub fn print_refusal(out: &mut [u8], at: usize, s: Said) -> usize
     ensures { λ r. ⌜ r ≤ length (now (out .exit)) ⌝ }
 {
-    let at = print_refusal(out, at, no);
-    let at = put(out, at, b' ');
-    number::print(out, at, carried)
+    let at = print_number(out, at, s.no);
+    let at = print_name(out, at, s.no);
+    print_carried(out, at, s)
 }
 
-// A refusal that carries two numbers.
-pub fn print_refusal_of_two(
-    out: &mut [u8],
-    at: usize,
-    no: u32,
-    first: usize,
-    second: usize,
-) -> usize
+// The number and what it carries, without a name.
+pub fn print_said(out: &mut [u8], at: usize, s: Said) -> usize
     ensures { λ r. ⌜ r ≤ length (now (out .exit)) ⌝ }
 {
-    let at = print_refusal_of_one(out, at, no, first);
-    let at = put(out, at, b' ');
-    number::print(out, at, second)
+    let at = number::print(out, at, s.no as usize);
+    print_carried(out, at, s)
 }

@@ -17,10 +17,10 @@ use Rattle.pool.specs.declared.Given.{Given}
 use Rattle.pool.specs.declared.Given.the-variants.{Number, Full}
 use Rattle.writer.specs.Line.{Root, Extend, Join}
 use Rattle.ways.specs.declared.table.Bond.{Bond}
-use Rattle.ways.specs.declared.scan.Back.{Back}
-use Rattle.ways.specs.declared.scan.Back.the-variants.{Found, Twice, Fixed}
-use Rattle.ways.specs.declared.scan.Way.{Way}
-use Rattle.ways.specs.declared.scan.Way.the-variants.{Enters, Refuses}
+use Rattle.ways.specs.declared.entry.Back.{Back}
+use Rattle.ways.specs.declared.entry.Back.the-variants.{Found, Twice, Fixed}
+use Rattle.ways.specs.declared.entry.Way.{Way}
+use Rattle.ways.specs.declared.entry.Way.the-variants.{Enters, Refuses}
 use Rattle.ways.specs.Graph.{Graph, degreeAt, bondIn, bondOf}
 use Rattle.ways.specs.Ways.{even, scanIn, scanOf, judgedBack, wayOf}
 use Rattle.walk.specs.declared.walker.Walker.{Walker}

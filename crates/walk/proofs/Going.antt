@@ -2,18 +2,14 @@
 use Prim.Native.Nat.{ℕ, zero, suc, _+_, _-_, _*_, _≤_, _<_}
 use mathlib.Core.Path.{_≡_, refl, _∙_, ap, sym, subst}
 use mathlib.Core.Logic.{_≢_}
-use mathlib.Core.List.{List, [], _∷_, _++_}
-use mathlib.Core.Bool.{Bool, true, false}
+use mathlib.Core.List.{List, [], _++_}
 use native.Mathlib.Omega.{arith}
-use lib.Dec.{eqb}
 use borrow.Author.Tests.{eq-eqb, ne-eqb}
-use Rattle.feature.specs.Pick.{pick}
-use Rattle.writer.specs.declared.Writer.{Writer}
 use Rattle.writer.specs.Line.{Event}
 use Rattle.writer.specs.Tables.{Spoken, spoken, writer, sayAll}
 use Rattle.ways.specs.Graph.{Graph}
 use Rattle.walk.specs.declared.walker.Walker.{Walker}
-use Rattle.walk.specs.Walk.{Walk, walk, startWalker, Turn, turnOf, stepOf, walkTo, eventsOf, turnsOf, Did, Near, Onward, Grows}
+use Rattle.walk.specs.Walk.{Walk, walk, startWalker, Turn, turnOf, stepOf, walkTo, eventsOf, turnsOf, Did, Near, Grows}
 use Rattle.walk.proofs.Moves.{say-append}
 
 -- all of a walk is t turns from w₀ on, told to s₀; n of them are left from w on, told to s

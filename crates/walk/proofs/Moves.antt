@@ -1,31 +1,24 @@
 -- Each way through a turn, on plain values: what the code's calls found is what the definition says. Assumes nothing.
-use Prim.Native.Nat.{ℕ, zero, suc, _+_, _-_, _≤_, _<_}
+use Prim.Native.Nat.{ℕ, _+_, _-_, _<_}
 use mathlib.Core.Path.{_≡_, refl, _∙_, ap, sym, subst}
 use mathlib.Core.Logic.{_≢_}
 use mathlib.Core.List.{List, [], _∷_, _++_}
-use mathlib.Core.Bool.{Bool, true, false}
 use native.Mathlib.Omega.{arith}
-use lib.ListN.{getD, set}
-use lib.Dec.{ltb, leb, eqb}
-use borrow.Author.Tests.{le-leb, lt-leb, eq-eqb, ne-eqb}
-use Rattle.feature.specs.Pick.{pick}
-use Rattle.feature.specs.declared.atom_kind.AtomKind.{AtomKind}
+use lib.ListN.{getD}
+use borrow.Author.Tests.{eq-eqb, ne-eqb}
 use Rattle.feature.specs.declared.bond_kind.BondKind.{BondKind}
 use Rattle.pool.specs.declared.Pool.{Pool}
 use Rattle.pool.specs.declared.Given.{Given}
 use Rattle.pool.specs.declared.Given.the-variants.{Number, Full}
 use Rattle.pool.specs.Pairs.{hits, hitOf}
 use Rattle.writer.specs.declared.Writer.{Writer}
-use Rattle.writer.specs.Line.{Event, Root, Extend, Join, Pop}
+use Rattle.writer.specs.Line.{Event, Join, Pop}
 use Rattle.writer.specs.Tables as writer
-use Rattle.writer.specs.Tables.{Spoken, spoken, sayT, sayAll}
+use Rattle.writer.specs.Tables.{Spoken, sayT, sayAll}
 use Rattle.ways.specs.declared.table.Bond.{Bond}
-use Rattle.ways.specs.declared.scan.Way.{Way}
-use Rattle.ways.specs.declared.scan.Way.the-variants.{Enters, Refuses}
-use Rattle.ways.specs.Graph.{Graph, kindAt, degreeAt, bondIn, bondOf}
-use Rattle.ways.specs.Ways.{saidAs, wayOf}
+use Rattle.ways.specs.Graph.{bondIn}
 use Rattle.walk.specs.declared.walker.Walker.{Walker}
-use Rattle.walk.specs.Walk.{Walk, walk, Turn, turn, quiet, refuse, refusedAs, passed, standingAt, backAt, atEnd, ringed, moved, pooled, metAt, tookAt, popsOf, popsThen, leftIn, rootOf, leaveOf, numberedOf, ringOf, enteredOf, enterOf, bondTurn, entryOf, atomOf, turnOf, unknownTarget, loop, ringNumbers, far, Did, Onward, Grows}
+use Rattle.walk.specs.Walk.{Walk, walk, Turn, turn, quiet, refusedAs, passed, standingAt, backAt, atEnd, ringed, popsOf, popsThen, leftIn, numberedOf, ringOf, ringNumbers, far, Did, Onward, Grows}
 
 -- ---- how far
 pub onward-as : {z y r : Walker} → r ≡ y → Onward z y → Onward z r

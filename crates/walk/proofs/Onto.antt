@@ -1,24 +1,22 @@
 -- The ways through a turn that meet an atom, or pass a bond on to what is done with it. Assumes nothing.
 use Prim.Native.Nat.{ℕ, _+_, _-_, _≤_, _<_}
-use mathlib.Core.Path.{_≡_, refl, _∙_, ap, sym, subst}
+use mathlib.Core.Path.{_≡_, refl, _∙_, ap, sym}
 use mathlib.Core.Logic.{_≢_}
-use mathlib.Core.List.{List, [], _∷_, _++_}
-use mathlib.Core.Bool.{Bool, true, false}
+use mathlib.Core.List.{List}
+use mathlib.Core.Bool.{true, false}
 use lib.ListN.{getD, set}
-use lib.Dec.{ltb, leb, eqb}
 use borrow.Author.Tests.{le-leb, lt-leb, eq-eqb, ne-eqb}
-use Rattle.feature.specs.Pick.{pick}
 use Rattle.feature.specs.declared.atom_kind.AtomKind.{AtomKind}
 use Rattle.feature.specs.declared.bond_kind.BondKind.{BondKind}
-use Rattle.writer.specs.Line.{Event, Root, Extend, Join, Pop}
-use Rattle.writer.specs.Tables.{Spoken, spoken, sayT, sayAll}
+use Rattle.writer.specs.Line.{Root, Extend}
+use Rattle.writer.specs.Tables.{Spoken, sayT, sayAll}
 use Rattle.ways.specs.declared.table.Bond.{Bond}
-use Rattle.ways.specs.declared.scan.Way.{Way}
-use Rattle.ways.specs.declared.scan.Way.the-variants.{Enters, Refuses}
-use Rattle.ways.specs.Graph.{Graph, graph, kindIn, kindAt, degreeIn, degreeAt, bondIn, bondOf}
+use Rattle.ways.specs.declared.entry.Way.{Way}
+use Rattle.ways.specs.declared.entry.Way.the-variants.{Enters, Refuses}
+use Rattle.ways.specs.Graph.{Graph, kindAt, degreeAt, bondOf}
 use Rattle.ways.specs.Ways.{saidAs, wayOf}
 use Rattle.walk.specs.declared.walker.Walker.{Walker}
-use Rattle.walk.specs.Walk.{Walk, walk, Turn, turn, quiet, refuse, refusedAs, passed, standingAt, moved, metAt, tookAt, popsOf, leftIn, rootOf, leaveOf, ringOf, enteredOf, enterOf, bondTurn, entryOf, atomOf, turnOf, unknownTarget, loop, Did}
+use Rattle.walk.specs.Walk.{Walk, walk, turn, refusedAs, passed, standingAt, metAt, tookAt, popsOf, leftIn, rootOf, ringOf, enteredOf, enterOf, bondTurn, entryOf, atomOf, turnOf, unknownTarget, loop, Did}
 use Rattle.walk.proofs.Moves.{did-as, did-quiet, say-one, say-then}
 
 -- what marking an atom leaves

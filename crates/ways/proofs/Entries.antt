@@ -1,6 +1,6 @@
 -- A scan of a new atom's entries, one entry at a time. Assumes nothing.
 use Prim.Native.Nat.{ℕ, zero, suc, _-_, _<_}
-use mathlib.Core.Path.{_≡_, refl, _∙_, ap, sym}
+use mathlib.Core.Path.{_≡_, refl, _∙_, sym}
 use mathlib.Core.Logic.{_≢_}
 use mathlib.Core.List.{List}
 use mathlib.Core.Bool.{Bool, true, false}
@@ -9,8 +9,8 @@ use lib.Dec.{eqb}
 use borrow.Author.Tests.{eq-eqb, ne-eqb}
 use Rattle.feature.specs.Pick.{pick, both}
 use Rattle.ways.specs.declared.table.Bond.{Bond}
-use Rattle.ways.specs.declared.scan.Back.{Back}
-use Rattle.ways.specs.declared.scan.Back.the-variants.{Found, Twice, Fixed}
+use Rattle.ways.specs.declared.entry.Back.{Back}
+use Rattle.ways.specs.declared.entry.Back.the-variants.{Found, Twice, Fixed}
 use Rattle.ways.specs.Graph.{bondIn}
 use Rattle.ways.specs.Ways.{even, scanIn}
 

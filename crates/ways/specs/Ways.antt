@@ -12,10 +12,10 @@ use Rattle.feature.specs.declared.atom_kind.AtomKind.{AtomKind}
 use Rattle.feature.specs.declared.atom_kind.Inverted.{Inverted}
 use Rattle.feature.specs.declared.atom_kind.Inverted.the-variants as inverted
 use Rattle.feature.specs.declared.bond_kind.BondKind.{BondKind}
-use Rattle.ways.specs.declared.scan.Back.{Back}
-use Rattle.ways.specs.declared.scan.Back.the-variants.{Found, Twice, Fixed}
-use Rattle.ways.specs.declared.scan.Way.{Way}
-use Rattle.ways.specs.declared.scan.Way.the-variants.{Enters, Refuses}
+use Rattle.ways.specs.declared.entry.Back.{Back}
+use Rattle.ways.specs.declared.entry.Back.the-variants.{Found, Twice, Fixed}
+use Rattle.ways.specs.declared.entry.Way.{Way}
+use Rattle.ways.specs.declared.entry.Way.the-variants.{Enters, Refuses}
 use Rattle.ways.specs.Graph.{Graph, kindAt, degreeAt, bondIn, bondOf}
 
 -- the desk's numbers of the refusals

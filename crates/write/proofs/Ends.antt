@@ -1,20 +1,20 @@
 -- The end of a walk: what the tables of its writer hold is the line that it said. Assumes nothing.
-use Prim.Native.Nat.{ℕ, zero, suc, _+_, _-_, _*_, _≤_, _<_}
+use Prim.Native.Nat.{ℕ, zero, suc, _+_, _-_, _≤_, _<_}
 use mathlib.Core.Path.{_≡_, refl, _∙_, ap, sym, subst}
 use mathlib.Core.Logic.{_≢_}
-use mathlib.Core.List.{List, [], _∷_, _++_}
+use mathlib.Core.List.{List, [], _++_}
 use mathlib.Core.Bool.{Bool, true, false}
 use native.Mathlib.Omega.{arith}
 use native.Mathlib.Nat.{zero-add}
-use lib.ListN.{length, take, drop, replicate, length-replicate}
+use lib.ListN.{length, drop, length-replicate}
 use lib.Seq.{sets, sets-eq, length-sets}
 use lib.Dec.{ltb, eqb}
-use borrow.Author.Tests.{lt-ltb, le-ltb, eq-eqb, ne-eqb, ltb-true, ltb-false, eqb-true, eqb-false}
+use borrow.Author.Tests.{lt-ltb, le-ltb, eq-eqb, ne-eqb, ltb-false}
 use Rattle.feature.specs.Pick.{pick}
 use Rattle.graph.specs.Limits.{atomLimit, bondLimit, lesserOf}
 use Rattle.build.specs.Build.{startsOf}
 use Rattle.writer.specs.declared.Writer.{Writer}
-use Rattle.writer.specs.Line.{Event, lineOf, writeEvents}
+use Rattle.writer.specs.Line.{Event, writeEvents}
 use Rattle.writer.specs.Tables.{Spoken, spoken, writer, sayAll, pieceRoom}
 use Rattle.writer.specs.Pieces.{Holds}
 use Rattle.writer.proofs.Pieces.{holds-all, holds-none}
@@ -23,7 +23,7 @@ use Rattle.walk.specs.declared.walker.Walker.{Walker}
 use Rattle.walk.specs.Walk.{Walk, walk, startWalker, walkTo, eventsOf, turnsOf}
 use Rattle.write.specs.declared.answer.Written.{Written}
 use Rattle.write.specs.declared.answer.Written.the-variants.{Done, OutRoom}
-use Rattle.write.specs.Write.{zeros, pairWords, graphOf, startIn, walkIn, walkOf, saidIn, saidOf, lineSaid, refusalOf, Left, left, refusing, putLine, ended, concluded, graphWritten}
+use Rattle.write.specs.Write.{zeros, pairWords, graphOf, startIn, walkIn, saidIn, saidOf, lineSaid, refusalOf, Left, left, refusing, putLine, ended, concluded, graphWritten}
 use Rattle.write.specs.Order as made
 
 -- ---- each way out

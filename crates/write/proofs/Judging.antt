@@ -1,13 +1,10 @@
 -- The tests before a walk, in their order, for the write call and the walk order. Assumes nothing.
 use Prim.Native.Nat.{ℕ, _+_, _/_, _≤_, _<_}
-use mathlib.Core.Path.{_≡_, refl, _∙_, ap, sym}
+use mathlib.Core.Path.{_≡_, _∙_, ap}
 use mathlib.Core.List.{List}
-use mathlib.Core.Bool.{Bool, true, false}
 use native.Mathlib.Omega.{arith}
 use lib.ListN.{length}
-use lib.Dec.{ltb}
 use borrow.Author.Tests.{lt-ltb, le-ltb}
-use Rattle.feature.specs.Pick.{pick}
 use Rattle.record.specs.Words.{atomWords, bondWords}
 use Rattle.graph.specs.Limits.{RoomOf, atomLimit, bondLimit, lesserOf}
 use Rattle.judge.specs.Judge.{badRecord}

@@ -3,3 +3,4 @@ pub mod Tables
 pub mod Ends
 pub mod Judging
 pub mod Calls
+pub mod Said

@@ -1,5 +1,6 @@
 //! Random graphs: sound ones, and ones with something broken.
 
+use crate::answer;
 use crate::make::{atoms, rings};
 use crate::random::Random;
 
@@ -19,6 +20,32 @@ pub fn broken_request(random: &mut Random) -> String {
     }
 
     format!("write {}", sketch.text())
+}
+
+/// A graph, sound or broken, and an output around the length of its line.
+pub fn room_request(random: &mut Random) -> String {
+    let request = if random.one_in(4) {
+        broken_request(random)
+    } else {
+        request(random)
+    };
+    let graph = &request["write ".len()..];
+    let line = answer::answer(&request).unwrap_or_default();
+    let length = line
+        .strip_prefix("0 ")
+        .and_then(|rest| rest.split(' ').next())
+        .and_then(|bytes| bytes.parse().ok())
+        .unwrap_or(40);
+    let room = match random.below(6) {
+        0 => 0,
+        1 => length.max(1) - 1,
+        2 => length,
+        3 => length + 1,
+        4 => random.below(length + 1),
+        _ => random.below(33_793),
+    };
+
+    format!("writein {} {}", room, graph)
 }
 
 /// A graph in the words of the form.

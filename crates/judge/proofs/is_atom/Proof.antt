@@ -1,35 +1,25 @@
-use mathlib.Core.Path.{refl}
-use borrow.Author.Tests.{lt-ltb, le-ltb, lt-leb, le-leb, eq-eqb, ne-eqb}
+-- By what the record says.
 use Rattle.judge.specs.Judge.{atomStands, isHeld}
 use borrow.Author.Needs.{needs}
 use Rattle.judge.proofs.is_atom.Statement.{statement}
 use Rattle.judge.proofs.is_atom.Tie as tie
-use Rattle.judge.proofs.is_atom.Reads as reads
-use Rattle.judge.proofs.is_atom.Lts as lts
-use Rattle.record.proofs.load.Reads as load-reads
 
--- src/lib.rt:24:23
 mul-load : tie.Need-mul-load
 mul-load c = search needs
 
--- src/lib.rt:24:11
 load-requires : tie.Need-load-requires
 load-requires c κs = search needs
 
--- src/lib.rt:25:28
 enum-told : tie.Need-enum-told
 enum-told c = search needs
 
--- src/lib.rt:26:24
 enum-told-2 : tie.Need-enum-told-2
 enum-told-2 c = search needs
 
--- src/lib.rt:20:1
 returns : tie.Need-returns
 unfolding atomStands isHeld
 returns c = simp (← c .before .before .load .ensures, c .enum-told .given .1)
 
--- src/lib.rt:20:1
 returns-2 : tie.Need-returns-2
 unfolding atomStands isHeld
 returns-2 c = simp (← c .before .before .load .ensures, c .enum-told2 .given .1)

@@ -1,40 +1,28 @@
-use mathlib.Core.Path.{refl}
-use borrow.Author.Tests.{lt-ltb, le-ltb, lt-leb, le-leb, eq-eqb, ne-eqb}
+-- The atoms first, then the entries.
 use Rattle.judge.specs.Judge.{badRecord, afterAtoms}
 use borrow.Author.Needs.{needs}
 use Rattle.judge.proofs.judge.Statement.{statement}
 use Rattle.judge.proofs.judge.Tie as tie
-use Rattle.judge.proofs.judge.Reads as reads
-use Rattle.judge.proofs.judge.Lts as lts
-use Rattle.judge.proofs.judge_atoms.Reads as judge-atoms-reads
-use Rattle.judge.proofs.judge_bonds.Reads as judge-bonds-reads
 
--- src/lib.rt:84:11
 judge-atoms-requires : tie.Need-judge-atoms-requires
 judge-atoms-requires c κs = search needs
 
--- src/lib.rt:85:21
 enum-known-a : tie.Need-enum-known-a
 enum-known-a c = search needs
 
--- src/lib.rt:86:23
 enum-known-held : tie.Need-enum-known-held
 enum-known-held c = search needs
 
--- src/lib.rt:86:36
 judge-bonds-requires : tie.Need-judge-bonds-requires
 judge-bonds-requires c κs = search needs
 
--- src/lib.rt:86:32
 add-result : tie.Need-add-result
 add-result c = search needs
 
--- src/lib.rt:80:1
 returns : tie.Need-returns
 unfolding badRecord afterAtoms
 returns c = simp (← c .before .before .before .judge-atoms .ensures, c .before .a .given .1)
 
--- src/lib.rt:80:1
 returns-2 : tie.Need-returns-2
 unfolding badRecord afterAtoms
 returns-2 c = simp (← c .before .before .before .before .judge-atoms .ensures, c .before .before .held .given .1, ← c .judge-bonds .ensures .0)

@@ -1,5 +1,5 @@
 -- The invariant: judging what is left comes to judging all.
-use Prim.Native.Nat.{_+_, _-_, _≤_}
+use Prim.Native.Nat.{_-_, _≤_}
 use mathlib.Core.Path.{_≡_, _∙_, sym}
 use borrow.Author.Needs.{needs}
 use borrow.Author.Tests.{not-true, not-false}
@@ -7,10 +7,6 @@ use Rattle.judge.specs.Judge.{atomsFrom}
 use Rattle.judge.proofs.Records.{beyond, no-atom, atom-on, atoms-end, atoms-start}
 use Rattle.judge.proofs.judge_atoms.Statement.{statement}
 use Rattle.judge.proofs.judge_atoms.Tie as tie
-use Rattle.judge.proofs.judge_atoms.Reads as reads
-use Rattle.judge.proofs.judge_atoms.Lts as lts
-use Rattle.judge.proofs.is_atom.Reads as is-atom-reads
-use Rattle.record.proofs.look.Reads as look-reads
 
 abbrev Inv-loop : tie.InvT-loop
 Inv-loop atoms n m held₀ a₀ held a =
@@ -20,59 +16,45 @@ abbrev μ-loop : tie.MeasureT-loop
 μ-loop atoms n m held₀ a₀ held a =
     n - a
 
--- src/lib.rt:47:5
 loop-holds : tie.Need-loop-holds Inv-loop μ-loop
 loop-holds c = (atoms-start _ _ _, search needs, search needs)
 
--- src/lib.rt:48:34
 mul-look : tie.Need-mul-look Inv-loop μ-loop
 mul-look c = search needs
 
--- src/lib.rt:48:34
 add-look : tie.Need-add-look Inv-loop μ-loop
 add-look c = search needs
 
--- src/lib.rt:48:22
 look-requires : tie.Need-look-requires Inv-loop μ-loop
 look-requires c κs = search needs
 
--- src/lib.rt:48:22
 cast-degree : tie.Need-cast-degree Inv-loop μ-loop
 cast-degree c = search needs
 
--- src/lib.rt:49:12
 sub-if1 : tie.Need-sub-if1 Inv-loop μ-loop
 sub-if1 c = search needs
 
--- src/lib.rt:50:13
 returns : tie.Need-returns Inv-loop μ-loop
 returns c = sym (beyond _ _ _ _ _ _ (c .before .before .loop-test .taken) (c .before .look .ensures) (c .if1 .taken)) ∙ c .before .before .before .loop .inv .0
 
--- src/lib.rt:52:13
 is-atom-requires : tie.Need-is-atom-requires Inv-loop μ-loop
 is-atom-requires c κs = search needs
 
--- src/lib.rt:53:13
 returns-2 : tie.Need-returns-2 Inv-loop μ-loop
 returns-2 c = sym (no-atom _ _ _ _ _ _ _ (c .before .before .before .before .loop-test .taken) (c .before .before .before .look .ensures) (search needs) (c .before .is-atom .ensures) (not-true _ (c .if2 .taken))) ∙ c .before .before .before .before .before .loop .inv .0
 
--- src/lib.rt:55:9
 add-held : tie.Need-add-held Inv-loop μ-loop
 add-held c = search needs
 
--- src/lib.rt:56:9
 add-a : tie.Need-add-a Inv-loop μ-loop
 add-a c = search needs
 
--- src/lib.rt:47:5
 loop-less : tie.Need-loop-less Inv-loop μ-loop
 loop-less c = search needs
 
--- src/lib.rt:47:5
 loop-again : tie.Need-loop-again Inv-loop μ-loop
 loop-again c = (sym (atom-on _ _ _ _ _ _ _ (c .before .before .before .before .loop-test .taken) (c .before .before .before .look .ensures) (search needs) (c .before .is-atom .ensures) (not-false _ (c .if2 .left))) ∙ c .before .before .before .before .before .loop .inv .0, search needs, search needs)
 
--- src/lib.rt:41:1
 returns-3 : tie.Need-returns-3 Inv-loop μ-loop
 returns-3 c = atoms-end _ _ _ _ _ (search needs) ∙ c .before .loop .inv .0
 

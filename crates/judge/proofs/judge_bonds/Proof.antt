@@ -1,5 +1,5 @@
 -- The invariant: judging what is left comes to judging all.
-use Prim.Native.Nat.{_+_, _-_, _≤_}
+use Prim.Native.Nat.{_-_, _≤_}
 use mathlib.Core.Path.{_≡_, _∙_, sym}
 use borrow.Author.Needs.{needs}
 use borrow.Author.Tests.{not-true, not-false}
@@ -7,9 +7,6 @@ use Rattle.judge.specs.Judge.{bondsFrom}
 use Rattle.judge.proofs.Records.{unheld, no-bond, bond-on, bonds-end, bonds-start}
 use Rattle.judge.proofs.judge_bonds.Statement.{statement}
 use Rattle.judge.proofs.judge_bonds.Tie as tie
-use Rattle.judge.proofs.judge_bonds.Reads as reads
-use Rattle.judge.proofs.judge_bonds.Lts as lts
-use Rattle.judge.proofs.is_bond.Reads as is-bond-reads
 
 abbrev Inv-loop : tie.InvT-loop
 Inv-loop bonds m held e₀ e =
@@ -19,35 +16,27 @@ abbrev μ-loop : tie.MeasureT-loop
 μ-loop bonds m held e₀ e =
     m - e
 
--- src/lib.rt:67:5
 loop-holds : tie.Need-loop-holds Inv-loop μ-loop
 loop-holds c = (bonds-start _ _ _, search needs)
 
--- src/lib.rt:69:13
 returns : tie.Need-returns Inv-loop μ-loop
 returns c = (unheld _ _ _ _ (c .before .loop-test .taken) (c .if1 .taken) ∙ c .before .before .loop .inv .0, search needs)
 
--- src/lib.rt:71:13
 is-bond-requires : tie.Need-is-bond-requires Inv-loop μ-loop
 is-bond-requires c κs = search needs
 
--- src/lib.rt:72:13
 returns-2 : tie.Need-returns-2 Inv-loop μ-loop
 returns-2 c = (no-bond _ _ _ _ _ (c .before .before .before .loop-test .taken) (search needs) (c .before .is-bond .ensures) (not-true _ (c .if2 .taken)) ∙ c .before .before .before .before .loop .inv .0, search needs)
 
--- src/lib.rt:74:9
 add-e : tie.Need-add-e Inv-loop μ-loop
 add-e c = search needs
 
--- src/lib.rt:67:5
 loop-less : tie.Need-loop-less Inv-loop μ-loop
 loop-less c = search needs
 
--- src/lib.rt:67:5
 loop-again : tie.Need-loop-again Inv-loop μ-loop
 loop-again c = (sym (bond-on _ _ _ _ _ (c .before .before .before .loop-test .taken) (search needs) (c .before .is-bond .ensures) (not-false _ (c .if2 .left))) ∙ c .before .before .before .before .loop .inv .0, search needs)
 
--- src/lib.rt:62:1
 returns-3 : tie.Need-returns-3 Inv-loop μ-loop
 returns-3 c = (bonds-end _ _ _ _ (search needs) ∙ c .before .loop .inv .0, search needs)
 

@@ -1,40 +1,30 @@
+-- The three words of a number, one store after the other.
 use Rattle.pool.proofs.Laws.{slot-all}
 use borrow.Author.Needs.{needs}
 use Rattle.pool.proofs.put_slot.Statement.{statement}
 use Rattle.pool.proofs.put_slot.Tie as tie
-use Rattle.pool.proofs.put_slot.Reads as reads
-use Rattle.pool.proofs.put_slot.Lts as lts
-use Rattle.record.proofs.poke.Reads as poke-reads
 
--- src/lib.rt:68:14
 mul-at : tie.Need-mul-at
 mul-at c = search needs
 
--- src/lib.rt:69:5
 poke-requires : tie.Need-poke-requires
 poke-requires c κs = search needs
 
--- src/lib.rt:70:17
 add-poke : tie.Need-add-poke
 add-poke c = search needs
 
--- src/lib.rt:70:5
 poke-requires-2 : tie.Need-poke-requires-2
 poke-requires-2 c κs = search needs
 
--- src/lib.rt:71:17
 add-poke-2 : tie.Need-add-poke-2
 add-poke-2 c = search needs
 
--- src/lib.rt:71:5
 poke-requires-3 : tie.Need-poke-requires-3
 poke-requires-3 c κs = search needs
 
--- src/lib.rt:65:1
 same-length : tie.Need-same-length
 same-length c = search needs
 
--- src/lib.rt:65:1
 returns : tie.Need-returns
 returns c = slot-all (c .before .before .before .before .before .before .before .before .before .before .before .before .before .args .pairs .now) _ _ _ (c .before .before .before .before .before .before .before .before .before .before .before .before .before .args .number) (c .before .before .before .before .before .before .before .before .before .before .before .before .before .args .mark) (c .before .before .before .before .before .before .before .before .before .before .before .before .before .args .lower) (c .before .before .before .before .before .before .before .before .before .before .before .before .before .args .higher) (c .before .before .before .before .before .before .before .before .before .before .poke .ensures) (c .before .before .before .before .before .before .poke2 .ensures) (c .before .before .poke3 .ensures)
 

@@ -7,8 +7,6 @@ use borrow.Author.Needs.{needs}
 use Rattle.build.proofs.Passes.{clear-step, clear-end}
 use Rattle.write.proofs.clear_bytes.Statement.{statement}
 use Rattle.write.proofs.clear_bytes.Tie as tie
-use Rattle.write.proofs.clear_bytes.Reads as reads
-use Rattle.write.proofs.clear_bytes.Lts as lts
 
 abbrev Inv-loop : tie.InvT-loop
 Inv-loop out₀ at₀ out at =
@@ -18,31 +16,24 @@ abbrev μ-loop : tie.MeasureT-loop
 μ-loop out₀ at₀ out at =
     length out₀ - at
 
--- src/lib.rt:29:5
 loop-holds : tie.Need-loop-holds Inv-loop μ-loop
 loop-holds c = (search needs, refl, refl)
 
--- src/lib.rt:30:9
 slice-write-out : tie.Need-slice-write-out Inv-loop μ-loop
 slice-write-out c = search needs
 
--- src/lib.rt:31:9
 add-at : tie.Need-add-at Inv-loop μ-loop
 add-at c = search needs
 
--- src/lib.rt:29:5
 loop-less : tie.Need-loop-less Inv-loop μ-loop
 loop-less c = search needs
 
--- src/lib.rt:29:5
 loop-again : tie.Need-loop-again Inv-loop μ-loop
 loop-again c = (search needs, simp length-set (c .before .loop .inv .1), ap (λ (m : List _). set m (c .before .loop .at) 0) (c .before .loop .inv .2) ∙ clear-step (c .before .before .args .out .now) (c .before .loop .at) (search needs))
 
--- src/lib.rt:25:1
 same-length : tie.Need-same-length Inv-loop μ-loop
 same-length c = search needs
 
--- src/lib.rt:25:1
 returns : tie.Need-returns Inv-loop μ-loop
 returns c = c .before .loop .inv .2 ∙ clear-end (c .before .before .args .out .now) (c .before .loop .at) (c .before .loop .inv .0) (search needs)
 

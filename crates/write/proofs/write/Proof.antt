@@ -5,67 +5,46 @@ use Rattle.write.proofs.Ends.{zeros-self}
 use Rattle.write.proofs.Calls.{write-13, write-14, write-17, write-all}
 use Rattle.write.proofs.write.Statement.{statement}
 use Rattle.write.proofs.write.Tie as tie
-use Rattle.write.proofs.write.Reads as reads
-use Rattle.write.proofs.write.Lts as lts
-use Rattle.graph.proofs.limits.atom_room.Reads as atom-room-reads
-use Rattle.graph.proofs.limits.bond_room.Reads as bond-room-reads
-use Rattle.judge.proofs.judge.Reads as judge-reads
-use Rattle.write.proofs.clear_bytes.Reads as clear-bytes-reads
-use Rattle.write.proofs.write_graph.Reads as write-graph-reads
 
--- src/lib.rt:85:5
 clear-bytes-requires : tie.Need-clear-bytes-requires
 clear-bytes-requires c κs = search needs
 
--- src/lib.rt:86:8
 atom-room-requires : tie.Need-atom-room-requires
 atom-room-requires c κs = search needs
 
--- src/lib.rt:87:9
 same-length : tie.Need-same-length
 same-length c = search needs
 
--- src/lib.rt:87:9
 returns : tie.Need-returns
 returns c = write-13 _ _ _ _ _ _ _ (c .before .atom-room .ensures) (c .before .before .before .before .clear-bytes .ensures) (c .if1 .taken)
 
--- src/lib.rt:89:8
 bond-room-requires : tie.Need-bond-room-requires
 bond-room-requires c κs = search needs
 
--- src/lib.rt:90:9
 same-length-2 : tie.Need-same-length-2
 same-length-2 c = search needs
 
--- src/lib.rt:90:9
 returns-2 : tie.Need-returns-2
 returns-2 c = write-14 _ _ _ _ _ _ _ (c .before .before .before .atom-room .ensures) (c .before .before .before .before .before .before .clear-bytes .ensures) _ 0 (c .before .before .if1 .left) (c .before .bond-room .ensures) (c .if2 .taken)
 
--- src/lib.rt:92:9
 judge-requires : tie.Need-judge-requires
 judge-requires c κs = search needs
 
--- src/lib.rt:93:14
 add-if3 : tie.Need-add-if3
 add-if3 c = search needs
 
--- src/lib.rt:94:9
 same-length-3 : tie.Need-same-length-3
 same-length-3 c = search needs
 
--- src/lib.rt:94:9
 returns-3 : tie.Need-returns-3
 returns-3 c = write-17 _ _ _ _ _ _ _ (c .before .before .before .before .before .atom-room .ensures) (c .before .before .before .before .before .before .before .before .clear-bytes .ensures) _ _ (c .before .before .before .before .if1 .left) (c .before .before .before .bond-room .ensures) (c .before .before .if2 .left) (c .before .judge .ensures) (c .if3 .taken)
 
--- src/lib.rt:96:5
 write-graph-requires : tie.Need-write-graph-requires
 write-graph-requires c κs = (search needs, search needs, zeros-self (length (c .before .before .before .before .before .before .before .before .before .before .before .before .before .before .args .out .now)) (c .before .before .before .before .before .before .before .before .before .clear-bytes .ensures))
 
--- src/lib.rt:82:1
 same-length-4 : tie.Need-same-length-4
 same-length-4 c = search needs
 
--- src/lib.rt:82:1
 returns-4 : tie.Need-returns-4
 returns-4 c = write-all _ _ _ _ _ _ _ (c .before .before .before .before .before .before .before .before .before .atom-room .ensures) (c .before .before .before .before .before .before .before .before .before .before .before .before .clear-bytes .ensures) _ _ (c .before .before .before .before .before .before .before .before .if1 .left) (c .before .before .before .before .before .before .before .bond-room .ensures) _ (c .before .before .before .before .before .before .if2 .left) (c .before .before .before .before .before .judge .ensures) (c .before .before .before .before .if3 .left) (c .before .before .write-graph .ensures)
 

@@ -1,62 +1,45 @@
+-- The walk's tables start as zeros, so the line that its writer holds is the one that the definition says.
 use Rattle.write.proofs.Ends.{graph-written, few}
 use borrow.Author.Needs.{needs}
 use Rattle.write.proofs.write_graph.Statement.{statement}
 use Rattle.write.proofs.write_graph.Tie as tie
-use Rattle.write.proofs.write_graph.Reads as reads
-use Rattle.write.proofs.write_graph.Lts as lts
-use Rattle.build.proofs.lay_starts.Reads as lay-starts-reads
-use Rattle.walk.proofs.turns.walk.Reads as walk-reads
-use Rattle.write.proofs.conclude.Reads as conclude-reads
 
--- src/lib.rt:63:16
 slice-aggregate-lay-starts : tie.Need-slice-aggregate-lay-starts
 slice-aggregate-lay-starts c = search needs
 
--- src/lib.rt:63:5
 lay-starts-requires : tie.Need-lay-starts-requires
 lay-starts-requires c κs = search needs
 
--- src/lib.rt:69:9
 slice-aggregate-walk : tie.Need-slice-aggregate-walk
 slice-aggregate-walk c = search needs
 
--- src/lib.rt:70:9
 slice-aggregate-walk-2 : tie.Need-slice-aggregate-walk-2
 slice-aggregate-walk-2 c = search needs
 
--- src/lib.rt:71:9
 slice-aggregate-walk-3 : tie.Need-slice-aggregate-walk-3
 slice-aggregate-walk-3 c = search needs
 
--- src/lib.rt:72:9
 slice-aggregate-walk-4 : tie.Need-slice-aggregate-walk-4
 slice-aggregate-walk-4 c = search needs
 
--- src/lib.rt:73:9
 slice-aggregate-walk-5 : tie.Need-slice-aggregate-walk-5
 slice-aggregate-walk-5 c = search needs
 
--- src/lib.rt:74:9
 slice-aggregate-walk-6 : tie.Need-slice-aggregate-walk-6
 slice-aggregate-walk-6 c = search needs
 
--- src/lib.rt:75:9
 slice-aggregate-walk-7 : tie.Need-slice-aggregate-walk-7
 slice-aggregate-walk-7 c = search needs
 
--- src/lib.rt:64:9
 walk-requires : tie.Need-walk-requires
 walk-requires c κs = few _ _ (c .before .before .before .before .before .before .before .before .before .before .before .before .before .before .pre .0) (c .before .before .before .before .before .before .before .before .before .before .before .before .before .before .pre .1)
 
--- src/lib.rt:78:5
 conclude-requires : tie.Need-conclude-requires
 conclude-requires c κs = search needs
 
--- src/lib.rt:52:1
 same-length : tie.Need-same-length
 same-length c = search needs
 
--- src/lib.rt:52:1
 returns : tie.Need-returns
 returns c = graph-written _ _ _ _ _ (c .before .before .before .before .before .before .before .before .before .before .before .before .before .before .before .before .before .before .before .before .before .before .lay-starts .ensures) _ _ _ _ _ _ _ _ _ _ _ _ (c .before .before .before .before .before .before .before .before .before .before .before .before .before .before .before .before .before .before .before .before .before .before .before .before .before .before .before .pre .2) (c .before .before .before .before .before .before .before .before .before .before .before .before .walk .ensures .0) (c .before .before .before .before .before .before .before .before .before .before .before .before .walk .ensures .1) (c .before .before .conclude .ensures)
 

@@ -1,26 +1,21 @@
+-- The counter after a call, by whether there is a spare and whether it is at its end.
 use Rattle.pool.specs.Pairs.{counterOf, grown}
 use borrow.Author.Tests.{lt-ltb, le-ltb, eq-eqb, ne-eqb}
 use borrow.Author.Needs.{needs}
 use Rattle.pool.proofs.Pool.counted.Statement.{statement}
 use Rattle.pool.proofs.Pool.counted.Tie as tie
-use Rattle.pool.proofs.Pool.counted.Reads as reads
-use Rattle.pool.proofs.Pool.counted.Lts as lts
 
--- src/lib.rt:85:17
 returns : tie.Need-returns
 unfolding counterOf grown
 returns c = simp (eq-eqb _ _ (c .before .before .if1 .taken), lt-ltb _ _ (c .if2 .taken))
 
--- src/lib.rt:87:20
 add-result : tie.Need-add-result
 add-result c = search needs
 
--- src/lib.rt:87:13
 returns-2 : tie.Need-returns-2
 unfolding counterOf grown
 returns-2 c = simp (eq-eqb _ _ (c .before .before .before .if1 .taken), le-ltb _ _ (c .before .if2 .left))
 
--- src/lib.rt:80:5
 returns-3 : tie.Need-returns-3
 unfolding counterOf grown
 returns-3 c = simp (ne-eqb _ _ (c .if1 .left))

@@ -1,80 +1,56 @@
+-- Refused by the way, or popped, said and marked.
 use borrow.Author.Needs.{needs}
 use mathlib.Core.Path.{_∙_}
 use Rattle.walk.proofs.Moves.{onward-as, onward-refused, onward-met, grows-quiet, grows-two}
 use Rattle.walk.proofs.Onto.{enter-refused, enter-new}
 use Rattle.walk.proofs.turn.enter.Statement.{statement}
 use Rattle.walk.proofs.turn.enter.Tie as tie
-use Rattle.walk.proofs.turn.enter.Reads as reads
-use Rattle.walk.proofs.turn.enter.Lts as lts
-use Rattle.walk.proofs.turn.mark.Reads as mark-reads
-use Rattle.walk.proofs.turn.say_pops.Reads as say-pops-reads
-use Rattle.walk.proofs.walker.Walker.refused.Reads as refused-reads
-use Rattle.ways.proofs.scan.find_way.Reads as find-way-reads
-use Rattle.ways.proofs.scan.said_as.Reads as said-as-reads
-use Rattle.ways.proofs.table.kind_at.Reads as kind-at-reads
-use Rattle.writer.proofs.say.say_extend.Reads as say-extend-reads
 
--- src/turn.rt:161:11
 find-way-requires : tie.Need-find-way-requires
 find-way-requires c κs = search needs
 
--- src/turn.rt:162:22
 enum-known-number : tie.Need-enum-known-number
 enum-known-number c = search needs
 
--- src/turn.rt:163:21
 refused-requires : tie.Need-refused-requires
 refused-requires c κs = search needs
 
--- src/turn.rt:166:21
 enum-known-b : tie.Need-enum-known-b
 enum-known-b c = search needs
 
--- src/turn.rt:167:17
 say-pops-requires : tie.Need-say-pops-requires
 say-pops-requires c κs = search needs
 
--- src/turn.rt:168:32
 kind-at-requires : tie.Need-kind-at-requires
 kind-at-requires c κs = search needs
 
--- src/turn.rt:168:17
 said-as-requires : tie.Need-said-as-requires
 said-as-requires c κs = search needs
 
--- src/turn.rt:169:17
 say-extend-requires : tie.Need-say-extend-requires
 say-extend-requires c κs = search needs
 
--- src/turn.rt:171:25
 mark-requires : tie.Need-mark-requires
 mark-requires c κs = c .before .before .before .before .before .before .before .before .before .before .before .before .before .before .before .before .before .before .before .before .before .before .before .before .before .before .before .before .before .before .before .pre .count
 
--- src/turn.rt:142:1
 returns : tie.Need-returns
 returns c = (λ n taken pairs. enter-refused _ _ _ _ _ _ _ _ _ _ _ _ (c .before .before .before .before .find-way .ensures n) _ _ _ _ (c .before .before .number .given .1) (c .refused .ensures), grows-quiet _ (onward-as (c .refused .ensures) (onward-refused _ _ _ _)))
 
--- src/turn.rt:142:1
 same-length : tie.Need-same-length
 same-length c = search needs
 
--- src/turn.rt:142:1
 same-length-2 : tie.Need-same-length-2
 same-length-2 c = search needs
 
--- src/turn.rt:142:1
 same-length-3 : tie.Need-same-length-3
 same-length-3 c = search needs
 
--- src/turn.rt:142:1
 same-length-4 : tie.Need-same-length-4
 same-length-4 c = c .before .before .before .before .before .before .before .before .before .before .before .before .before .before .say-extend .kept .1 .0 ∙ c .before .before .before .before .before .before .before .before .before .before .before .before .before .before .before .before .before .before .before .before .before .before .before .say-pops .kept .1 .0
 
--- src/turn.rt:142:1
 same-length-5 : tie.Need-same-length-5
 same-length-5 c = c .before .before .before .before .before .before .before .before .before .before .before .before .before .before .say-extend .kept .0 ∙ c .before .before .before .before .before .before .before .before .before .before .before .before .before .before .before .before .before .before .before .before .before .before .before .say-pops .kept .0
 
--- src/turn.rt:142:1
 returns-2 : tie.Need-returns-2
 returns-2 c = (λ n taken pairs. enter-new _ _ _ _ _ _ _ _ _ _ _ _ (c .before .before .before .before .before .before .before .before .before .before .before .before .before .before .before .before .before .before .before .before .before .before .before .before .before .before .before .before .before .find-way .ensures n) _ _ _ _ _ _ _ _ _ (c .before .before .before .before .before .before .before .before .before .before .before .before .before .before .before .before .before .before .before .before .before .before .before .before .before .before .before .b .given .1) (c .before .before .before .before .before .before .before .before .before .before .before .before .before .before .before .before .before .before .before .before .before .before .before .say-pops .ensures .0) (c .before .before .before .before .before .before .before .before .before .before .before .before .before .before .before .before .before .before .kind-at .ensures) (c .before .before .before .before .before .before .before .before .before .before .before .before .before .before .before .before .before .said-as .ensures) (c .before .before .before .before .before .before .before .before .before .before .before .before .before .before .say-extend .ensures .0) (c .before .before .before .before .before .before .mark .ensures), grows-two (onward-as (c .before .before .before .before .before .before .mark .ensures .0) (onward-met _ _)) (c .before .before .before .before .before .before .before .before .before .before .before .before .before .before .before .before .before .before .before .before .before .before .before .say-pops .ensures .1) (c .before .before .before .before .before .before .before .before .before .before .before .before .before .before .say-extend .ensures .1))
 

@@ -1,92 +1,67 @@
+-- The tests of a bond in their order; the rest is entering or a ring number.
 use borrow.Author.Needs.{needs}
 use Rattle.walk.proofs.Moves.{onward-as, onward-refused, grows-quiet}
 use Rattle.walk.proofs.Onto.{bond-unknown, bond-loop, bond-new, bond-met}
 use Rattle.walk.proofs.turn.take_bond.Statement.{statement}
 use Rattle.walk.proofs.turn.take_bond.Tie as tie
-use Rattle.walk.proofs.turn.take_bond.Reads as reads
-use Rattle.walk.proofs.turn.take_bond.Lts as lts
-use Rattle.record.proofs.look.Reads as look-reads
-use Rattle.walk.proofs.turn.enter.Reads as enter-reads
-use Rattle.walk.proofs.turn.ring.Reads as ring-reads
-use Rattle.walk.proofs.walker.Walker.refused.Reads as refused-reads
 
--- src/turn.rt:201:16
 cast-if1 : tie.Need-cast-if1
 cast-if1 c = search needs
 
--- src/turn.rt:203:21
 refused-requires : tie.Need-refused-requires
 refused-requires c κs = search needs
 
--- src/turn.rt:202:9
 returns : tie.Need-returns
 returns c = (λ taken. bond-unknown _ _ _ _ _ _ _ _ _ _ _ (c .before .if1 .taken) (c .refused .ensures), grows-quiet _ (onward-as (c .refused .ensures) (onward-refused _ _ _ _)))
 
--- src/turn.rt:209:21
 refused-requires-2 : tie.Need-refused-requires-2
 refused-requires-2 c κs = search needs
 
--- src/turn.rt:208:9
 returns-2 : tie.Need-returns-2
 returns-2 c = (λ taken. bond-loop _ _ _ _ _ _ _ _ _ _ _ (c .before .before .if1 .left) (c .before .if2 .taken) (c .refused2 .ensures), grows-quiet _ (onward-as (c .refused2 .ensures) (onward-refused _ _ _ _)))
 
--- src/turn.rt:213:18
 cast-look : tie.Need-cast-look
 cast-look c = search needs
 
--- src/turn.rt:213:8
 look-requires : tie.Need-look-requires
 look-requires c κs = search needs
 
--- src/turn.rt:214:9
 enter-requires : tie.Need-enter-requires
 enter-requires c κs = search needs
 
--- src/turn.rt:214:9
 same-length : tie.Need-same-length
 same-length c = search needs
 
--- src/turn.rt:214:9
 same-length-2 : tie.Need-same-length-2
 same-length-2 c = search needs
 
--- src/turn.rt:214:9
 same-length-3 : tie.Need-same-length-3
 same-length-3 c = search needs
 
--- src/turn.rt:214:9
 same-length-4 : tie.Need-same-length-4
 same-length-4 c = search needs
 
--- src/turn.rt:214:9
 same-length-5 : tie.Need-same-length-5
 same-length-5 c = search needs
 
--- src/turn.rt:214:9
 returns-3 : tie.Need-returns-3
 returns-3 c = (λ taken. bond-new _ _ _ _ _ _ _ _ _ _ _ _ _ (c .before .before .before .before .before .before .before .before .before .before .before .before .before .before .before .before .before .before .before .before .if1 .left) (c .before .before .before .before .before .before .before .before .before .before .before .before .before .before .before .before .before .before .before .if2 .left) (c .before .before .before .before .before .before .before .before .before .before .before .before .before .before .before .before .before .look .ensures) (c .before .before .before .before .before .before .before .before .before .before .before .before .before .before .before .before .if3 .taken) (c .before .before .before .before .before .before .before .before .before .before .enter .ensures .0 _ taken _), c .before .before .before .before .before .before .before .before .before .before .enter .ensures .1)
 
--- src/turn.rt:230:5
 ring-requires : tie.Need-ring-requires
 ring-requires c κs = search needs
 
--- src/turn.rt:179:1
 same-length-6 : tie.Need-same-length-6
 same-length-6 c = search needs
 
--- src/turn.rt:179:1
 same-length-7 : tie.Need-same-length-7
 same-length-7 c = search needs
 
--- src/turn.rt:179:1
 same-length-8 : tie.Need-same-length-8
 same-length-8 c = search needs
 
--- src/turn.rt:179:1
 same-length-9 : tie.Need-same-length-9
 same-length-9 c = search needs
 
--- src/turn.rt:179:1
 returns-4 : tie.Need-returns-4
 returns-4 c = (λ taken. bond-met _ _ _ _ _ _ _ _ _ _ _ _ _ (c .before .before .before .before .before .before .before .before .before .before .before .before .before .before .if1 .left) (c .before .before .before .before .before .before .before .before .before .before .before .before .before .if2 .left) (c .before .before .before .before .before .before .before .before .before .before .before .look .ensures) (c .before .before .before .before .before .before .before .before .before .before .if3 .left) (c .before .before .before .before .before .before .ring .ensures .0 _ _ _ taken), c .before .before .before .before .before .before .ring .ensures .1)
 

@@ -1,35 +1,25 @@
-use mathlib.Core.Path.{refl}
-use borrow.Author.Tests.{lt-ltb, le-ltb, lt-leb, le-leb, eq-eqb, ne-eqb}
+-- A kind of the record, or what stands for none.
 use Rattle.ways.specs.Graph.{kindIn, kindOr}
 use borrow.Author.Needs.{needs}
 use Rattle.ways.proofs.table.kind_at.Statement.{statement}
 use Rattle.ways.proofs.table.kind_at.Tie as tie
-use Rattle.ways.proofs.table.kind_at.Reads as reads
-use Rattle.ways.proofs.table.kind_at.Lts as lts
-use Rattle.record.proofs.load.Reads as load-reads
 
--- src/table.rt:27:23
 mul-load : tie.Need-mul-load
 mul-load c = search needs
 
--- src/table.rt:27:11
 load-requires : tie.Need-load-requires
 load-requires c κs = search needs
 
--- src/table.rt:28:22
 enum-known-k : tie.Need-enum-known-k
 enum-known-k c = search needs
 
--- src/table.rt:29:24
 enum-told : tie.Need-enum-told
 enum-told c = search needs
 
--- src/table.rt:24:1
 returns : tie.Need-returns
 unfolding kindIn kindOr
 returns c = simp (← c .before .before .before .load .ensures, c .before .k .given .1)
 
--- src/table.rt:24:1
 returns-2 : tie.Need-returns-2
 unfolding kindIn kindOr
 returns-2 c = simp (← c .before .before .load .ensures, c .enum-told .given .1)

@@ -1,43 +1,33 @@
-use mathlib.Core.Path.{refl}
-use borrow.Author.Needs.{needs}
-use borrow.Author.Tests.{lt-ltb, le-ltb, lt-leb, le-leb, eq-eqb, ne-eqb}
+-- One test for each number.
+use borrow.Author.Tests.{eq-eqb, ne-eqb}
 use Rattle.write.specs.Write.{refusalOf}
 use Rattle.write.proofs.answer.refusal.Statement.{statement}
 use Rattle.write.proofs.answer.refusal.Tie as tie
-use Rattle.write.proofs.answer.refusal.Reads as reads
-use Rattle.write.proofs.answer.refusal.Lts as lts
 
--- src/answer.rt:35:9
 returns : tie.Need-returns
 unfolding refusalOf
 returns c = simp (eq-eqb _ _ (c .if1 .taken))
 
--- src/answer.rt:38:9
 returns-2 : tie.Need-returns-2
 unfolding refusalOf
 returns-2 c = simp (ne-eqb _ _ (c .before .if1 .left), eq-eqb _ _ (c .if2 .taken))
 
--- src/answer.rt:41:9
 returns-3 : tie.Need-returns-3
 unfolding refusalOf
 returns-3 c = simp (ne-eqb _ _ (c .before .before .if1 .left), ne-eqb _ _ (c .before .if2 .left), eq-eqb _ _ (c .if3 .taken))
 
--- src/answer.rt:44:9
 returns-4 : tie.Need-returns-4
 unfolding refusalOf
 returns-4 c = simp (ne-eqb _ _ (c .before .before .before .if1 .left), ne-eqb _ _ (c .before .before .if2 .left), ne-eqb _ _ (c .before .if3 .left), eq-eqb _ _ (c .if4 .taken))
 
--- src/answer.rt:47:9
 returns-5 : tie.Need-returns-5
 unfolding refusalOf
 returns-5 c = simp (ne-eqb _ _ (c .before .before .before .before .if1 .left), ne-eqb _ _ (c .before .before .before .if2 .left), ne-eqb _ _ (c .before .before .if3 .left), ne-eqb _ _ (c .before .if4 .left), eq-eqb _ _ (c .if5 .taken))
 
--- src/answer.rt:50:9
 returns-6 : tie.Need-returns-6
 unfolding refusalOf
 returns-6 c = simp (ne-eqb _ _ (c .before .before .before .before .before .if1 .left), ne-eqb _ _ (c .before .before .before .before .if2 .left), ne-eqb _ _ (c .before .before .before .if3 .left), ne-eqb _ _ (c .before .before .if4 .left), ne-eqb _ _ (c .before .if5 .left), eq-eqb _ _ (c .if6 .taken))
 
--- src/answer.rt:30:1
 returns-7 : tie.Need-returns-7
 unfolding refusalOf
 returns-7 c = simp (ne-eqb _ _ (c .before .before .before .before .before .if1 .left), ne-eqb _ _ (c .before .before .before .before .if2 .left), ne-eqb _ _ (c .before .before .before .if3 .left), ne-eqb _ _ (c .before .before .if4 .left), ne-eqb _ _ (c .before .if5 .left), ne-eqb _ _ (c .if6 .left))

@@ -5,99 +5,70 @@ use Rattle.write.proofs.Ends.{zeros-self}
 use Rattle.write.proofs.Calls.{order-13, order-14, order-17, order-all}
 use Rattle.write.proofs.order.order.Statement.{statement}
 use Rattle.write.proofs.order.order.Tie as tie
-use Rattle.write.proofs.order.order.Reads as reads
-use Rattle.write.proofs.order.order.Lts as lts
-use Rattle.graph.proofs.limits.bond_room.Reads as bond-room-reads
-use Rattle.judge.proofs.judge.Reads as judge-reads
-use Rattle.write.proofs.order.clear_order.Reads as clear-order-reads
-use Rattle.write.proofs.order.order_graph.Reads as order-graph-reads
-use Rattle.write.proofs.order.order_room.Reads as order-room-reads
 
--- src/order.rt:122:5
 clear-order-requires : tie.Need-clear-order-requires
 clear-order-requires c κs = search needs
 
--- src/order.rt:123:8
 order-room-requires : tie.Need-order-room-requires
 order-room-requires c κs = search needs
 
--- src/order.rt:124:9
 same-length : tie.Need-same-length
 same-length c = search needs
 
--- src/order.rt:124:9
 same-length-2 : tie.Need-same-length-2
 same-length-2 c = search needs
 
--- src/order.rt:124:9
 same-length-3 : tie.Need-same-length-3
 same-length-3 c = search needs
 
--- src/order.rt:124:9
 returns : tie.Need-returns
 returns c = order-13 _ _ _ _ _ _ _ _ _ _ _ (c .before .before .before .before .before .before .before .before .before .before .before .order-room .ensures .0) (c .before .before .before .before .before .before .before .clear-order .ensures .0) (c .before .before .before .before .before .before .before .clear-order .ensures .1) (c .before .before .before .before .before .before .before .clear-order .ensures .2) (c .if1 .taken)
 
--- src/order.rt:126:8
 bond-room-requires : tie.Need-bond-room-requires
 bond-room-requires c κs = search needs
 
--- src/order.rt:127:9
 same-length-4 : tie.Need-same-length-4
 same-length-4 c = search needs
 
--- src/order.rt:127:9
 same-length-5 : tie.Need-same-length-5
 same-length-5 c = search needs
 
--- src/order.rt:127:9
 same-length-6 : tie.Need-same-length-6
 same-length-6 c = search needs
 
--- src/order.rt:127:9
 returns-2 : tie.Need-returns-2
 returns-2 c = order-14 _ _ _ _ _ _ _ _ _ _ _ (c .before .before .before .before .before .before .before .before .before .before .before .before .before .order-room .ensures .0) (c .before .before .before .before .before .before .before .before .before .clear-order .ensures .0) (c .before .before .before .before .before .before .before .before .before .clear-order .ensures .1) (c .before .before .before .before .before .before .before .before .before .clear-order .ensures .2) _ 0 (c .before .before .if1 .left) (c .before .bond-room .ensures) (c .if2 .taken)
 
--- src/order.rt:129:9
 judge-requires : tie.Need-judge-requires
 judge-requires c κs = search needs
 
--- src/order.rt:130:14
 add-if3 : tie.Need-add-if3
 add-if3 c = search needs
 
--- src/order.rt:131:9
 same-length-7 : tie.Need-same-length-7
 same-length-7 c = search needs
 
--- src/order.rt:131:9
 same-length-8 : tie.Need-same-length-8
 same-length-8 c = search needs
 
--- src/order.rt:131:9
 same-length-9 : tie.Need-same-length-9
 same-length-9 c = search needs
 
--- src/order.rt:131:9
 returns-3 : tie.Need-returns-3
 returns-3 c = order-17 _ _ _ _ _ _ _ _ _ _ _ (c .before .before .before .before .before .before .before .before .before .before .before .before .before .before .before .order-room .ensures .0) (c .before .before .before .before .before .before .before .before .before .before .before .clear-order .ensures .0) (c .before .before .before .before .before .before .before .before .before .before .before .clear-order .ensures .1) (c .before .before .before .before .before .before .before .before .before .before .before .clear-order .ensures .2) _ _ (c .before .before .before .before .if1 .left) (c .before .before .before .bond-room .ensures) (c .before .before .if2 .left) (c .before .judge .ensures) (c .if3 .taken)
 
--- src/order.rt:133:5
 order-graph-requires : tie.Need-order-graph-requires
 order-graph-requires c κs = (search needs, search needs, zeros-self (length (c .before .before .before .before .before .before .before .before .before .before .before .before .before .before .before .before .before .before .before .before .before .before .before .before .before .before .before .args .walked .now)) (c .before .before .before .before .before .before .before .before .before .before .before .before .before .before .clear-order .ensures .0), zeros-self (length (c .before .before .before .before .before .before .before .before .before .before .before .before .before .before .before .before .before .before .before .before .before .before .before .before .before .before .before .args .number .now)) (c .before .before .before .before .before .before .before .before .before .before .before .before .before .before .clear-order .ensures .1), zeros-self (length (c .before .before .before .before .before .before .before .before .before .before .before .before .before .before .before .before .before .before .before .before .before .before .before .before .before .before .before .args .back .now)) (c .before .before .before .before .before .before .before .before .before .before .before .before .before .before .clear-order .ensures .2))
 
--- src/order.rt:111:1
 same-length-10 : tie.Need-same-length-10
 same-length-10 c = search needs
 
--- src/order.rt:111:1
 same-length-11 : tie.Need-same-length-11
 same-length-11 c = search needs
 
--- src/order.rt:111:1
 same-length-12 : tie.Need-same-length-12
 same-length-12 c = search needs
 
--- src/order.rt:111:1
 returns-4 : tie.Need-returns-4
 returns-4 c = order-all _ _ _ _ _ _ _ _ _ _ _ (c .before .before .before .before .before .before .before .before .before .before .before .before .before .before .before .before .before .before .before .before .before .before .before .before .before .order-room .ensures .0) (c .before .before .before .before .before .before .before .before .before .before .before .before .before .before .before .before .before .before .before .before .before .clear-order .ensures .0) (c .before .before .before .before .before .before .before .before .before .before .before .before .before .before .before .before .before .before .before .before .before .clear-order .ensures .1) (c .before .before .before .before .before .before .before .before .before .before .before .before .before .before .before .before .before .before .before .before .before .clear-order .ensures .2) _ _ (c .before .before .before .before .before .before .before .before .before .before .before .before .before .before .if1 .left) (c .before .before .before .before .before .before .before .before .before .before .before .before .before .bond-room .ensures) _ (c .before .before .before .before .before .before .before .before .before .before .before .before .if2 .left) (c .before .before .before .before .before .before .before .before .before .before .before .judge .ensures) (c .before .before .before .before .before .before .before .before .before .before .if3 .left) (c .before .before .before .before .before .before .order-graph .ensures)
 

@@ -1,0 +1,68 @@
+// The desk's calls for programs in other languages: functions over numbers and slices, with the answer in a lent report.
+//
+// report: an answer as a number and what it carries.
+pub mod report;
+
+ghost use mathlib.Core.Path.{_≡_};
+ghost use lib.ListN.{length};
+ghost use Rattle.read.specs.Line.{lineOf};
+ghost use Rattle.write.specs.Write.{writeOf};
+ghost use Rattle.write.specs.Order.{orderOf};
+ghost use Rattle.export.specs.Report.{ofRead, ofWritten, laidInto};
+use report::lay;
+use report::of_read;
+use report::of_written;
+
+// Reads a line. The report: the desk's number, and the values that it carries.
+#[no_mangle]
+pub extern "C" fn mavisdrok_read(
+    text: &[u8],
+    atoms: &mut [u32],
+    bonds: &mut [u32],
+    report: &mut [u64],
+)
+    ensures { λ _. ⌜ (now (atoms .exit) ≡ lineOf (now (text .entry)) (length (now (atoms .entry))) (length (now (bonds .entry))) .atoms)
+        × (now (bonds .exit) ≡ lineOf (now (text .entry)) (length (now (atoms .entry))) (length (now (bonds .entry))) .bonds) ⌝ }
+    ensures { λ _. ⌜ now (report .exit) ≡ laidInto (now (report .entry)) (ofRead (lineOf (now (text .entry)) (length (now (atoms .entry))) (length (now (bonds .entry))) .answer)) ⌝ }
+{
+    let answer = read::read(text, atoms, bonds);
+    lay(report, of_read(answer));
+}
+
+// Writes the graph of n atoms and m bond entries.
+#[no_mangle]
+pub extern "C" fn mavisdrok_write(
+    atoms: &[u32],
+    n: usize,
+    bonds: &[u32],
+    m: usize,
+    out: &mut [u8],
+    report: &mut [u64],
+)
+    ensures { λ _. ⌜ now (out .exit) ≡ writeOf (length (now (out .entry))) (now (atoms .entry)) n (now (bonds .entry)) m .out ⌝ }
+    ensures { λ _. ⌜ now (report .exit) ≡ laidInto (now (report .entry)) (ofWritten (writeOf (length (now (out .entry))) (now (atoms .entry)) n (now (bonds .entry)) m .answer)) ⌝ }
+{
+    let answer = write::write(atoms, n, bonds, m, out);
+    lay(report, of_written(answer));
+}
+
+// The walk order of the graph of n atoms and m bond entries.
+#[no_mangle]
+pub extern "C" fn mavisdrok_order(
+    atoms: &[u32],
+    n: usize,
+    bonds: &[u32],
+    m: usize,
+    walked: &mut [u32],
+    number: &mut [u32],
+    back: &mut [u32],
+    report: &mut [u64],
+)
+    ensures { λ _. ⌜ (now (walked .exit) ≡ orderOf (length (now (walked .entry))) (length (now (number .entry))) (length (now (back .entry))) (now (atoms .entry)) n (now (bonds .entry)) m .walked)
+        × (now (number .exit) ≡ orderOf (length (now (walked .entry))) (length (now (number .entry))) (length (now (back .entry))) (now (atoms .entry)) n (now (bonds .entry)) m .number)
+        × (now (back .exit) ≡ orderOf (length (now (walked .entry))) (length (now (number .entry))) (length (now (back .entry))) (now (atoms .entry)) n (now (bonds .entry)) m .back) ⌝ }
+    ensures { λ _. ⌜ now (report .exit) ≡ laidInto (now (report .entry)) (ofWritten (orderOf (length (now (walked .entry))) (length (now (number .entry))) (length (now (back .entry))) (now (atoms .entry)) n (now (bonds .entry)) m .answer)) ⌝ }
+{
+    let answer = write::order::order(atoms, n, bonds, m, walked, number, back);
+    lay(report, of_written(answer));
+}

@@ -1,0 +1,9 @@
+-- What is read of a line that a writer made, from its bytes up.
+pub mod Stands
+pub mod Heads
+pub mod Marks
+pub mod Bodies
+pub mod Sense
+pub mod Held
+pub mod Retold
+pub mod Sample

@@ -1,0 +1,165 @@
+-- What holds of every write: two results that meet its claim are one; a line that is written, or for which there was no room,
+-- has at most 24 bytes for each atom and 4 for each entry; the writer takes every event of a walk; and a graph that is written
+-- was walked to its end. Assumes nothing.
+use Prim.Native.Nat.{ℕ, zero, suc, _+_, _-_, _*_, _/_, _≤_, _<_}
+use mathlib.Core.Path.{_≡_, refl, _∙_, ap, sym}
+use mathlib.Core.List.{List, []}
+use mathlib.Core.Bool.{false}
+use native.Mathlib.Omega.{arith}
+use lib.ListN.{length}
+use lib.Dec.{ltb, leb, eqb}
+use borrow.Author.Tests.{ltb-true, ltb-false}
+use Rattle.record.specs.Words.{atomWords}
+use Rattle.graph.specs.Limits.{atomLimit, lesserOf}
+use Rattle.build.specs.Build.{startsOf}
+use Rattle.judge.specs.declared.Judged.{Judged}
+use Rattle.judge.specs.declared.Judged.the-variants.{Bad, Holds}
+use Rattle.judge.specs.Judge.{degreeOf, atomStands, bondStands, atomsFrom, bondsFrom, afterAtoms, badRecord}
+use Rattle.walk.specs.declared.walker.Walker.{Walker}
+use Rattle.ways.specs.Ways.{halfBond, duplicateBond, incompatibleBond, inversion}
+use Rattle.walk.specs.Walk.{turnsOf, unknownTarget, loop}
+use Rattle.trek.specs.Trek.{Room, AllAccepted, degrees, Finished}
+use Rattle.trek.proofs.Moves.{by-test}
+use Rattle.trek.proofs.Accepted.{accepted}
+use Rattle.trek.proofs.Bound.{line-bound}
+use Rattle.trek.proofs.Ended as trek
+use Rattle.trek.proofs.Judged.{judged-degrees}
+use Rattle.write.specs.declared.answer.Written.{Written}
+use Rattle.write.specs.declared.answer.Written.the-variants.{Done, UnknownTarget, Loop, HalfBond, DuplicateBond, IncompatibleBond, Inversion, RingNumbers, AtomRoom, BondRoom, OutRoom, BadTable}
+use Rattle.write.specs.Write.{zeros, pairWords, graphOf, walkIn, walkOf, saidIn, saidOf, lineSaid, refusalOf, atomRoom, bondRoom, admitted, Left, left, refusing, putLine, concluded, graphWritten, writeOf}
+use Rattle.write.specs.Order as made
+
+-- ---- any two results that meet the claim are equal
+pub one-written : (room : ℕ) (atoms bonds : List ℕ) (n m : ℕ) (r r′ : Written) (o o′ : List ℕ) → left r o ≡ writeOf room atoms n bonds m → left r′ o′ ≡ writeOf room atoms n bonds m → (r ≡ r′) × (o ≡ o′)
+one-written room atoms bonds n m r r′ o o′ e f =
+    (ap (λ (x : Left). x .answer) (e ∙ sym f), ap (λ (x : Left). x .out) (e ∙ sym f))
+
+pub one-order : (lw ln lb : ℕ) (atoms bonds : List ℕ) (n m : ℕ) (x y : made.Order) → x ≡ made.orderOf lw ln lb atoms n bonds m → y ≡ made.orderOf lw ln lb atoms n bonds m → x ≡ y
+one-order lw ln lb atoms bonds n m x y e f = e ∙ sym f
+
+-- ---- the first bad record is one of them, or the one after
+bonds-most : (bonds : List ℕ) (held k e : ℕ) → bondsFrom bonds held k e ≤ e + k
+unfolding bondsFrom
+bonds-most bonds held zero e = omega arith
+bonds-most bonds held (suc k) e =
+    by-test (λ (x : ℕ). x ≤ e + suc k) (leb held e) (λ q. omega arith)
+    (λ q. by-test (λ (x : ℕ). x ≤ e + suc k) (bondStands bonds e) (λ y. omega (arith, bonds-most bonds held k (e + 1))) (λ y. omega arith))
+
+Within : ℕ → Judged → Type 0
+Within n (Bad a) = a < n
+Within n (Holds held) = 0 ≤ held
+
+atoms-most : (atoms : List ℕ) (m k a held : ℕ) → Within (a + k) (atomsFrom atoms m k a held)
+unfolding atomsFrom Within
+atoms-most atoms m zero a held = omega arith
+atoms-most atoms m (suc k) a held =
+    let z : a + 1 + k ≡ a + suc k = omega arith in
+    by-test (Within (a + suc k)) (ltb (m - held) (degreeOf atoms a)) (λ q. omega arith)
+    (λ q. by-test (Within (a + suc k)) (atomStands atoms a) (λ y. rw z at (atoms-most atoms m k (a + 1) (held + degreeOf atoms a))) (λ y. omega arith))
+
+after-most : (x : Judged) (bonds : List ℕ) (n m : ℕ) → Within n x → afterAtoms x bonds n m ≤ n + m
+unfolding afterAtoms Within
+after-most (Bad a) bonds n m h = omega (arith, h)
+after-most (Holds held) bonds n m h = omega (arith, bonds-most bonds held m 0)
+
+bad-most : (atoms bonds : List ℕ) (n m : ℕ) → badRecord atoms n bonds m ≤ n + m
+unfolding badRecord
+bad-most atoms bonds n m =
+    let z : 0 + n ≡ n = omega arith in
+    after-most (atomsFrom atoms m n 0 0) bonds n m (rw z at (atoms-most atoms m n 0 0))
+
+-- ---- a graph that was admitted
+few-atoms : (atoms : List ℕ) (n : ℕ) → ltb (atomRoom atoms) n ≡ false → n ≤ atomLimit
+unfolding atomRoom lesserOf
+few-atoms atoms n =
+    by-test (λ (x : ℕ). ltb x n ≡ false → n ≤ atomLimit) (ltb (length atoms / atomWords) atomLimit)
+    (λ q h. omega (arith, ltb-false (length atoms / atomWords) n h, ltb-true (length atoms / atomWords) atomLimit q))
+    (λ q h. ltb-false atomLimit n h)
+
+module _ (atoms bonds : List ℕ) (n m : ℕ) (few : n ≤ atomLimit) where
+  room : Room (graphOf n atoms bonds) atomLimit atomLimit atomLimit
+  room = record { met = few; back = few; taken = few }
+
+  pub all-said : AllAccepted atomLimit (saidOf atoms n bonds m) []
+  unfolding saidIn
+  all-said = accepted (graphOf n atoms bonds) atomLimit atomLimit atomLimit atomLimit (zeros pairWords) room atomLimit few (turnsOf n m)
+
+  module _ (sound : badRecord atoms n bonds m ≡ n + m) where
+    whole : degrees (graphOf n atoms bonds) n ≤ m
+    whole = omega (arith, judged-degrees n m atoms bonds (startsOf n atoms (zeros atomLimit)) sound)
+
+    pub line-short : length (lineSaid (saidOf atoms n bonds m)) ≤ 24 * n + 4 * m
+    unfolding saidIn
+    line-short =
+        line-bound (graphOf n atoms bonds) atomLimit atomLimit atomLimit atomLimit (zeros pairWords) room atomLimit few m whole (turnsOf n m)
+
+    pub all-walked : walkOf atoms n bonds m .at .refusal ≡ 0 → Finished (graphOf n atoms bonds) (walkOf atoms n bonds m)
+    unfolding walkIn
+    all-walked e = trek.ended (graphOf n atoms bonds) atomLimit atomLimit atomLimit atomLimit (zeros pairWords) room m whole e
+
+-- ---- every write
+-- the bytes that an answer tells of
+unfoldable pub bytesOf : Written → ℕ
+bytesOf (Done k) = k
+bytesOf (OutRoom k) = k
+bytesOf (UnknownTarget a b) = 0
+bytesOf (Loop a) = 0
+bytesOf (HalfBond a b) = 0
+bytesOf (DuplicateBond a b) = 0
+bytesOf (IncompatibleBond a b) = 0
+bytesOf (Inversion a) = 0
+bytesOf (RingNumbers a b) = 0
+bytesOf (AtomRoom k) = 0
+bytesOf (BondRoom k) = 0
+bytesOf (BadTable k) = 0
+
+pub record Short (most : ℕ) (r : Written) : Type 0 where
+  pub bytes : bytesOf r ≤ most
+
+no-bytes : (most : ℕ) (r : Written) → bytesOf r ≡ 0 → Short most r
+no-bytes most r e = record { bytes = omega (arith, e) }
+
+refusal-short : (z : Walker) (most : ℕ) → Short most (refusalOf z)
+unfolding refusalOf bytesOf
+refusal-short z most =
+    by-test (Short most) (eqb (z .refusal) unknownTarget) (λ q. no-bytes most (UnknownTarget (z .first) (z .second)) refl)
+    (λ q. by-test (Short most) (eqb (z .refusal) loop) (λ q. no-bytes most (Loop (z .first)) refl)
+    (λ q. by-test (Short most) (eqb (z .refusal) halfBond) (λ q. no-bytes most (HalfBond (z .first) (z .second)) refl)
+    (λ q. by-test (Short most) (eqb (z .refusal) duplicateBond) (λ q. no-bytes most (DuplicateBond (z .first) (z .second)) refl)
+    (λ q. by-test (Short most) (eqb (z .refusal) incompatibleBond) (λ q. no-bytes most (IncompatibleBond (z .first) (z .second)) refl)
+    (λ q. by-test (Short most) (eqb (z .refusal) inversion) (λ q. no-bytes most (Inversion (z .first)) refl)
+    (λ q. no-bytes most (RingNumbers (z .first) (z .second)) refl))))))
+
+-- the same of what a write leaves
+record ShortLeft (most : ℕ) (x : Left) : Type 0 where
+  said : Short most (x .answer)
+
+none : (most room : ℕ) (r : Written) → bytesOf r ≡ 0 → ShortLeft most (refusing room r)
+none most room r e = record { said = no-bytes most r e }
+
+module _ (room : ℕ) (atoms bonds : List ℕ) (n m : ℕ) where
+  short : ltb (atomRoom atoms) n ≡ false → ltb (badRecord atoms n bonds m) (n + m) ≡ false → length (lineSaid (saidOf atoms n bonds m)) ≤ 24 * n + 4 * m
+  short a c =
+      line-short atoms bonds n m (few-atoms atoms n a) (omega (arith, bad-most atoms bonds n m, ltb-false (badRecord atoms n bonds m) (n + m) c))
+
+  put-short : (l most : ℕ) (line : List ℕ) → length line ≤ most → ShortLeft most (putLine l line)
+  unfolding putLine bytesOf
+  put-short l most line h =
+      by-test (ShortLeft most) (ltb l (length line)) (λ q. record { said = record { bytes = h } }) (λ q. record { said = record { bytes = h } })
+
+  graph-short : length (lineSaid (saidOf atoms n bonds m)) ≤ 24 * n + 4 * m → ShortLeft (24 * n + 4 * m) (graphWritten room atoms n bonds m)
+  unfolding graphWritten concluded
+  graph-short h =
+      by-test (ShortLeft (24 * n + 4 * m)) (eqb (walkOf atoms n bonds m .at .refusal) 0) (λ q. put-short room (24 * n + 4 * m) (lineSaid (saidOf atoms n bonds m)) h)
+      (λ q. record { said = refusal-short (walkOf atoms n bonds m .at) (24 * n + 4 * m) })
+
+  all-short : ShortLeft (24 * n + 4 * m) (writeOf room atoms n bonds m)
+  unfolding writeOf bytesOf
+  all-short =
+      by-test (ShortLeft (24 * n + 4 * m)) (ltb (atomRoom atoms) n) (λ q. none (24 * n + 4 * m) room (AtomRoom n) refl)
+      (λ a. by-test (ShortLeft (24 * n + 4 * m)) (ltb (bondRoom bonds) m) (λ q. none (24 * n + 4 * m) room (BondRoom m) refl)
+      (λ b. by-test (ShortLeft (24 * n + 4 * m)) (ltb (badRecord atoms n bonds m) (n + m)) (λ q. none (24 * n + 4 * m) room (BadTable (badRecord atoms n bonds m)) refl)
+      (λ c. graph-short (short a c))))
+
+  pub written-short : Short (24 * n + 4 * m) (writeOf room atoms n bonds m .answer)
+  written-short = all-short .said

@@ -1,0 +1,91 @@
+//! The order in which a walk meets the atoms. A Follower is not told which atom
+//! an event is about, so it keeps track of the walk.
+
+use crate::feature::{AtomKind, BondKind, Rnum};
+use crate::graph::Atom;
+use crate::walk::Follower;
+
+pub struct Order {
+    /// The targets of each atom, in the order in which the walk takes them.
+    targets: Vec<Vec<usize>>,
+    /// How many of them the walk has taken.
+    taken: Vec<usize>,
+    visited: Vec<bool>,
+    path: Vec<usize>,
+    /// The atoms met, each with its text as it is written.
+    met: Vec<(usize, String)>,
+}
+
+impl Order {
+    pub fn new(graph: &[Atom]) -> Self {
+        Self {
+            targets: graph
+                .iter()
+                .map(|atom| atom.bonds.iter().map(|bond| bond.tid).collect())
+                .collect(),
+            taken: vec![0; graph.len()],
+            visited: vec![false; graph.len()],
+            path: Vec::new(),
+            met: Vec::new(),
+        }
+    }
+
+    /// For each atom its number, its number in walk order and its text.
+    pub fn text(self) -> String {
+        self.met
+            .iter()
+            .enumerate()
+            .map(|(number, (atom, text))| format!("{}:{}:{}", atom, number, text))
+            .collect::<Vec<String>>()
+            .join(";")
+    }
+
+    fn enter(&mut self, atom: usize, kind: AtomKind) {
+        self.visited[atom] = true;
+        self.path.push(atom);
+        self.met.push((atom, kind.to_string()));
+    }
+
+    fn head(&self) -> usize {
+        *self.path.last().expect("the walk begins with a root")
+    }
+
+    fn next_target(&mut self) -> usize {
+        let head = self.head();
+        let target = self.targets[head][self.taken[head]];
+
+        self.taken[head] += 1;
+        target
+    }
+}
+
+impl Follower for Order {
+    fn root(&mut self, root: AtomKind) {
+        // The walk begins each component at its lowest number.
+        let atom = self
+            .visited
+            .iter()
+            .position(|visited| !visited)
+            .expect("a root is an atom not visited");
+
+        self.path.clear();
+        self.enter(atom, root);
+    }
+
+    fn extend(&mut self, _: BondKind, atom_kind: AtomKind) {
+        let parent = self.head();
+        let child = self.next_target();
+
+        // The walk does not go back to where it came from.
+        self.targets[child].retain(|&target| target != parent);
+        self.enter(child, atom_kind);
+    }
+
+    fn join(&mut self, _: BondKind, _: Rnum) {
+        self.next_target();
+    }
+
+    fn pop(&mut self, depth: usize) {
+        self.path.truncate(self.path.len() - depth);
+    }
+}
