@@ -1,0 +1,7 @@
+pub mod Every
+pub mod Zeros
+pub mod Stands
+pub mod PoolKept
+pub mod WriterKept
+pub mod Again
+pub mod Results

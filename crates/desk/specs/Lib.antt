@@ -1,0 +1,4 @@
+pub mod Every
+pub mod Pieces
+pub mod Slots
+pub mod Texts
