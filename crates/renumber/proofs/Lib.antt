@@ -1,0 +1,19 @@
+-- What comes back of a walk over a simple graph, from lists up to whole tables.
+pub mod Lists
+pub mod View
+pub mod Opens
+pub mod Entries
+pub mod Pool
+pub mod Marks
+pub mod Ways
+pub mod Counts
+pub mod Follows
+pub mod State
+pub mod Turns
+pub mod Trip
+pub mod Refusals
+pub mod Places
+pub mod Written
+pub mod Tables
+pub mod ComesBack
+pub mod Bench

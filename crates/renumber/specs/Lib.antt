@@ -1,0 +1,3 @@
+pub mod Renumber
+pub mod Opened
+pub mod Marks
