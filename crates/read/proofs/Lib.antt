@@ -2,4 +2,3 @@
 pub mod Whole
 pub mod Lines
 pub mod Never
-pub mod Bench

@@ -1,0 +1,2 @@
+-- The table and its claim.
+pub mod Bench
