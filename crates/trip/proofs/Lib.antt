@@ -1,0 +1,6 @@
+-- What a walk says is said in order and can be spelled, and so what is read of its line is the graph renumbered.
+pub mod Ordered
+pub mod Spelling
+pub mod Law
+pub mod Deep
+pub mod Sample
