@@ -4,7 +4,7 @@
  * pointer and a length in elements; the pointer of an empty one may be anything but null.
  *
  * report: three words, as far as there is room: the desk's number, and the two values that it carries, 0 where it carries
- * fewer. docs/PACKING.md says how atoms and bonds stand in words, and the numbers are those of docs/CLAIMS.md. */
+ * fewer: crates/export/specs/Report.antt has them for each answer. docs/PACKING.md says how atoms and bonds stand in words. */
 #ifndef MAVISDROK_H
 #define MAVISDROK_H
 
