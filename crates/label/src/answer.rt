@@ -1,7 +1,9 @@
-// The answer to a text: the desk's number, a tab, and what the command has to say.
+// The answer to a text: the desk's number, a tab, and what the command has to say; or what `check` says in words.
+ghost use mathlib.Core.Path.{_≡_};
 ghost use Prim.Native.Nat.{_≤_};
 ghost use lib.ListN.{length};
 use crate::command::Command;
+use form::byte::NOWHERE;
 use form::byte::put;
 use form::byte::put_word;
 use form::number;
@@ -17,6 +19,8 @@ use show::order::print_order;
 use show::said::of_read;
 use show::said::of_written;
 use show::tables::print_graph;
+use show::words::place_of;
+use show::words::print_words;
 use write::order::order;
 use write::write;
 
@@ -34,6 +38,36 @@ pub const LONGEST: usize = COUNT_BYTES + ATOMS * ATOM_BYTES + BONDS * ENTRY_BYTE
 // Room for the longest written line: 24 bytes an atom and 4 a bond entry.
 const LINE: usize = 24 * ATOMS + 4 * BONDS;
 
+// A bond has two ends, each an entry.
+const ENDS: usize = 2;
+
+// What was told: the output's place after it, whether it is a refusal, and the place in the text to be marked, or NOWHERE.
+pub struct Told {
+    pub at: usize,
+    pub is_refusal: bool,
+    pub place: usize,
+}
+
+fn done(at: usize) -> Told
+    ensures { λ r. ⌜ r .at ≡ at ⌝ }
+{
+    Told {
+        at,
+        is_refusal: false,
+        place: NOWHERE,
+    }
+}
+
+fn refused(at: usize, place: usize) -> Told
+    ensures { λ r. ⌜ r .at ≡ at ⌝ }
+{
+    Told {
+        at,
+        is_refusal: true,
+        place,
+    }
+}
+
 // What the read call says of a text. Of one that was too long for its room, only the length is known.
 fn read_text(text: &[u8], size: usize, atoms: &mut [u32], bonds: &mut [u32]) -> Answer {
     if text.len() < size {
@@ -50,15 +84,16 @@ fn print_counted(
     n: usize,
     bonds: &[u32],
     m: usize,
-) -> usize
-    ensures { λ r. ⌜ r ≤ length (now (out .exit)) ⌝ }
+) -> Told
+    ensures { λ r. ⌜ r .at ≤ length (now (out .exit)) ⌝ }
 {
     let at = print_number(out, at, DONE);
     let at = number::print(out, at, n);
     let at = put(out, at, b' ');
     let at = number::print(out, at, m);
     let at = put(out, at, b' ');
-    print_graph(out, at, atoms, bonds, n)
+    let at = print_graph(out, at, atoms, bonds, n);
+    done(at)
 }
 
 // The line that it is written as.
@@ -69,32 +104,25 @@ fn print_rewritten(
     n: usize,
     bonds: &[u32],
     m: usize,
-) -> usize
-    ensures { λ r. ⌜ r ≤ length (now (out .exit)) ⌝ }
+) -> Told
+    ensures { λ r. ⌜ r .at ≤ length (now (out .exit)) ⌝ }
 {
     let mut line = [0u8; LINE];
     let s = of_written(write(atoms, n, bonds, m, &mut line));
     if s.no != DONE {
-        return print_refusal(out, at, s);
+        return refused(print_refusal(out, at, s), NOWHERE);
     }
     let at = print_number(out, at, DONE);
     let len = s.first;
     if LINE < len {
-        return at;
+        return done(at);
     }
-    put_word(out, at, &line[0..len])
+    done(put_word(out, at, &line[0..len]))
 }
 
 // The order in which it is walked.
-fn print_walked(
-    out: &mut [u8],
-    at: usize,
-    atoms: &[u32],
-    n: usize,
-    bonds: &[u32],
-    m: usize,
-) -> usize
-    ensures { λ r. ⌜ r ≤ length (now (out .exit)) ⌝ }
+fn print_walked(out: &mut [u8], at: usize, atoms: &[u32], n: usize, bonds: &[u32], m: usize) -> Told
+    ensures { λ r. ⌜ r .at ≤ length (now (out .exit)) ⌝ }
 {
     let mut walked = [0u32; ATOMS];
     let mut number = [0u32; ATOMS];
@@ -102,30 +130,73 @@ fn print_walked(
     let w = order(atoms, n, bonds, m, &mut walked, &mut number, &mut back);
     let s = of_written(w);
     if s.no != DONE {
-        return print_refusal(out, at, s);
+        return refused(print_refusal(out, at, s), NOWHERE);
     }
     let at = print_number(out, at, DONE);
-    print_order(out, at, atoms, n, &walked, &number, &back)
+    done(print_order(out, at, atoms, n, &walked, &number, &back))
 }
 
-// What a command has to say of a text, by what the read call said and the tables that it left.
-fn print_of(
+// A refusal in words, of a text of so many bytes.
+fn print_why(out: &mut [u8], at: usize, s: Said, size: usize) -> Told
+    ensures { λ r. ⌜ r .at ≤ length (now (out .exit)) ⌝ }
+{
+    let at = put_word(out, at, b"refused, ");
+    let at = number::print(out, at, s.no as usize);
+    let at = put_word(out, at, b": ");
+    refused(print_words(out, at, s), place_of(s, size))
+}
+
+// Whether it can be written, and what it counts.
+fn print_checked(
+    out: &mut [u8],
+    at: usize,
+    atoms: &[u32],
+    n: usize,
+    bonds: &[u32],
+    m: usize,
+) -> Told
+    ensures { λ r. ⌜ r .at ≤ length (now (out .exit)) ⌝ }
+{
+    let mut line = [0u8; LINE];
+    let s = of_written(write(atoms, n, bonds, m, &mut line));
+    if s.no != DONE {
+        return print_why(out, at, s, 0);
+    }
+    let at = put_word(out, at, b"done: ");
+    let at = number::print(out, at, n);
+    let at = put_word(out, at, b" atoms, ");
+    let at = number::print(out, at, m / ENDS);
+    let at = put_word(out, at, b" bonds, written in ");
+    let at = number::print(out, at, s.first);
+    done(put_word(out, at, b" bytes"))
+}
+
+// What a command has to say of a text that was not read.
+fn print_unread(out: &mut [u8], at: usize, command: Command, s: Said, size: usize) -> Told
+    ensures { λ r. ⌜ r .at ≤ length (now (out .exit)) ⌝ }
+{
+    match command {
+        Command::Check => print_why(out, at, s, size),
+        _ => refused(print_refusal(out, at, s), NOWHERE),
+    }
+}
+
+// What it has to say of the tables of one that was.
+fn print_read(
     out: &mut [u8],
     at: usize,
     command: Command,
     s: Said,
     atoms: &[u32],
     bonds: &[u32],
-) -> usize
-    ensures { λ r. ⌜ r ≤ length (now (out .exit)) ⌝ }
+) -> Told
+    ensures { λ r. ⌜ r .at ≤ length (now (out .exit)) ⌝ }
 {
-    if s.no != DONE {
-        return print_refusal(out, at, s);
-    }
     match command {
         Command::Rewrite => print_rewritten(out, at, atoms, s.first, bonds, s.second),
         Command::Order => print_walked(out, at, atoms, s.first, bonds, s.second),
         Command::Graph => print_counted(out, at, atoms, s.first, bonds, s.second),
+        Command::Check => print_checked(out, at, atoms, s.first, bonds, s.second),
     }
 }
 
@@ -139,9 +210,12 @@ pub fn print_answer(
     size: usize,
     atoms: &mut [u32],
     bonds: &mut [u32],
-) -> usize
-    ensures { λ r. ⌜ r ≤ length (now (out .exit)) ⌝ }
+) -> Told
+    ensures { λ r. ⌜ r .at ≤ length (now (out .exit)) ⌝ }
 {
     let s = of_read(read_text(text, size, atoms, bonds));
-    print_of(out, at, command, s, atoms, bonds)
+    if s.no != DONE {
+        return print_unread(out, at, command, s, size);
+    }
+    print_read(out, at, command, s, atoms, bonds)
 }

@@ -135,13 +135,20 @@ fn print_carried(out: &mut [u8], at: usize, s: Said) -> usize
     number::print(out, at, s.second)
 }
 
+// A refusal's name and what it carries.
+pub fn print_named(out: &mut [u8], at: usize, s: Said) -> usize
+    ensures { λ r. ⌜ r ≤ length (now (out .exit)) ⌝ }
+{
+    let at = print_name(out, at, s.no);
+    print_carried(out, at, s)
+}
+
 // A refusal: its number, a tab, its name and what it carries.
 pub fn print_refusal(out: &mut [u8], at: usize, s: Said) -> usize
     ensures { λ r. ⌜ r ≤ length (now (out .exit)) ⌝ }
 {
     let at = print_number(out, at, s.no);
-    let at = print_name(out, at, s.no);
-    print_carried(out, at, s)
+    print_named(out, at, s)
 }
 
 // The number and what it carries, without a name.

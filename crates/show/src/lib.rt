@@ -8,7 +8,9 @@
 // order: the walk order of such a graph.
 // desk: the desk's numbers, what they carry, and a refusal.
 // said: the calls' answers as the desk's numbers.
+// words: the same for people, with the place in the line.
 pub mod desk;
 pub mod order;
 pub mod said;
 pub mod tables;
+pub mod words;

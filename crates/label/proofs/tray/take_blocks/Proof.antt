@@ -7,13 +7,10 @@ use Rattle.label.proofs.tray.take_blocks.Statement.{statement}
 use Rattle.label.proofs.tray.take_blocks.Tie as tie
 
 abbrev Inv-loop : tie.InvT-loop
-Inv-loop command block₀ text₀ out₀ atoms₀ bonds₀ line₀ turns₀ t11 block text out atoms bonds line turns = (length block ≡ length block₀) × (length text ≡ length text₀) × (length out ≡ length out₀) × (length atoms ≡ length atoms₀) × (length bonds ≡ length bonds₀) × (line .at ≤ length out)
+Inv-loop fd name block₀ text₀ out₀ atoms₀ bonds₀ line₀ turns₀ block text out atoms bonds line turns = (length block ≡ length block₀) × (length text ≡ length text₀) × (length out ≡ length out₀) × (length atoms ≡ length atoms₀) × (length bonds ≡ length bonds₀) × (line .at ≤ length out)
 
 abbrev μ-loop : tie.MeasureT-loop
-μ-loop command block₀ text₀ out₀ atoms₀ bonds₀ line₀ turns₀ t11 block text out atoms bonds line turns = turns
-
-start-requires : tie.Need-start-requires Inv-loop μ-loop
-start-requires c κs = search needs
+μ-loop fd name block₀ text₀ out₀ atoms₀ bonds₀ line₀ turns₀ block text out atoms bonds line turns = turns
 
 loop-holds : tie.Need-loop-holds Inv-loop μ-loop
 loop-holds c = search needs
@@ -21,14 +18,8 @@ loop-holds c = search needs
 read-requires : tie.Need-read-requires Inv-loop μ-loop
 read-requires c κs = search needs
 
-slice-aggregate-fail : tie.Need-slice-aggregate-fail Inv-loop μ-loop
-slice-aggregate-fail c = search needs
-
 fail-requires : tie.Need-fail-requires Inv-loop μ-loop
 fail-requires c κs = search needs
-
-start-requires-2 : tie.Need-start-requires-2 Inv-loop μ-loop
-start-requires-2 c κs = search needs
 
 same-length : tie.Need-same-length Inv-loop μ-loop
 same-length c = search needs
@@ -47,6 +38,9 @@ same-length-5 c = search needs
 
 returns : tie.Need-returns Inv-loop μ-loop
 returns c = search needs
+
+finish-requires : tie.Need-finish-requires Inv-loop μ-loop
+finish-requires c κs = search needs
 
 same-length-6 : tie.Need-same-length-6 Inv-loop μ-loop
 same-length-6 c = search needs
@@ -114,18 +108,16 @@ take-blocks-spec =
     (tie.spec
     Inv-loop
     μ-loop
-    start-requires
     loop-holds
     read-requires
-    slice-aggregate-fail
     fail-requires
-    start-requires-2
     same-length
     same-length-2
     same-length-3
     same-length-4
     same-length-5
     returns
+    finish-requires
     same-length-6
     same-length-7
     same-length-8
