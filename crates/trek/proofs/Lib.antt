@@ -8,3 +8,4 @@ pub mod Accepted
 pub mod Bound
 pub mod Ended
 pub mod Judged
+pub mod Longer

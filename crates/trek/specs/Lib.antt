@@ -1,1 +1,2 @@
 pub mod Trek
+pub mod Longer
