@@ -2,5 +2,6 @@
 pub mod Ordered
 pub mod Spelling
 pub mod Law
+pub mod ByOrder
 pub mod Deep
 pub mod Sample

@@ -26,11 +26,14 @@ use Rattle.walk.specs.Walk.{popsOf, rootOf, leftIn, numberedOf, ringOf, entered
 use Rattle.judge.specs.Judge.{isHeld, isEntry, atomStands, bondStands, atomsFrom, bondsFrom, afterAtoms, badRecord}
 use Rattle.write.specs.declared.answer.Written.the-variants.{Done}
 use Rattle.write.specs.Write.{graphOf, walkIn, saidIn, atomRoom, bondRoom, left, putLine, concluded, graphWritten, writeOf}
+use Rattle.write.specs.Order.{orderOf}
 use Rattle.retell.specs.Retell.{nests}
 use Rattle.renumber.specs.Renumber.{Backed, Simple}
 use Rattle.renumber.specs.Marks.{Tetrahedral, bearsHydrogen, otherMark, toggled, oddIndex}
 use Rattle.trip.specs.RoundTrip.{Plain, Readable, backKind, ReadBack}
+use Rattle.trip.specs.ByOrder.{ReadByOrder}
 use Rattle.trip.proofs.Law.{round-trip}
+use Rattle.trip.proofs.ByOrder.{trip-by-order}
 
 abbrev carbon : AtomKind
 carbon = Aliphatic 1
@@ -124,3 +127,9 @@ chain-done = chain-back .done
 chain-mark : kindAt (graphOf 3 (read.lineOf line 9 8 .atoms) (read.lineOf line 9 8 .bonds)) 1 ≡ marked 2
 unfolding words.listOf words.wordsOf words.pairOf words.bracketPair words.loadAt words.loadOf words.plainOf words.bracketOf words.bondAt words.bondOf words.entryOf kindOf codeOf reverseOf bracketInRange inRange invertBracket invertOf kindOr bondOr kindIn degreeIn bondIn isRefused isFixed turnedOr even saidAs scanIn judgedBack wayOf popsOf rootOf leftIn numberedOf ringOf enteredOf enterOf bondTurn entryOf atomOf turnOf stepOf walkTo eventsOf turnsOf startsOf sumOf walkIn backKind bearsHydrogen otherMark toggled oddIndex
 chain-mark = chain-back .same .kinds 1 (omega arith) ∙ refl
+
+-- and the same by a walk order into tables of 3, 5 and 4 words
+chain-by-order : ReadByOrder atoms 3 bonds 4 (orderOf 3 5 4 atoms 3 bonds 4) (read.lineOf line 9 8)
+chain-by-order =
+    trip-by-order 12 atoms 3 bonds 4 9 (line ++ (0 ∷ 0 ∷ 0 ∷ [])) 3 5 4 9 8 chain-plain written
+    (record { walked = omega arith; number = omega arith; back = omega arith }) readable
