@@ -14,17 +14,21 @@ use Rattle.feature.specs.Pick.{pick}
 use Rattle.graph.specs.Limits.{atomLimit, bondLimit, lesserOf}
 use Rattle.build.specs.Build.{startsOf}
 use Rattle.writer.specs.declared.Writer.{Writer}
-use Rattle.writer.specs.Line.{Event, writeEvents}
+use Rattle.writer.specs.Line.{Event, lineOf, writeEvents}
 use Rattle.writer.specs.Tables.{Spoken, spoken, writer, sayAll, pieceRoom}
 use Rattle.writer.specs.Pieces.{Holds}
 use Rattle.writer.proofs.Pieces.{holds-all, holds-none}
 use Rattle.ways.specs.Graph.{Graph, graph}
 use Rattle.walk.specs.declared.walker.Walker.{Walker}
 use Rattle.walk.specs.Walk.{Walk, walk, startWalker, walkTo, eventsOf, turnsOf}
+use Rattle.trek.specs.Trek.{fresh}
+use Rattle.trek.proofs.Moves.{by-test}
 use Rattle.write.specs.declared.answer.Written.{Written}
 use Rattle.write.specs.declared.answer.Written.the-variants.{Done, OutRoom}
-use Rattle.write.specs.Write.{zeros, pairWords, graphOf, startIn, walkIn, saidIn, saidOf, lineSaid, refusalOf, Left, left, refusing, putLine, ended, concluded, graphWritten}
+use Rattle.write.specs.Write.{zeros, pairWords, startIn, walkIn, refusalOf, Left, left, refusing, putLine, ended, concluded, graphWritten}
 use Rattle.write.specs.Order as made
+use Rattle.write.specs.Lengths.{graphIn, smallWalk, smallSaid, smallWritten}
+use Rattle.write.proofs.Lengths.{small-written}
 
 -- ---- each way out
 pub end-refused : (out o : List ℕ) (z : Walker) (line : Writer) (r : Written) → z .refusal ≢ 0 → o ≡ zeros (length out) → r ≡ refusalOf z → left r o ≡ ended out z line
@@ -83,35 +87,38 @@ module _ (room : ℕ) (out : List ℕ) (z : Walker) (w : Writer) (line : List �
       ∙ ap (λ (k : ℕ). pick (eqb (z .refusal) 0) (pick (ltb room k) (refusing room (OutRoom k)) (left (Done k) out)) (refusing room (refusalOf z))) has
       ∙ ap (λ (x : Left). pick (eqb (z .refusal) 0) x (refusing room (refusalOf z))) (fits (ltb room (length line)) refl)
 
--- ---- a graph written
-full-room : pieceRoom (zeros atomLimit) ≡ atomLimit
+-- ---- a graph written, on work tables of k words each
+full-room : (k : ℕ) → k ≤ atomLimit → pieceRoom (zeros k) ≡ k
 unfolding pieceRoom lesserOf
-full-room = ap (λ (k : ℕ). pick (ltb k atomLimit) k atomLimit) (length-replicate {A = ℕ} atomLimit 0)
+full-room k h =
+    let l : length (zeros k) ≡ k = length-replicate {A = ℕ} k 0 in
+    by-test (λ (x : ℕ). x ≡ k) (ltb (length (zeros k)) atomLimit) (λ q. l) (λ q. omega (arith, h, l, ltb-false (length (zeros k)) atomLimit q))
 
-said-holds : (o out starts : List ℕ) (w : Writer) (es : List Event) → spoken w out starts ≡ sayAll (spoken (writer 0 0) o (zeros atomLimit)) es → Holds o (writeEvents atomLimit es []) (spoken w out starts)
-said-holds o out starts w es e =
-    subst (λ (s : Spoken). Holds o (writeEvents atomLimit es []) s) (sym e)
-    (subst (λ (n : ℕ). Holds o (writeEvents n es []) (sayAll (spoken (writer 0 0) o (zeros atomLimit)) es)) full-room (holds-all es (holds-none o (zeros atomLimit))))
+said-holds : (k : ℕ) → k ≤ atomLimit → (o out starts : List ℕ) (w : Writer) (es : List Event) → spoken w out starts ≡ sayAll (spoken (writer 0 0) o (zeros k)) es → Holds o (writeEvents k es []) (spoken w out starts)
+said-holds k h o out starts w es e =
+    subst (λ (s : Spoken). Holds o (writeEvents k es []) s) (sym e)
+    (subst (λ (n : ℕ). Holds o (writeEvents n es []) (sayAll (spoken (writer 0 0) o (zeros k)) es)) (full-room k h) (holds-all es (holds-none o (zeros k))))
 
-module _ (atoms bonds first : List ℕ) (n m : ℕ) (fst : first ≡ startsOf n atoms (zeros atomLimit)) where
-  graph-is : graph n atoms bonds first ≡ graphOf n atoms bonds
+module _ (k : ℕ) (atoms bonds first : List ℕ) (n m : ℕ) (fst : first ≡ startsOf n atoms (zeros k)) where
+  graph-is : graph n atoms bonds first ≡ graphIn k n atoms bonds
   graph-is = ap (λ (x : List ℕ). graph n atoms bonds x) fst
 
-  walk-is : (lm lw lb : ℕ) (w : Walk) → w ≡ walkTo (graph n atoms bonds first) (turnsOf n m) (startIn lm lw lb) → w ≡ walkIn lm lw lb atoms n bonds m
-  unfolding walkIn
-  walk-is lm lw lb w e = e ∙ ap (λ (g : Graph). walkTo g (turnsOf n m) (startIn lm lw lb)) graph-is
+  walk-is : (u w : Walk) → w ≡ walkTo (graph n atoms bonds first) (turnsOf n m) u → w ≡ walkTo (graphIn k n atoms bonds) (turnsOf n m) u
+  walk-is u w e = e ∙ ap (λ (g : Graph). walkTo g (turnsOf n m) u) graph-is
 
-  said-is : (lm lw lb : ℕ) (s x : Spoken) → x ≡ sayAll s (eventsOf (graph n atoms bonds first) (turnsOf n m) (startIn lm lw lb)) → x ≡ sayAll s (saidIn lm lw lb atoms n bonds m)
-  unfolding saidIn
-  said-is lm lw lb s x e = e ∙ ap (λ (g : Graph). sayAll s (eventsOf g (turnsOf n m) (startIn lm lw lb))) graph-is
+  said-is : (s x : Spoken) → x ≡ sayAll s (eventsOf (graph n atoms bonds first) (turnsOf n m) (fresh k k k k (zeros pairWords))) → x ≡ sayAll s (smallSaid k atoms n bonds m)
+  unfolding smallSaid
+  said-is s x e = e ∙ ap (λ (g : Graph). sayAll s (eventsOf g (turnsOf n m) (fresh k k k k (zeros pairWords)))) graph-is
 
-  pub graph-written : (room : ℕ) (o out starts met walked back taken pairs : List ℕ) (z : Walker) (line : Writer) (r : Left) → o ≡ zeros room → walk z met walked back taken pairs ≡ walkTo (graph n atoms bonds first) (turnsOf n m) (startIn atomLimit atomLimit atomLimit) → spoken line out starts ≡ sayAll (spoken (writer 0 0) o (zeros atomLimit)) (eventsOf (graph n atoms bonds first) (turnsOf n m) (startIn atomLimit atomLimit atomLimit)) → r ≡ ended out z line → r ≡ graphWritten room atoms n bonds m
-  unfolding graphWritten
-  graph-written room o out starts met walked back taken pairs z line r zo w s e =
-      let h = said-holds o out starts line (saidOf atoms n bonds m) (said-is atomLimit atomLimit atomLimit _ _ s) in
+  pub graph-written : n ≤ k → k ≤ atomLimit → (room : ℕ) (o out starts met walked back taken pairs : List ℕ) (z : Walker) (line : Writer) (r : Left) → o ≡ zeros room → walk z met walked back taken pairs ≡ walkTo (graph n atoms bonds first) (turnsOf n m) (fresh k k k k (zeros pairWords)) → spoken line out starts ≡ sayAll (spoken (writer 0 0) o (zeros k)) (eventsOf (graph n atoms bonds first) (turnsOf n m) (fresh k k k k (zeros pairWords))) → r ≡ ended out z line → r ≡ graphWritten room atoms n bonds m
+  unfolding smallWritten smallWalk
+  graph-written low high room o out starts met walked back taken pairs z line r zo w s e =
+      let x : List ℕ = lineOf (writeEvents k (smallSaid k atoms n bonds m) []) in
+      let h = said-holds k high o out starts line (smallSaid k atoms n bonds m) (said-is _ _ s) in
       e
-      ∙ ended-is room out z line (lineSaid (saidOf atoms n bonds m)) (h .len) (h .line ∙ ap (λ (x : List ℕ). sets x 0 (lineSaid (saidOf atoms n bonds m))) zo)
-      ∙ ap (λ (x : Walk). concluded room (x .at) (lineSaid (saidOf atoms n bonds m))) (walk-is atomLimit atomLimit atomLimit _ w)
+      ∙ ended-is room out z line x (h .len) (h .line ∙ ap (λ (y : List ℕ). sets y 0 x) zo)
+      ∙ ap (λ (y : Walk). concluded room (y .at) x) (walk-is _ _ w)
+      ∙ small-written atoms n bonds m (omega (arith, low, high)) k low room
 
 -- ---- a walk order
 pub order-refused : (walked met back w′ m′ b′ : List ℕ) (n : ℕ) (z : Walker) (r : Written) → z .refusal ≢ 0 → w′ ≡ zeros (length walked) → m′ ≡ zeros (length met) → b′ ≡ zeros (length back) → r ≡ refusalOf z → made.order r w′ m′ b′ ≡ made.concluded n z walked met back
@@ -142,9 +149,9 @@ start-is z lm lw lb met walked back taken pairs e f g =
     ∙ ap (λ (x : List ℕ). walk z (zeros lm) (zeros lw) x taken pairs) g
 
 pub graph-ordered : (atoms bonds first : List ℕ) (n m lm lw lb : ℕ) (m₀ w₀ b₀ met walked back taken pairs : List ℕ) (z : Walker) (r : made.Order) → first ≡ startsOf n atoms (zeros atomLimit) → m₀ ≡ zeros lm → w₀ ≡ zeros lw → b₀ ≡ zeros lb → walk z met walked back taken pairs ≡ walkTo (graph n atoms bonds first) (turnsOf n m) (walk startWalker m₀ w₀ b₀ (zeros atomLimit) (zeros pairWords)) → r ≡ made.concluded n z walked met back → r ≡ made.graphOrdered lw lm lb atoms n bonds m
-unfolding made.graphOrdered
+unfolding made.graphOrdered walkIn
 graph-ordered atoms bonds first n m lm lw lb m₀ w₀ b₀ met walked back taken pairs z r f e1 e2 e3 w e =
     e
     ∙ ap (λ (x : Walk). made.concluded n (x .at) (x .walked) (x .met) (x .back))
-    (walk-is atoms bonds first n m f lm lw lb (walk z met walked back taken pairs)
+    (walk-is atomLimit atoms bonds first n m f (startIn lm lw lb) (walk z met walked back taken pairs)
     (w ∙ ap (λ (x : Walk). walkTo (graph n atoms bonds first) (turnsOf n m) x) (start-is startWalker lm lw lb m₀ w₀ b₀ (zeros atomLimit) (zeros pairWords) e1 e2 e3)))

@@ -1,4 +1,6 @@
 -- The walk's tables start as zeros, so the line that its writer holds is the one that the definition says.
+use native.Mathlib.Omega.{arith}
+use Rattle.graph.specs.Limits.{atomLimit}
 use Rattle.write.proofs.Ends.{graph-written, few}
 use borrow.Author.Needs.{needs}
 use Rattle.write.proofs.write_graph.Statement.{statement}
@@ -41,7 +43,7 @@ same-length : tie.Need-same-length
 same-length c = search needs
 
 returns : tie.Need-returns
-returns c = graph-written _ _ _ _ _ (c .before .before .before .before .before .before .before .before .before .before .before .before .before .before .before .before .before .before .before .before .before .before .lay-starts .ensures) _ _ _ _ _ _ _ _ _ _ _ _ (c .before .before .before .before .before .before .before .before .before .before .before .before .before .before .before .before .before .before .before .before .before .before .before .before .before .before .before .pre .2) (c .before .before .before .before .before .before .before .before .before .before .before .before .walk .ensures .0) (c .before .before .before .before .before .before .before .before .before .before .before .before .walk .ensures .1) (c .before .before .conclude .ensures)
+returns c = graph-written atomLimit _ _ _ _ _ (c .before .before .before .before .before .before .before .before .before .before .before .before .before .before .before .before .before .before .before .before .before .before .lay-starts .ensures) (c .before .before .before .before .before .before .before .before .before .before .before .before .before .before .before .before .before .before .before .before .before .before .before .before .before .before .before .pre .0) (omega arith) _ _ _ _ _ _ _ _ _ _ _ _ (c .before .before .before .before .before .before .before .before .before .before .before .before .before .before .before .before .before .before .before .before .before .before .before .before .before .before .before .pre .2) (c .before .before .before .before .before .before .before .before .before .before .before .before .walk .ensures .0) (c .before .before .before .before .before .before .before .before .before .before .before .before .walk .ensures .1) (c .before .before .conclude .ensures)
 
 pub write-graph-spec : {M : Type 1} → statement M
 write-graph-spec =
