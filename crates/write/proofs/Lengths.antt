@@ -73,13 +73,13 @@ module _ (atoms : List ℕ) (n : ℕ) (bonds : List ℕ) (m : ℕ) where
       ap (λ (x : List ℕ). graph n atoms bonds x)
       (ap (startsOf n atoms) (sym (longer-zeros n k h)) ∙ starts-longer n atoms (zeros n) (k - n) (omega (arith, length-replicate {A = ℕ} n 0)))
 
-  pub walk-longer : (k lm lw lb lt : ℕ) → n ≤ k → Lengths leastGraph lm lw lb lt
+  walk-longer : (k lm lw lb lt : ℕ) → n ≤ k → Lengths leastGraph lm lw lb lt
       → walkTo (graphIn k n atoms bonds) (turnsOf n m) (fresh lm lw lb lt (zeros pairWords)) ≡ longerWalk (lm - n) (lw - n) (lb - n) (lt - n) least
   walk-longer k lm lw lb lt h l =
       ap (λ (g : Graph). walkTo g (turnsOf n m) (fresh lm lw lb lt (zeros pairWords))) (graph-longer k h)
       ∙ any-length leastGraph (turnsOf n m) (zeros pairWords) (k - n) lm lw lb lt l .left
 
-  pub said-longer : (k lm lw lb lt : ℕ) → n ≤ k → Lengths leastGraph lm lw lb lt
+  said-longer : (k lm lw lb lt : ℕ) → n ≤ k → Lengths leastGraph lm lw lb lt
       → eventsOf (graphIn k n atoms bonds) (turnsOf n m) (fresh lm lw lb lt (zeros pairWords)) ≡ leastSaid leastGraph (turnsOf n m) (zeros pairWords)
   said-longer k lm lw lb lt h l =
       ap (λ (g : Graph). eventsOf g (turnsOf n m) (fresh lm lw lb lt (zeros pairWords))) (graph-longer k h)
