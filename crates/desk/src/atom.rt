@@ -48,7 +48,7 @@ pub fn read_atom(text: &[u8]) -> Begins
 }
 
 // Zeros all through an output.
-fn wipe(out: &mut [u8])
+pub fn wipe(out: &mut [u8])
     ensures { λ _. ⌜ now (out .exit) ≡ replicate (length (now (out .entry))) 0 ⌝ }
 {
     let mut at: usize = 0;

@@ -2,11 +2,22 @@
 -- fewer. A report is three words; those that find no room in a lent report are left out, and words after them are untouched.
 use Prim.Native.Nat.{ℕ}
 use mathlib.Core.List.{List, [], _∷_}
+use lib.ListN.{getD}
 use lib.Seq.{sets}
 use Rattle.read.specs.declared.Answer.{Answer}
 use Rattle.read.specs.declared.Answer.the-variants as read
 use Rattle.write.specs.declared.answer.Written.{Written}
 use Rattle.write.specs.declared.answer.Written.the-variants as write
+use Rattle.graph.specs.declared.builder.Builder.{Builder}
+use Rattle.builder.specs.declared.calls.Answer as calls
+use Rattle.builder.specs.Build.{Left, leftBy}
+use Rattle.desk.specs.declared.lines.Said.{Said}
+use Rattle.desk.specs.declared.rings.Handed.{Handed}
+use Rattle.desk.specs.declared.atom.Begins.{Begins}
+use Rattle.desk.specs.declared.atom.Spelt.{Spelt}
+use Rattle.desk.specs.Pieces as pieces
+use Rattle.desk.specs.Slots as slots
+use Rattle.desk.specs.Texts as texts
 use Rattle.export.specs.declared.report.Report.{Report}
 
 abbrev pub report : ℕ → ℕ → ℕ → Report
@@ -40,6 +51,42 @@ ofWritten (write.AtomRoom n) = report 13 n 0
 ofWritten (write.BondRoom m) = report 14 m 0
 ofWritten (write.OutRoom bytes) = report 16 bytes 0
 ofWritten (write.BadTable place) = report 17 place 0
+
+-- ---- the single calls
+-- a number with the values that it carries, in a row
+abbrev pub carrying : ℕ → List ℕ → Report
+carrying n c = report n (getD c 0 0) (getD c 1 0)
+
+-- of words that stand for no state, no atom or no bond
+abbrev pub bad : Report
+bad = report 17 0 0
+
+-- of a builder's event: its refusal, 0 where it was accepted
+unfoldable pub ofEvent : Builder → Report
+ofEvent b = report (b .refusal) (b .carried) 0
+
+-- of a build; 0 carries the atoms and the bond entries
+abbrev pub ofLeft : Left → Report
+ofLeft l = carrying (l .number) (l .carries)
+
+unfoldable pub ofBuilt : calls.Answer → Report
+ofBuilt a = ofLeft (leftBy a [] [])
+
+-- of a writer's event; 0 carries the length of the line
+unfoldable pub ofSaid : Said → Report
+ofSaid s = carrying (pieces.numberOf s) (pieces.carriedBy s)
+
+-- of the pool's call for the atoms a and b; 0 carries the ring number
+unfoldable pub ofHanded : ℕ → ℕ → Handed → Report
+ofHanded a b h = carrying (slots.numberOf h) (slots.carriedBy a b h)
+
+-- of reading one atom; 0 carries the place after it
+unfoldable pub ofBegins : Begins → Report
+ofBegins b = carrying (texts.readNumber b) (texts.placeIn b)
+
+-- of a text; 0 carries the bytes written
+unfoldable pub ofSpelt : Spelt → Report
+ofSpelt s = carrying (texts.numberOf s) (texts.carriedBy s)
 
 -- the words of a report laid into what was lent for it
 unfoldable pub laidInto : List ℕ → Report → List ℕ

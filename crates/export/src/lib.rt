@@ -1,7 +1,17 @@
 // The desk's calls for programs in other languages: functions over numbers and slices, with the answer in a lent report.
 //
+// atom: one atom read, and the text of an atom, a bond or a ring number.
+// events: the builder's events and its build.
+// lines: the writer's events.
 // report: an answer as a number and what it carries.
-pub mod report;
+// rings: a ring number from the pool.
+// state: a state as words.
+pub mod atom;
+pub mod events;
+pub mod lines;
+mod report;
+pub mod rings;
+mod state;
 
 ghost use mathlib.Core.Path.{_≡_};
 ghost use lib.ListN.{length};

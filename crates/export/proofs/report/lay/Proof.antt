@@ -1,23 +1,21 @@
--- Three stores, one after the other.
-use Rattle.export.proofs.Reports.{laid-all}
+-- The words of a report in a row.
+use Rattle.export.specs.Report.{laidInto}
 use borrow.Author.Needs.{needs}
 use Rattle.export.proofs.report.lay.Statement.{statement}
 use Rattle.export.proofs.report.lay.Tie as tie
+use Rattle.export.proofs.report.lay.Reads as reads
+use Rattle.export.proofs.report.lay.Lts as lts
+use Rattle.export.proofs.report.put_row.Reads as put-row-reads
 
-put-requires : tie.Need-put-requires
-put-requires c κs = search needs
-
-put-requires-2 : tie.Need-put-requires-2
-put-requires-2 c κs = search needs
-
-put-requires-3 : tie.Need-put-requires-3
-put-requires-3 c κs = search needs
+put-row-requires : tie.Need-put-row-requires
+put-row-requires c κs = search needs
 
 same-length : tie.Need-same-length
 same-length c = search needs
 
 returns : tie.Need-returns
-returns c = laid-all _ _ _ _ _ (c .before .before .before .before .before .before .before .before .before .before .put .ensures) (c .before .before .before .before .before .before .put2 .ensures) (c .before .before .put3 .ensures)
+unfolding laidInto
+returns c = c .before .before .put-row .ensures
 
 pub lay-spec : {M : Type 1} → statement M
-lay-spec = tie.close (tie.spec put-requires put-requires-2 put-requires-3 same-length returns)
+lay-spec = tie.close (tie.spec put-row-requires same-length returns)

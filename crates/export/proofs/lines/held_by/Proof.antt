@@ -1,0 +1,66 @@
+-- Each answer of an event: only the first has a new state.
+use Rattle.export.specs.Lines.{heldBy}
+use borrow.Author.Needs.{needs}
+use Rattle.export.proofs.lines.held_by.Statement.{statement}
+use Rattle.export.proofs.lines.held_by.Tie as tie
+use Rattle.export.proofs.lines.held_by.Reads as reads
+use Rattle.export.proofs.lines.held_by.Lts as lts
+
+enum-known-said : tie.Need-enum-known-said
+enum-known-said c = search needs
+
+enum-known-said-2 : tie.Need-enum-known-said-2
+enum-known-said-2 c = search needs
+
+enum-known-said-3 : tie.Need-enum-known-said-3
+enum-known-said-3 c = search needs
+
+enum-told : tie.Need-enum-told
+enum-told c = search needs
+
+enum-told-2 : tie.Need-enum-told-2
+enum-told-2 c = search needs
+
+enum-told-3 : tie.Need-enum-told-3
+enum-told-3 c = search needs
+
+returns : tie.Need-returns
+unfolding heldBy
+returns c = simp (c .before .said .given .1)
+
+returns-2 : tie.Need-returns-2
+unfolding heldBy
+returns-2 c = simp (c .before .said2 .given .1)
+
+returns-3 : tie.Need-returns-3
+unfolding heldBy
+returns-3 c = simp (c .before .said3 .given .1)
+
+returns-4 : tie.Need-returns-4
+unfolding heldBy
+returns-4 c = simp (c .enum-told .given .1)
+
+returns-5 : tie.Need-returns-5
+unfolding heldBy
+returns-5 c = simp (c .enum-told2 .given .1)
+
+returns-6 : tie.Need-returns-6
+unfolding heldBy
+returns-6 c = simp (c .enum-told3 .given .1)
+
+pub held-by-spec : {M : Type 1} → statement M
+held-by-spec =
+    tie.close
+    (tie.spec
+    enum-known-said
+    enum-known-said-2
+    enum-known-said-3
+    enum-told
+    enum-told-2
+    enum-told-3
+    returns
+    returns-2
+    returns-3
+    returns-4
+    returns-5
+    returns-6)

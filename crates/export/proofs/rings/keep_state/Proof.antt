@@ -1,0 +1,45 @@
+-- A refused call keeps the words, another lays its state.
+use Rattle.export.specs.Rings.{keptIn}
+use Rattle.export.specs.Given.{onPool}
+use borrow.Author.Needs.{needs}
+use Rattle.export.proofs.rings.keep_state.Statement.{statement}
+use Rattle.export.proofs.rings.keep_state.Tie as tie
+use Rattle.export.proofs.rings.keep_state.Reads as reads
+use Rattle.export.proofs.rings.keep_state.Lts as lts
+use Rattle.export.proofs.rings.held_by.Reads as held-by-reads
+use Rattle.export.proofs.state.lay_pool.Reads as lay-pool-reads
+
+held-by-requires : tie.Need-held-by-requires
+held-by-requires c κs = search needs
+
+enum-known-held : tie.Need-enum-known-held
+enum-known-held c = search needs
+
+enum-told : tie.Need-enum-told
+enum-told c = search needs
+
+returns : tie.Need-returns
+unfolding keptIn onPool
+returns c = simp (← c .before .before .held-by .ensures, c .enum-told .given .1)
+
+lay-pool-requires : tie.Need-lay-pool-requires
+lay-pool-requires c κs = search needs
+
+same-length : tie.Need-same-length
+same-length c = search needs
+
+returns-2 : tie.Need-returns-2
+unfolding keptIn onPool
+returns-2 c = simp (← c .before .before .before .before .before .before .before .held-by .ensures, c .before .before .before .before .before .held .given .1, ← c .before .before .lay-pool .ensures)
+
+pub keep-state-spec : {M : Type 1} → statement M
+keep-state-spec =
+    tie.close
+    (tie.spec
+    held-by-requires
+    enum-known-held
+    enum-told
+    returns
+    lay-pool-requires
+    same-length
+    returns-2)

@@ -1,0 +1,40 @@
+-- The pool's call for other languages: words that stand for no pool are answered 17, carrying 0; else the answer is the
+-- call's. An accepted call lays its new state into the state's words; a refused one changes nothing but the report.
+use Prim.Native.Nat.{ℕ}
+use mathlib.Core.List.{List}
+use lib.Seq.{sets}
+use Rattle.desk.specs.Slots.{Gives, hitD}
+use Rattle.desk.specs.declared.rings.Handed.{Handed}
+use Rattle.desk.specs.declared.rings.Handed.the-variants.{Number, RingNumbers, BadTable}
+use Rattle.export.specs.declared.state.AsPool.{AsPool}
+use Rattle.export.specs.declared.state.AsPool.the-variants as pool
+use Rattle.export.specs.Given.{onPool}
+use Rattle.export.specs.Report.{bad, ofHanded, laidInto}
+use Rattle.export.specs.State.{poolIn, poolList}
+
+-- every cell that is lent to a call
+pub record Cells : Type 0 where
+  pub pairs : List ℕ
+  pub state : List ℕ
+  pub report : List ℕ
+
+abbrev pub cells : List ℕ → List ℕ → List ℕ → Cells
+cells p s t = record { pairs = p; state = s; report = t }
+
+-- the new state, where a number was handed out or closed
+unfoldable pub heldBy : Handed → AsPool
+heldBy (Number p n) = pool.Is p
+heldBy RingNumbers = pool.Bad
+heldBy BadTable = pool.Bad
+
+-- the state's words after a call
+unfoldable pub keptIn : List ℕ → Handed → List ℕ
+keptIn words handed = onPool (heldBy handed) words (λ p. sets words 0 (poolList p))
+
+-- what a call for the atoms a and b leaves
+unfoldable pub after : Cells → ℕ → ℕ → Gives → Cells
+after c a b g = cells (g .left) (keptIn (c .state) (g .answer)) (laidInto (c .report) (ofHanded a b (g .answer)))
+
+unfoldable pub hitX : Cells → ℕ → ℕ → Cells
+hitX c a b =
+    onPool (poolIn (c .state)) (cells (c .pairs) (c .state) (laidInto (c .report) bad)) (λ p. after c a b (hitD p (c .pairs) a b))

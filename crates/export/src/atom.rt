@@ -1,0 +1,94 @@
+// One atom as text, both ways, and the text of a bond and of a ring number, with the answer in a report. An atom's kind is its
+// two words, a bond's its number. A refused text leaves zeros in the output, a refused reading zeros for a kind.
+ghost use mathlib.Core.Path.{_≡_};
+ghost use lib.ListN.{length};
+ghost use lib.Seq.{sets};
+ghost use Rattle.record.specs.Words.{listed};
+ghost use Rattle.desk.specs.Texts.{firstAtom, rnumD};
+ghost use Rattle.export.specs.Report.{ofBegins, laidInto};
+ghost use Rattle.export.specs.Atom.{kindIn, spelling, told, atomX, bondX};
+use crate::report::lay;
+use crate::report::of_begins;
+use crate::report::of_spelt;
+use crate::report::refuse;
+use desk::atom;
+use desk::atom::Begins;
+use desk::atom::wipe;
+use feature::bond_kind::Coded;
+use feature::bond_kind::decode;
+use record::Loaded;
+use record::Pair;
+use record::kind;
+use record::poke;
+use record::words;
+
+// The words of the kind that was read, or zeros.
+fn kind_in(b: Begins) -> Pair
+    ensures { λ r. ⌜ r ≡ kindIn b ⌝ }
+{
+    match b {
+        Begins::Atom(k, _next) => words(k),
+        Begins::EndOfLine => Pair {
+            first: 0,
+            second: 0,
+        },
+        Begins::Character(_place) => Pair {
+            first: 0,
+            second: 0,
+        },
+    }
+}
+
+fn lay_kind(lent: &mut [u32], w: Pair)
+    ensures { λ _. ⌜ now (lent .exit) ≡ sets (now (lent .entry)) 0 (listed w) ⌝ }
+{
+    poke(lent, 0, w.first);
+    poke(lent, 1, w.second);
+}
+
+// The atom that a text begins with.
+#[no_mangle]
+pub extern "C" fn mavisdrok_read_atom(text: &[u8], kind: &mut [u32], report: &mut [u64])
+    ensures { λ _. ⌜ now (kind .exit) ≡ sets (now (kind .entry)) 0 (listed (kindIn (firstAtom (now (text .entry))))) ⌝ }
+    ensures { λ _. ⌜ now (report .exit) ≡ laidInto (now (report .entry)) (ofBegins (firstAtom (now (text .entry)))) ⌝ }
+{
+    let found = atom::read_atom(text);
+    lay_kind(kind, kind_in(found));
+    lay(report, of_begins(found));
+}
+
+// An atom's text.
+#[no_mangle]
+pub extern "C" fn mavisdrok_spell_atom(out: &mut [u8], first: u32, second: u32, report: &mut [u64])
+    ensures { λ _. ⌜ spelling (now (out .exit)) (now (report .exit)) ≡ atomX (spelling (now (out .entry)) (now (report .entry))) first second ⌝ }
+{
+    let held = kind(first, second);
+    let Loaded::Held(k) = held else {
+        wipe(out);
+        refuse(report);
+        return;
+    };
+    lay(report, of_spelt(atom::spell_atom(out, k)));
+}
+
+// A bond's text: none where it is elided.
+#[no_mangle]
+pub extern "C" fn mavisdrok_spell_bond(out: &mut [u8], bond: u32, report: &mut [u64])
+    ensures { λ _. ⌜ spelling (now (out .exit)) (now (report .exit)) ≡ bondX (spelling (now (out .entry)) (now (report .entry))) bond ⌝ }
+{
+    let coded = decode(bond);
+    let Coded::Kind(k) = coded else {
+        wipe(out);
+        refuse(report);
+        return;
+    };
+    lay(report, of_spelt(atom::spell_bond(out, k)));
+}
+
+// A ring number's text.
+#[no_mangle]
+pub extern "C" fn mavisdrok_spell_rnum(out: &mut [u8], number: u32, report: &mut [u64])
+    ensures { λ _. ⌜ spelling (now (out .exit)) (now (report .exit)) ≡ told (now (report .entry)) (rnumD number (length (now (out .entry)))) ⌝ }
+{
+    lay(report, of_spelt(atom::spell_rnum(out, number)));
+}

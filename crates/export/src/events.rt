@@ -1,0 +1,210 @@
+// The builder's events and its build, over tables, the words of a state and a report. Words that stand for no state, no atom
+// or no bond are answered 17. An event that is refused changes nothing but the report.
+ghost use mathlib.Core.Path.{_≡_};
+ghost use Rattle.export.specs.Report.{ofEvent, laidInto};
+ghost use Rattle.export.specs.Events.{cells, keptIn, startX, started, rootX, extendX, joinX, popX, made, buildX};
+use crate::report::lay;
+use crate::report::of_built;
+use crate::report::of_event;
+use crate::report::refuse;
+use crate::state::AsBuilder;
+use crate::state::BUILDER_WORDS;
+use crate::state::builder_in;
+use crate::state::lay_builder;
+use build::clear;
+use builder::calls;
+use feature::bond_kind::Coded;
+use feature::bond_kind::decode;
+use graph::builder::Builder;
+use record::Loaded;
+use record::kind;
+
+// The new state, where an event was accepted.
+fn keep_state(state: &mut [u64], b: Builder)
+    ensures { λ _. ⌜ now (state .exit) ≡ keptIn (now (state .entry)) b ⌝ }
+{
+    if b.refusal != 0 {
+        return;
+    }
+    lay_builder(state, b);
+}
+
+// What an event leaves beside its tables.
+fn keep(state: &mut [u64], report: &mut [u64], b: Builder)
+    ensures { λ _. ⌜ now (state .exit) ≡ keptIn (now (state .entry)) b ⌝ }
+    ensures { λ _. ⌜ now (report .exit) ≡ laidInto (now (report .entry)) (ofEvent b) ⌝ }
+{
+    keep_state(state, b);
+    lay(report, of_event(b));
+}
+
+// A builder that has seen no event, with room for so many atoms and entries: its state, and its ring numbers all free.
+#[no_mangle]
+pub extern "C" fn mavisdrok_builder_start(
+    places: usize,
+    slots: usize,
+    rings: &mut [u32],
+    state: &mut [u64],
+    report: &mut [u64],
+)
+    ensures { λ _. ⌜ started (now (rings .exit)) (now (state .exit)) (now (report .exit))
+        ≡ startX places slots (started (now (rings .entry)) (now (state .entry)) (now (report .entry))) ⌝ }
+{
+    if state.len() < BUILDER_WORDS {
+        refuse(report);
+        return;
+    }
+    clear(rings);
+    keep(state, report, Builder::start(places, slots));
+}
+
+// A first atom of a component.
+#[no_mangle]
+pub extern "C" fn mavisdrok_builder_root(
+    atoms: &mut [u32],
+    entries: &[u32],
+    path: &mut [u32],
+    rings: &[u32],
+    state: &mut [u64],
+    first: u32,
+    second: u32,
+    report: &mut [u64],
+)
+    ensures { λ _. ⌜ cells (now (atoms .exit)) (now (entries .entry)) (now (path .exit)) (now (rings .entry)) (now (state .exit)) (now (report .exit))
+        ≡ rootX (cells (now (atoms .entry)) (now (entries .entry)) (now (path .entry)) (now (rings .entry)) (now (state .entry)) (now (report .entry))) first second ⌝ }
+{
+    let atom = kind(first, second);
+    let Loaded::Held(k) = atom else {
+        refuse(report);
+        return;
+    };
+    let held = builder_in(state);
+    let AsBuilder::Is(b) = held else {
+        refuse(report);
+        return;
+    };
+    keep(
+        state,
+        report,
+        calls::root(atoms, entries, path, rings, b, k),
+    );
+}
+
+// A new atom, bonded to the one that stands.
+#[no_mangle]
+pub extern "C" fn mavisdrok_builder_extend(
+    atoms: &mut [u32],
+    entries: &mut [u32],
+    path: &mut [u32],
+    rings: &[u32],
+    state: &mut [u64],
+    bond: u32,
+    first: u32,
+    second: u32,
+    report: &mut [u64],
+)
+    ensures { λ _. ⌜ cells (now (atoms .exit)) (now (entries .exit)) (now (path .exit)) (now (rings .entry)) (now (state .exit)) (now (report .exit))
+        ≡ extendX (cells (now (atoms .entry)) (now (entries .entry)) (now (path .entry)) (now (rings .entry)) (now (state .entry)) (now (report .entry))) bond first second ⌝ }
+{
+    let atom = kind(first, second);
+    let Loaded::Held(t) = atom else {
+        refuse(report);
+        return;
+    };
+    let coded = decode(bond);
+    let Coded::Kind(k) = coded else {
+        refuse(report);
+        return;
+    };
+    let held = builder_in(state);
+    let AsBuilder::Is(b) = held else {
+        refuse(report);
+        return;
+    };
+    keep(
+        state,
+        report,
+        calls::extend(atoms, entries, path, rings, b, k, t),
+    );
+}
+
+// A ring number at the atom that stands.
+#[no_mangle]
+pub extern "C" fn mavisdrok_builder_join(
+    atoms: &[u32],
+    entries: &mut [u32],
+    path: &[u32],
+    rings: &mut [u32],
+    state: &mut [u64],
+    bond: u32,
+    number: usize,
+    report: &mut [u64],
+)
+    ensures { λ _. ⌜ cells (now (atoms .entry)) (now (entries .exit)) (now (path .entry)) (now (rings .exit)) (now (state .exit)) (now (report .exit))
+        ≡ joinX (cells (now (atoms .entry)) (now (entries .entry)) (now (path .entry)) (now (rings .entry)) (now (state .entry)) (now (report .entry))) bond number ⌝ }
+{
+    let coded = decode(bond);
+    let Coded::Kind(k) = coded else {
+        refuse(report);
+        return;
+    };
+    let held = builder_in(state);
+    let AsBuilder::Is(b) = held else {
+        refuse(report);
+        return;
+    };
+    keep(
+        state,
+        report,
+        calls::join(atoms, entries, path, rings, b, k, number),
+    );
+}
+
+// So many atoms off the path. A pop beyond it empties it.
+#[no_mangle]
+pub extern "C" fn mavisdrok_builder_pop(
+    atoms: &[u32],
+    entries: &[u32],
+    path: &[u32],
+    rings: &[u32],
+    state: &mut [u64],
+    n: usize,
+    report: &mut [u64],
+)
+    ensures { λ _. ⌜ cells (now (atoms .entry)) (now (entries .entry)) (now (path .entry)) (now (rings .entry)) (now (state .exit)) (now (report .exit))
+        ≡ popX (cells (now (atoms .entry)) (now (entries .entry)) (now (path .entry)) (now (rings .entry)) (now (state .entry)) (now (report .entry))) n ⌝ }
+{
+    let held = builder_in(state);
+    let AsBuilder::Is(b) = held else {
+        refuse(report);
+        return;
+    };
+    keep(state, report, calls::pop(atoms, entries, path, rings, b, n));
+}
+
+// The graph in its final form. A refused build leaves zeros in both tables.
+#[no_mangle]
+pub extern "C" fn mavisdrok_builder_build(
+    atoms: &mut [u32],
+    bonds: &mut [u32],
+    entries: &[u32],
+    path: &[u32],
+    rings: &[u32],
+    state: &[u64],
+    report: &mut [u64],
+)
+    ensures { λ _. ⌜ made (now (atoms .exit)) (now (bonds .exit)) (now (report .exit))
+        ≡ buildX (cells (now (atoms .entry)) (now (entries .entry)) (now (path .entry)) (now (rings .entry)) (now (state .entry)) (now (report .entry))) (now (bonds .entry)) ⌝ }
+{
+    let held = builder_in(state);
+    let AsBuilder::Is(b) = held else {
+        clear(atoms);
+        clear(bonds);
+        refuse(report);
+        return;
+    };
+    lay(
+        report,
+        of_built(calls::build(atoms, bonds, entries, path, rings, b)),
+    );
+}

@@ -1,0 +1,55 @@
+// A ring number from the pool, over its table, the words of its state and a report. Words that stand for no pool are answered
+// 17. A call that is refused changes nothing but the report.
+ghost use mathlib.Core.Path.{_≡_};
+ghost use Rattle.export.specs.Rings.{cells, heldBy, keptIn, hitX};
+use crate::report::lay;
+use crate::report::of_handed;
+use crate::report::refuse;
+use crate::state::AsPool;
+use crate::state::lay_pool;
+use crate::state::pool_in;
+use desk::rings;
+use desk::rings::Handed;
+
+// The new state, where a number was handed out or closed.
+fn held_by(handed: Handed) -> AsPool
+    ensures { λ r. ⌜ r ≡ heldBy handed ⌝ }
+{
+    match handed {
+        Handed::Number(p, _n) => AsPool::Is(p),
+        Handed::RingNumbers => AsPool::Bad,
+        Handed::BadTable => AsPool::Bad,
+    }
+}
+
+fn keep_state(state: &mut [u64], handed: Handed)
+    ensures { λ _. ⌜ now (state .exit) ≡ keptIn (now (state .entry)) handed ⌝ }
+{
+    let held = held_by(handed);
+    let AsPool::Is(p) = held else {
+        return;
+    };
+    lay_pool(state, p);
+}
+
+// A call for the pair of two atoms: the first opens a number for it, the next closes it.
+#[no_mangle]
+pub extern "C" fn mavisdrok_pool_hit(
+    pairs: &mut [u32],
+    state: &mut [u64],
+    a: u32,
+    b: u32,
+    report: &mut [u64],
+)
+    ensures { λ _. ⌜ cells (now (pairs .exit)) (now (state .exit)) (now (report .exit))
+        ≡ hitX (cells (now (pairs .entry)) (now (state .entry)) (now (report .entry))) a b ⌝ }
+{
+    let held = pool_in(state);
+    let AsPool::Is(p) = held else {
+        refuse(report);
+        return;
+    };
+    let handed = rings::hit(pairs, p, a, b);
+    keep_state(state, handed);
+    lay(report, of_handed(handed, a, b));
+}
