@@ -1,10 +1,12 @@
-/* Mavisdrok's read call, write call and walk order, for C. The archive is made by tools/archive.
+/* Mavisdrok's calls, for C: the read call, the write call and the walk order; the single calls of a builder, of a writer and
+ * of the pool; one atom, bond or ring number as text. The archive is made by tools/archive.
  *
- * Every call takes any bytes, any tables and any counts, ends, and writes nothing outside what it is lent. A slice is a
- * pointer and a length in elements; the pointer of an empty one may be anything but null.
+ * Every call takes any bytes, any tables, any words and any counts, ends, and writes nothing outside what it is lent. A slice
+ * is a pointer and a length in elements; the pointer of an empty one may be anything but null.
  *
  * report: three words, as far as there is room: the desk's number, and the two values that it carries, 0 where it carries
- * fewer: crates/export/specs/Report.antt has them for each answer. docs/PACKING.md says how atoms and bonds stand in words. */
+ * fewer: crates/export/specs/Report.antt has them for each answer. docs/PACKING.md says how atoms, bonds and states stand in
+ * words. */
 #ifndef MAVISDROK_H
 #define MAVISDROK_H
 
@@ -22,6 +24,28 @@ extern "C" {
 #define MAVISDROK_ATOM_WORDS 3
 #define MAVISDROK_BOND_WORDS 2
 #define MAVISDROK_REPORT_WORDS 3
+
+/* The words of an atom's kind, of an entry in the making and of each state; the words of a builder's ring numbers and of a
+ * pool's table. */
+#define MAVISDROK_KIND_WORDS 2
+#define MAVISDROK_ENTRY_WORDS 3
+#define MAVISDROK_BUILDER_WORDS 11
+#define MAVISDROK_WRITER_WORDS 2
+#define MAVISDROK_POOL_WORDS 2
+#define MAVISDROK_RINGS 100
+#define MAVISDROK_PAIRS 300
+
+/* A bond's kind. */
+enum {
+    MAVISDROK_ELIDED = 1,
+    MAVISDROK_SINGLE,
+    MAVISDROK_DOUBLE,
+    MAVISDROK_TRIPLE,
+    MAVISDROK_QUADRUPLE,
+    MAVISDROK_AROMATIC,
+    MAVISDROK_UP,
+    MAVISDROK_DOWN
+};
 
 /* Reads a line. After 0, with the numbers of atoms and of bond entries, the tables hold its graph and zeros after it;
  * after a refusal they hold zeros. */
@@ -45,6 +69,128 @@ void mavisdrok_order(const uint32_t *atoms, size_t atoms_len, size_t n,
                      uint32_t *number, size_t number_len,
                      uint32_t *back, size_t back_len,
                      uint64_t *report, size_t report_len);
+
+/* ---- A builder
+ *
+ * atoms: three words an atom; entries: three words an entry; path: a word an atom; rings: a hundred words. state: eleven words,
+ * as mavisdrok_builder_start lays them and each accepted event leaves them. An atom's kind is its two words, a bond's its
+ * number. The events answer 17, 18, 13, 14, 10, or 0; 13 and 14 carry the atoms held, 10 the atom. An event that is not
+ * answered 0 changes nothing but the report. */
+
+/* A builder that has seen no event, with room for so many atoms and entries: its state, and every ring number free. 17 with
+ * nothing changed if the state's words find no room. What it has room for is judged with each event. */
+void mavisdrok_builder_start(size_t places, size_t slots,
+                             uint32_t *rings, size_t rings_len,
+                             uint64_t *state, size_t state_len,
+                             uint64_t *report, size_t report_len);
+
+/* A first atom of a component. */
+void mavisdrok_builder_root(uint32_t *atoms, size_t atoms_len,
+                            const uint32_t *entries, size_t entries_len,
+                            uint32_t *path, size_t path_len,
+                            const uint32_t *rings, size_t rings_len,
+                            uint64_t *state, size_t state_len,
+                            uint32_t first, uint32_t second,
+                            uint64_t *report, size_t report_len);
+
+/* A new atom, bonded to the one that stands. */
+void mavisdrok_builder_extend(uint32_t *atoms, size_t atoms_len,
+                              uint32_t *entries, size_t entries_len,
+                              uint32_t *path, size_t path_len,
+                              const uint32_t *rings, size_t rings_len,
+                              uint64_t *state, size_t state_len,
+                              uint32_t bond, uint32_t first, uint32_t second,
+                              uint64_t *report, size_t report_len);
+
+/* A ring number, 0 to 99, at the atom that stands. */
+void mavisdrok_builder_join(const uint32_t *atoms, size_t atoms_len,
+                            uint32_t *entries, size_t entries_len,
+                            const uint32_t *path, size_t path_len,
+                            uint32_t *rings, size_t rings_len,
+                            uint64_t *state, size_t state_len,
+                            uint32_t bond, size_t number,
+                            uint64_t *report, size_t report_len);
+
+/* So many atoms off the path. A pop beyond it empties it. */
+void mavisdrok_builder_pop(const uint32_t *atoms, size_t atoms_len,
+                           const uint32_t *entries, size_t entries_len,
+                           const uint32_t *path, size_t path_len,
+                           const uint32_t *rings, size_t rings_len,
+                           uint64_t *state, size_t state_len,
+                           size_t n,
+                           uint64_t *report, size_t report_len);
+
+/* The graph in its final form, in the builder's own table of atoms and in a table of bonds: 17, 3, 4, or 0 with the numbers of
+ * atoms and of bond entries. After a refusal both tables hold zeros. */
+void mavisdrok_builder_build(uint32_t *atoms, size_t atoms_len,
+                             uint32_t *bonds, size_t bonds_len,
+                             const uint32_t *entries, size_t entries_len,
+                             const uint32_t *path, size_t path_len,
+                             const uint32_t *rings, size_t rings_len,
+                             const uint64_t *state, size_t state_len,
+                             uint64_t *report, size_t report_len);
+
+/* ---- A writer
+ *
+ * out: the bytes of the line; starts: a word a piece; state: two words, two zeros to begin with. The events answer 17, 18, 19,
+ * 13 with the pieces held, 16 with the bytes that the line would have, or 0 with the bytes that it has. An event that is not
+ * answered 0 changes nothing but the report. */
+
+/* A first atom of a component. */
+void mavisdrok_writer_root(uint8_t *out, size_t out_len,
+                           uint32_t *starts, size_t starts_len,
+                           uint64_t *state, size_t state_len,
+                           uint32_t first, uint32_t second,
+                           uint64_t *report, size_t report_len);
+
+/* An atom bonded to the one before. */
+void mavisdrok_writer_extend(uint8_t *out, size_t out_len,
+                             uint32_t *starts, size_t starts_len,
+                             uint64_t *state, size_t state_len,
+                             uint32_t bond, uint32_t first, uint32_t second,
+                             uint64_t *report, size_t report_len);
+
+/* A ring number, 0 to 99, at the last piece. */
+void mavisdrok_writer_join(uint8_t *out, size_t out_len,
+                           uint32_t *starts, size_t starts_len,
+                           uint64_t *state, size_t state_len,
+                           uint32_t bond, uint32_t number,
+                           uint64_t *report, size_t report_len);
+
+/* The last n pieces, put in brackets onto the piece before. */
+void mavisdrok_writer_pop(uint8_t *out, size_t out_len,
+                          uint32_t *starts, size_t starts_len,
+                          uint64_t *state, size_t state_len,
+                          size_t n,
+                          uint64_t *report, size_t report_len);
+
+/* ---- The pool: a ring number for the pair of two atoms, opened by the first call for it and closed by the next.
+ *
+ * pairs: three hundred words, all zero to begin with; state: two words, 1 and 0 to begin with. 17, 11 with the two atoms, or 0
+ * with the number. A call that is not answered 0 changes nothing but the report. */
+void mavisdrok_pool_hit(uint32_t *pairs, size_t pairs_len,
+                        uint64_t *state, size_t state_len,
+                        uint32_t a, uint32_t b,
+                        uint64_t *report, size_t report_len);
+
+/* ---- One atom, bond or ring number as text */
+
+/* The atom that a text begins with: 1, 2 with a place, or 0 with the place after it and its two words in kind. After a
+ * refusal kind holds two zeros. */
+void mavisdrok_read_atom(const uint8_t *text, size_t text_len,
+                         uint32_t *kind, size_t kind_len,
+                         uint64_t *report, size_t report_len);
+
+/* The text of an atom, a bond, a ring number: 17, 16 with the bytes that it needs, or 0 with the bytes written, and zeros
+ * after them. After a refusal the output holds zeros. */
+void mavisdrok_spell_atom(uint8_t *out, size_t out_len, uint32_t first, uint32_t second,
+                          uint64_t *report, size_t report_len);
+
+void mavisdrok_spell_bond(uint8_t *out, size_t out_len, uint32_t bond,
+                          uint64_t *report, size_t report_len);
+
+void mavisdrok_spell_rnum(uint8_t *out, size_t out_len, uint32_t number,
+                          uint64_t *report, size_t report_len);
 
 #ifdef __cplusplus
 }

@@ -1,4 +1,5 @@
-//! SMILES lines read, walked and written by a proved library: the read call, the write call and the walk order.
+//! SMILES lines read, walked and written by a proved library: the read call, the write call and the walk order, and a builder
+//! and a writer that are told event by event.
 //!
 //! ```
 //! let graph = mavisdrok::read(b"C1CC[C@H]1F").unwrap();
@@ -6,6 +7,12 @@
 //! assert_eq!(graph.order().unwrap().walked, [0, 3, 2, 1, 4]);
 //! assert_eq!(mavisdrok::read(b"C)"), Err(mavisdrok::Error::Character(1)));
 //! ```
+
+mod feature;
+mod follower;
+
+pub use feature::{AtomKind, BondKind, Rnum};
+pub use follower::{Builder, Follower, JoinPool, Writer};
 
 /// The largest job: atoms and bond entries, and the words of each.
 pub const ATOMS: usize = 1024;
@@ -51,6 +58,8 @@ pub enum Error {
     OutRoom(usize),
     BadTable(usize),
     NoAtom,
+    /// A pop of as many pieces as are held, or more.
+    Overpop,
 }
 
 impl Error {
@@ -75,6 +84,7 @@ impl Error {
             Error::OutRoom(_) => 16,
             Error::BadTable(_) => 17,
             Error::NoAtom => 18,
+            Error::Overpop => 19,
         }
     }
 }
@@ -101,7 +111,8 @@ fn told(report: [u64; 3]) -> Result<(usize, usize), Error> {
         15 => Error::Nesting(a),
         16 => Error::OutRoom(a),
         17 => Error::BadTable(a),
-        _ => Error::NoAtom,
+        18 => Error::NoAtom,
+        _ => Error::Overpop,
     })
 }
 

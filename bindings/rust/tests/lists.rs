@@ -12,7 +12,7 @@ fn answer(text: &str) -> String {
 
 fn refused(error: Error) -> String {
     let carried = match error {
-        Error::EndOfLine | Error::NoAtom => String::new(),
+        Error::EndOfLine | Error::NoAtom | Error::Overpop => String::new(),
         Error::Join(a, b)
         | Error::UnknownTarget(a, b)
         | Error::HalfBond(a, b)
