@@ -6,12 +6,12 @@ use mathlib.Core.List.{List, [], _∷_}
 use native.Mathlib.Omega.{arith}
 use native.Mathlib.Nat.{le-of-suc-le-suc, not-suc-le-zero, zero-lt-suc, lt-irrefl, le-of-lt}
 use lib.ListN.{length, getD, List·getD-eq-default}
-use lib.Dec.{T, ltb, ltb→lt, eqb}
-use borrow.Author.Tests.{eq-eqb, ne-eqb, ltb-true, ltb-false, eqb-true, eqb-false}
+use lib.Dec.{T, ltb, leb, ltb→lt, leb→le, eqb}
+use borrow.Author.Tests.{eq-eqb, ne-eqb, ltb-true, ltb-false, leb-true, eqb-true, eqb-false}
 use Rattle.feature.specs.Pick.{either}
 use Rattle.feature.specs.Text.{letter}
-use Rattle.feature.specs.Names.{symbols, names, placeOf, begins, Ranked}
-use Rattle.feature.proofs.Table.{at, both-left, both-right, rising}
+use Rattle.feature.specs.Names.{symbols, names, placeOf, begins, Begun, Ranked}
+use Rattle.feature.proofs.Table.{at, every, both-left, both-right, rising}
 
 pub names-length : length names ≡ symbols
 unfolding names
@@ -132,3 +132,20 @@ first-byte j h = ltb→lt _ 256 (at isByte names tt j h)
 
 pub no-byte : (a : ℕ) → 255 < a → false ≡ begins a names
 no-byte a l = sym (begins-none a names (λ j h d. omega (arith, first-byte j (omega (arith, names-length)))))
+
+-- ---- where the names with a first byte begin, shown by a look at each
+unfoldable pub isBefore : ℕ → ℕ → ℕ → ℕ → Bool
+isBefore byte r j x = either (leb r j) (ltb x (byte * letter))
+
+pub begun-at : (byte r : ℕ) → T (leb r symbols) → T (every (isBefore byte r) 0 names) → Begun byte r
+unfolding isBefore
+begun-at byte r small test = record {
+  small = leb→le r symbols small;
+  lower = λ j h. one j h (leb r j) refl (at (isBefore byte r) names test j (omega (arith, names-length, leb→le r symbols small)));
+} where
+  one : (j : ℕ) → j < r → (b : Bool) → leb r j ≡ b → T (either b (ltb (getD names j 0) (byte * letter))) → getD names j 0 < byte * letter
+  one j h true e t = absurd (omega (arith, leb-true r j e))
+  one j h false e t = ltb→lt (getD names j 0) (byte * letter) t
+
+pub begun-nowhere : (byte : ℕ) → Begun byte 0
+begun-nowhere byte = record { small = omega arith; lower = λ j h. absurd (not-suc-le-zero h) }

@@ -1,10 +1,12 @@
 -- A rule of a table, proved at all of its entries by one test that antt computes. Assumes nothing.
-use mathlib.Core.Path.{_≡_, _∙_, subst, sym}
+use mathlib.Core.Path.{_≡_, refl, _∙_, subst, sym}
 use mathlib.Core.Bool.{Bool, true, false}
 use mathlib.Core.List.{List, [], _∷_}
-use Prim.Native.Nat.{ℕ, zero, suc, _+_, _<_}
+use Prim.Native.Nat.{ℕ, zero, suc, _+_, _<_, _≤_}
 use native.Mathlib.Nat.{add-zero, zero-add, add-suc, suc-add, le-of-suc-le-suc, not-suc-le-zero}
+use native.Mathlib.Omega.{arith}
 use lib.Dec.{T, ltb}
+use borrow.Author.Tests.{ltb-true, ltb-false}
 use lib.ListN.{length, getD}
 use Rattle.feature.specs.Pick.{both}
 
@@ -36,3 +38,16 @@ abbrev pub rising : List ℕ → Bool
 rising [] = true
 rising (x ∷ []) = true
 rising (x ∷ (y ∷ xs)) = both (ltb x y) (rising (y ∷ xs))
+
+-- a number that is none of the first n, as the last arm of a match over them knows it, is past them
+abbrev pub NoneOf : ℕ → ℕ → Type 0
+NoneOf zero x = Unit
+NoneOf (suc n) x = NoneOf n x × (x ≡ n → ⊥)
+
+past : (t : Bool) (n x : ℕ) → ltb n x ≡ t → n ≤ x → (x ≡ n → ⊥) → suc n ≤ x
+past true n x e h differs = ltb-true n x e
+past false n x e h differs = absurd (differs (omega (arith, ltb-false n x e)))
+
+pub beyond : (n x : ℕ) → NoneOf n x → n ≤ x
+beyond zero x none = omega arith
+beyond (suc n) x none = past (ltb n x) n x refl (beyond n x (none .0)) (none .1)

@@ -71,6 +71,11 @@ unfoldable pub begins : ℕ → List ℕ → Bool
 begins a [] = false
 begins a (x ∷ xs) = either (eqb (x / letter) a) (begins a xs)
 
+-- a place before which each name begins with a lower byte
+pub record Begun (byte r : ℕ) : Type 0 where
+  pub small : r ≤ symbols
+  pub lower : (j : ℕ) → j < r → getD names j 0 < byte * letter
+
 -- how many names stand before a number
 pub record Ranked (key r : ℕ) : Type 0 where
   pub small : r ≤ symbols

@@ -2,7 +2,7 @@
 ghost use mathlib.Core.Path.{_≡_};
 ghost use Prim.Native.Nat.{ℕ, _+_, _*_, _-_, _/_, _<_, _≤_};
 ghost use lib.ListN.{length, getD};
-ghost use Rattle.feature.specs.Names.{names, placeOf, begins, Ranked};
+ghost use Rattle.feature.specs.Names.{names, placeOf, begins, Begun, Ranked};
 
 // How many names there are. A symbol is the place of its name, from 0.
 pub const SYMBOLS: u32 = 127;
@@ -34,168 +34,195 @@ pub const SE: u32 = 96;
 // The aromatic ones: as b c n o p s se, the last eight of the table.
 pub const AROMATIC: u32 = 119;
 
-const NAMES: [u32; 127] = [
-    21504, // *
-    33380, // Ac
-    33384, // Ag
-    33389, // Al
-    33390, // Am
-    33395, // Ar
-    33396, // As
-    33397, // At
-    33398, // Au
-    33792, // B
-    33890, // Ba
-    33894, // Be
-    33897, // Bh
-    33898, // Bi
-    33900, // Bk
-    33907, // Br
-    34304, // C
-    34402, // Ca
-    34405, // Cd
-    34406, // Ce
-    34407, // Cf
-    34413, // Cl
-    34414, // Cm
-    34415, // Cn
-    34416, // Co
-    34419, // Cr
-    34420, // Cs
-    34422, // Cu
-    34915, // Db
-    34932, // Ds
-    34938, // Dy
-    35443, // Er
-    35444, // Es
-    35446, // Eu
-    35840, // F
-    35942, // Fe
-    35949, // Fl
-    35950, // Fm
-    35955, // Fr
-    36450, // Ga
-    36453, // Gd
-    36454, // Ge
-    36864, // H
-    36966, // He
-    36967, // Hf
-    36968, // Hg
-    36976, // Ho
-    36980, // Hs
-    37376, // I
-    37487, // In
-    37491, // Ir
-    38400, // K
-    38515, // Kr
-    39010, // La
-    39018, // Li
-    39027, // Lr
-    39030, // Lu
-    39031, // Lv
-    39524, // Mc
-    39525, // Md
-    39528, // Mg
-    39535, // Mn
-    39536, // Mo
-    39541, // Mt
-    39936, // N
-    40034, // Na
-    40035, // Nb
-    40037, // Nd
-    40038, // Ne
-    40041, // Nh
-    40042, // Ni
-    40048, // No
-    40049, // Np
-    40448, // O
-    40552, // Og
-    40564, // Os
-    40960, // P
-    41058, // Pa
-    41059, // Pb
-    41061, // Pd
-    41070, // Pm
-    41072, // Po
-    41075, // Pr
-    41077, // Pt
-    41078, // Pu
-    42082, // Ra
-    42083, // Rb
-    42086, // Re
-    42087, // Rf
-    42088, // Rg
-    42089, // Rh
-    42095, // Rn
-    42102, // Ru
-    42496, // S
-    42595, // Sb
-    42596, // Sc
-    42598, // Se
-    42600, // Sg
-    42602, // Si
-    42606, // Sm
-    42607, // Sn
-    42611, // Sr
-    43106, // Ta
-    43107, // Tb
-    43108, // Tc
-    43110, // Te
-    43113, // Th
-    43114, // Ti
-    43117, // Tl
-    43118, // Tm
-    43124, // Ts
-    43520, // U
-    44032, // V
-    44544, // W
-    45158, // Xe
-    45568, // Y
-    45667, // Yb
-    46191, // Zn
-    46195, // Zr
-    49780, // as
-    50176, // b
-    50688, // c
-    56320, // n
-    56832, // o
-    57344, // p
-    58880, // s
-    58982, // se
-];
-
-// A symbol's name, or 0 where the number is no symbol.
+// A symbol's name, or 0 where the number is no symbol. The arms become a table that is not laid anew for each call, as an
+// array's words would be.
 pub fn name(symbol: u32) -> u32
     ensures { λ r. ⌜ r ≡ getD names symbol 0 ⌝ }
 {
-    if symbol < SYMBOLS {
-        return entry(symbol as usize);
+    match symbol {
+        0 => 21504, // *
+        1 => 33380, // Ac
+        2 => 33384, // Ag
+        3 => 33389, // Al
+        4 => 33390, // Am
+        5 => 33395, // Ar
+        6 => 33396, // As
+        7 => 33397, // At
+        8 => 33398, // Au
+        9 => 33792, // B
+        10 => 33890, // Ba
+        11 => 33894, // Be
+        12 => 33897, // Bh
+        13 => 33898, // Bi
+        14 => 33900, // Bk
+        15 => 33907, // Br
+        16 => 34304, // C
+        17 => 34402, // Ca
+        18 => 34405, // Cd
+        19 => 34406, // Ce
+        20 => 34407, // Cf
+        21 => 34413, // Cl
+        22 => 34414, // Cm
+        23 => 34415, // Cn
+        24 => 34416, // Co
+        25 => 34419, // Cr
+        26 => 34420, // Cs
+        27 => 34422, // Cu
+        28 => 34915, // Db
+        29 => 34932, // Ds
+        30 => 34938, // Dy
+        31 => 35443, // Er
+        32 => 35444, // Es
+        33 => 35446, // Eu
+        34 => 35840, // F
+        35 => 35942, // Fe
+        36 => 35949, // Fl
+        37 => 35950, // Fm
+        38 => 35955, // Fr
+        39 => 36450, // Ga
+        40 => 36453, // Gd
+        41 => 36454, // Ge
+        42 => 36864, // H
+        43 => 36966, // He
+        44 => 36967, // Hf
+        45 => 36968, // Hg
+        46 => 36976, // Ho
+        47 => 36980, // Hs
+        48 => 37376, // I
+        49 => 37487, // In
+        50 => 37491, // Ir
+        51 => 38400, // K
+        52 => 38515, // Kr
+        53 => 39010, // La
+        54 => 39018, // Li
+        55 => 39027, // Lr
+        56 => 39030, // Lu
+        57 => 39031, // Lv
+        58 => 39524, // Mc
+        59 => 39525, // Md
+        60 => 39528, // Mg
+        61 => 39535, // Mn
+        62 => 39536, // Mo
+        63 => 39541, // Mt
+        64 => 39936, // N
+        65 => 40034, // Na
+        66 => 40035, // Nb
+        67 => 40037, // Nd
+        68 => 40038, // Ne
+        69 => 40041, // Nh
+        70 => 40042, // Ni
+        71 => 40048, // No
+        72 => 40049, // Np
+        73 => 40448, // O
+        74 => 40552, // Og
+        75 => 40564, // Os
+        76 => 40960, // P
+        77 => 41058, // Pa
+        78 => 41059, // Pb
+        79 => 41061, // Pd
+        80 => 41070, // Pm
+        81 => 41072, // Po
+        82 => 41075, // Pr
+        83 => 41077, // Pt
+        84 => 41078, // Pu
+        85 => 42082, // Ra
+        86 => 42083, // Rb
+        87 => 42086, // Re
+        88 => 42087, // Rf
+        89 => 42088, // Rg
+        90 => 42089, // Rh
+        91 => 42095, // Rn
+        92 => 42102, // Ru
+        93 => 42496, // S
+        94 => 42595, // Sb
+        95 => 42596, // Sc
+        96 => 42598, // Se
+        97 => 42600, // Sg
+        98 => 42602, // Si
+        99 => 42606, // Sm
+        100 => 42607, // Sn
+        101 => 42611, // Sr
+        102 => 43106, // Ta
+        103 => 43107, // Tb
+        104 => 43108, // Tc
+        105 => 43110, // Te
+        106 => 43113, // Th
+        107 => 43114, // Ti
+        108 => 43117, // Tl
+        109 => 43118, // Tm
+        110 => 43124, // Ts
+        111 => 43520, // U
+        112 => 44032, // V
+        113 => 44544, // W
+        114 => 45158, // Xe
+        115 => 45568, // Y
+        116 => 45667, // Yb
+        117 => 46191, // Zn
+        118 => 46195, // Zr
+        119 => 49780, // as
+        120 => 50176, // b
+        121 => 50688, // c
+        122 => 56320, // n
+        123 => 56832, // o
+        124 => 57344, // p
+        125 => 58880, // s
+        126 => 58982, // se
+        _ => 0,
     }
-    0
 }
 
-fn entry(i: usize) -> u32
-    requires { ⌜ i < 127 ⌝ }
-    ensures { λ r. ⌜ r ≡ getD names i 0 ⌝ }
+// A place in the table that no name with the byte as its first one stands before: the first of them, where there are any.
+fn first_of(byte: u32) -> u32
+    ensures { λ r. ⌜ Begun byte r ⌝ }
 {
-    NAMES[i]
+    match byte {
+        65 => 1, // A
+        66 => 9, // B
+        67 => 16, // C
+        68 => 28, // D
+        69 => 31, // E
+        70 => 34, // F
+        71 => 39, // G
+        72 => 42, // H
+        73 => 48, // I
+        75 => 51, // K
+        76 => 53, // L
+        77 => 58, // M
+        78 => 64, // N
+        79 => 73, // O
+        80 => 76, // P
+        82 => 85, // R
+        83 => 93, // S
+        84 => 102, // T
+        85 => 111, // U
+        86 => 112, // V
+        87 => 113, // W
+        88 => 114, // X
+        89 => 115, // Y
+        90 => 117, // Z
+        97 => 119, // a
+        98 => 120, // b
+        99 => 121, // c
+        110 => 122, // n
+        111 => 123, // o
+        112 => 124, // p
+        115 => 125, // s
+        _ => 0,
+    }
 }
 
-// How many names stand before a number: the table is ordered, so each look halves what is left of it.
+// How many names stand before a number: the table is ordered, and few names share a first byte.
 fn rank(key: u32) -> u32
     ensures { λ r. ⌜ Ranked key r ⌝ }
 {
-    let mut low: u32 = 0;
-    let mut high: u32 = SYMBOLS;
-    while low < high {
-        let middle = (low + high) / 2;
-        if name(middle) < key {
-            low = middle + 1;
-        } else {
-            high = middle;
+    let mut place = first_of(key / LETTER);
+    while place < SYMBOLS {
+        if key <= name(place) {
+            return place;
         }
+        place += 1;
     }
-    low
+    place
 }
 
 // The symbol that has a name's number, or SYMBOLS where none has it.

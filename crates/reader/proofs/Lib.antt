@@ -1,4 +1,4 @@
 -- Laws that several proofs cite.
-pub mod Bytes
+
 pub mod Counts
 pub mod Turn

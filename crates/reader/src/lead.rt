@@ -36,14 +36,52 @@ pub fn read_lead(s: &[u8], at: usize) -> Led
     }
 }
 
-// What a byte begins: '1' a branch, '2' a split or a union, '0' neither.
-fn table(c: usize) -> u8
-    requires { ⌜ c < 128 ⌝ }
-    ensures { λ r. ⌜ r ≡ bodyOf c ⌝ }
+// What a byte begins: '1' a branch, '2' a split or a union, '0' neither. Its arms become a table that is not laid anew for
+// each call, as an array's words would be.
+fn begun(b: u8) -> u8
+    ensures { λ r. ⌜ r ≡ bodyOf b ⌝ }
 {
-    let t =
-        b"00000000000000000000000000000000000222001020022222222222222002000222002002000022200220000002200000220000000000222002000000000000";
-    t[c]
+    match b {
+        b'(' => b'1',
+        b'.' => b'2',
+        b'-' => b'2',
+        b'=' => b'2',
+        b'#' => b'2',
+        b'$' => b'2',
+        b':' => b'2',
+        b'/' => b'2',
+        b'\\' => b'2',
+        b'A' => b'2',
+        b'B' => b'2',
+        b'C' => b'2',
+        b'F' => b'2',
+        b'I' => b'2',
+        b'N' => b'2',
+        b'O' => b'2',
+        b'P' => b'2',
+        b'S' => b'2',
+        b'T' => b'2',
+        b'b' => b'2',
+        b'c' => b'2',
+        b'n' => b'2',
+        b'o' => b'2',
+        b'p' => b'2',
+        b's' => b'2',
+        b'[' => b'2',
+        b'*' => b'2',
+        b'0' => b'2',
+        b'1' => b'2',
+        b'2' => b'2',
+        b'3' => b'2',
+        b'4' => b'2',
+        b'5' => b'2',
+        b'6' => b'2',
+        b'7' => b'2',
+        b'8' => b'2',
+        b'9' => b'2',
+        b'%' => b'2',
+        _ => b'0',
+    }
 }
 
 // The same at a place; the end begins nothing.
@@ -52,7 +90,7 @@ pub fn body(s: &[u8], at: usize) -> u8
 {
     let c = peek(s, at);
     if c < 128 {
-        return table(c as usize);
+        return begun(c as u8);
     }
     b'0'
 }

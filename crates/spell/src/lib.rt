@@ -233,33 +233,32 @@ fn put_bracket(out: &mut [u8], b: BracketAtom) -> usize
     put(out, m, b']')
 }
 
-// The organic symbols' places in the table of names: B C N O S P F Cl Br I At Ts, then b c n o p s.
-const ORGANIC: [u32; 18] = [
-    9,
-    16,
-    64,
-    73,
-    93,
-    76,
-    34,
-    21,
-    15,
-    48,
-    7,
-    110,
-    120,
-    121,
-    122,
-    123,
-    124,
-    125,
-];
-
-fn organic_symbol(n: usize) -> u32
+// An organic symbol's place in the table of names: B C N O S P F Cl Br I At Ts, then b c n o p s.
+fn organic_symbol(n: u32) -> u32
     requires { ⌜ n < 18 ⌝ }
     ensures { λ r. ⌜ (r ≡ getD organic n 0) × (r < symbols) ⌝ }
 {
-    ORGANIC[n]
+    match n {
+        0 => 9, // B
+        1 => 16, // C
+        2 => 64, // N
+        3 => 73, // O
+        4 => 93, // S
+        5 => 76, // P
+        6 => 34, // F
+        7 => 21, // Cl
+        8 => 15, // Br
+        9 => 48, // I
+        10 => 7, // At
+        11 => 110, // Ts
+        12 => 120, // b
+        13 => 121, // c
+        14 => 122, // n
+        15 => 123, // o
+        16 => 124, // p
+        17 => 125, // s
+        _ => 0,
+    }
 }
 
 fn put_kind(out: &mut [u8], k: AtomKind) -> usize
@@ -268,8 +267,8 @@ fn put_kind(out: &mut [u8], k: AtomKind) -> usize
 {
     match k {
         AtomKind::Star => put(out, 0, b'*'),
-        AtomKind::Aliphatic(n) => put_name(out, 0, organic_symbol(n as usize)),
-        AtomKind::Aromatic(n) => put_name(out, 0, organic_symbol((ALIPHATICS + n) as usize)),
+        AtomKind::Aliphatic(n) => put_name(out, 0, organic_symbol(n)),
+        AtomKind::Aromatic(n) => put_name(out, 0, organic_symbol(ALIPHATICS + n)),
         AtomKind::Bracket(b) => put_bracket(out, b),
     }
 }

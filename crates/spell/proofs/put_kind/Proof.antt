@@ -27,10 +27,6 @@ put-requires c κs = search needs
 enum-known-k : tie.Need-enum-known-k
 enum-known-k c = search needs
 
--- src/lib.rt:242:67
-cast-organic-symbol : tie.Need-cast-organic-symbol
-cast-organic-symbol c = search needs
-
 -- src/lib.rt:242:52
 organic-symbol-requires : tie.Need-organic-symbol-requires
 organic-symbol-requires c κs = let g = subst Good (c .before .before .k .given .1) (c .before .before .before .before .before .pre) in omega arith
@@ -46,10 +42,6 @@ enum-known-k-2 c = search needs
 -- src/lib.rt:243:67
 add-organic-symbol : tie.Need-add-organic-symbol
 add-organic-symbol c = let g = subst Good (c .before .before .k2 .given .1) (c .before .before .before .before .before .pre) in omega arith
-
--- src/lib.rt:243:66
-cast-organic-symbol-2 : tie.Need-cast-organic-symbol-2
-cast-organic-symbol-2 c = search needs
 
 -- src/lib.rt:243:51
 organic-symbol-requires-2 : tie.Need-organic-symbol-requires-2
@@ -110,12 +102,10 @@ put-kind-spec =
     enum-told
     put-requires
     enum-known-k
-    cast-organic-symbol
     organic-symbol-requires
     put-name-requires
     enum-known-k-2
     add-organic-symbol
-    cast-organic-symbol-2
     organic-symbol-requires-2
     put-name-requires-2
     enum-known-k-3

@@ -1,5 +1,5 @@
-use Prim.Native.Nat.{ℕ, _+_, _-_, _/_, _<_, _≤_}
-use native.Mathlib.Nat.{not-suc-le-zero}
+-- `feature::element::rank` meets its contract: each name passed is lower, and the one at which the search ends is not. Assumes nothing.
+use Prim.Native.Nat.{ℕ, _-_, _/_, _*_, _<_, _≤_}
 use native.Mathlib.Omega.{arith}
 use borrow.Author.Needs.{needs}
 use lib.ListN.{getD}
@@ -7,83 +7,48 @@ use Rattle.feature.specs.Names.{symbols, names}
 use Rattle.feature.proofs.Names.{ordered-le}
 use Rattle.feature.proofs.element.rank.Statement.{statement}
 use Rattle.feature.proofs.element.rank.Tie as tie
-use Rattle.feature.proofs.element.rank.Reads as reads
-use Rattle.feature.proofs.element.rank.Lts as lts
-use Rattle.feature.proofs.element.name.Reads as name-reads
 
 abbrev Inv-loop : tie.InvT-loop
-Inv-loop key low₀ high₀ low high =
-    (low ≤ high) × (high ≤ symbols) × ((j : ℕ) → j < low → getD names j 0 < key) × ((j : ℕ) → high ≤ j → j < symbols → key ≤ getD names j 0)
+Inv-loop key place₀ place = (place ≤ symbols) × ((j : ℕ) → j < place → getD names j 0 < key)
 
 abbrev μ-loop : tie.MeasureT-loop
-μ-loop key low₀ high₀ low high = high - low
+μ-loop key place₀ place = symbols - place
 
--- src/element.rt:167:5
+first-of-requires : tie.Need-first-of-requires Inv-loop μ-loop
+first-of-requires c κs = search needs
+
 loop-holds : tie.Need-loop-holds Inv-loop μ-loop
-loop-holds c = (search needs, search needs, (λ j h. absurd (not-suc-le-zero h)), (λ j h l. absurd (omega arith)))
+loop-holds c = (c .first-of .ensures .small, (λ j h. omega (arith, c .first-of .ensures .lower j h)))
 
--- src/element.rt:168:23
-add-middle : tie.Need-add-middle Inv-loop μ-loop
-add-middle c = search needs
-
--- src/element.rt:169:12
 name-requires : tie.Need-name-requires Inv-loop μ-loop
 name-requires c κs = search needs
 
--- src/element.rt:170:19
-add-low : tie.Need-add-low Inv-loop μ-loop
-add-low c = search needs
-
--- src/element.rt:167:5
-loop-less : tie.Need-loop-less Inv-loop μ-loop
-loop-less c = search needs
-
--- src/element.rt:167:5
-loop-again : tie.Need-loop-again Inv-loop μ-loop
-loop-again c =
-    let m = (c .before .before .before .loop .low + c .before .before .before .loop .high) / 2 in
-    let l : m < symbols = omega arith in (
-      search needs,
-      search needs,
-      (λ j h. omega (arith, c .before .name .ensures, c .if1 .taken, ordered-le j m (omega arith) l)),
-      c .before .before .before .loop .inv .3,
-    )
-
--- src/element.rt:167:5
-loop-less-2 : tie.Need-loop-less-2 Inv-loop μ-loop
-loop-less-2 c = search needs
-
--- src/element.rt:167:5
-loop-again-2 : tie.Need-loop-again-2 Inv-loop μ-loop
-loop-again-2 c =
-    let m = (c .before .before .before .loop .low + c .before .before .before .loop .high) / 2 in (
-      search needs,
-      search needs,
-      c .before .before .before .loop .inv .2,
-      (λ j h l. omega (arith, c .before .name .ensures, c .if1 .left, ordered-le m j h l)),
-    )
-
--- src/element.rt:162:1
 returns : tie.Need-returns Inv-loop μ-loop
 returns c =
     record {
-      small = search needs;
-      below = c .before .loop .inv .2;
-      above = λ j h l. c .before .loop .inv .3 j (omega arith) l;
+      small = c .before .before .before .loop .inv .0;
+      below = c .before .before .before .loop .inv .1;
+      above = λ j h l. omega (arith, c .before .name .ensures, c .if1 .taken, ordered-le (c .before .before .before .loop .place) j h l);
+    }
+
+add-place : tie.Need-add-place Inv-loop μ-loop
+add-place c = search needs
+
+loop-less : tie.Need-loop-less Inv-loop μ-loop
+loop-less c = search needs
+
+loop-again : tie.Need-loop-again Inv-loop μ-loop
+loop-again c =
+    (search needs, (λ j h. omega (arith, c .before .name .ensures, c .if1 .left, ordered-le j (c .before .before .before .loop .place) (omega arith) (omega arith))))
+
+returns-2 : tie.Need-returns-2 Inv-loop μ-loop
+returns-2 c =
+    record {
+      small = c .before .loop .inv .0;
+      below = c .before .loop .inv .1;
+      above = λ j h l. absurd (omega arith);
     }
 
 pub rank-spec : {M : Type 1} → statement M
 rank-spec =
-    tie.close
-    (tie.spec
-    Inv-loop
-    μ-loop
-    loop-holds
-    add-middle
-    name-requires
-    add-low
-    loop-less
-    loop-again
-    loop-less-2
-    loop-again-2
-    returns)
+    tie.close (tie.spec Inv-loop μ-loop first-of-requires loop-holds name-requires returns add-place loop-less loop-again returns-2)

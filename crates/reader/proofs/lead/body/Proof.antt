@@ -1,3 +1,4 @@
+-- `reader::lead::body` meets its contract. Assumes nothing.
 use mathlib.Core.Path.{refl}
 use borrow.Author.Tests.{lt-ltb, le-ltb, lt-leb, le-leb, eq-eqb, ne-eqb}
 use Rattle.reader.specs.Parse.{bodyAt}
@@ -6,7 +7,7 @@ use Rattle.reader.proofs.lead.body.Statement.{statement}
 use Rattle.reader.proofs.lead.body.Tie as tie
 use Rattle.reader.proofs.lead.body.Reads as reads
 use Rattle.reader.proofs.lead.body.Lts as lts
-use Rattle.reader.proofs.lead.table.Reads as table-reads
+use Rattle.reader.proofs.lead.begun.Reads as begun-reads
 use Rattle.scan.proofs.scanner.peek.Reads as peek-reads
 
 -- src/lead.rt:51:9
@@ -14,17 +15,17 @@ peek-requires : tie.Need-peek-requires
 peek-requires c κs = search needs
 
 -- src/lead.rt:53:22
-cast-table : tie.Need-cast-table
-cast-table c = search needs
+cast-begun : tie.Need-cast-begun
+cast-begun c = search needs
 
 -- src/lead.rt:53:9
-table-requires : tie.Need-table-requires
-table-requires c κs = search needs
+begun-requires : tie.Need-begun-requires
+begun-requires c κs = search needs
 
 -- src/lead.rt:53:9
 returns : tie.Need-returns
 unfolding bodyAt
-returns c = simp (← c .before .before .peek .ensures .is, lt-ltb _ _ (c .before .if1 .taken), ← c .table .ensures)
+returns c = simp (← c .before .before .peek .ensures .is, lt-ltb _ _ (c .before .if1 .taken), ← c .begun .ensures)
 
 -- src/lead.rt:48:1
 returns-2 : tie.Need-returns-2
@@ -32,4 +33,4 @@ unfolding bodyAt
 returns-2 c = simp (← c .before .peek .ensures .is, le-ltb _ _ (c .if1 .left))
 
 pub body-spec : {M : Type 1} → statement M
-body-spec = tie.close (tie.spec peek-requires cast-table table-requires returns returns-2)
+body-spec = tie.close (tie.spec peek-requires cast-begun begun-requires returns returns-2)
