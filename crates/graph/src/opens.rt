@@ -24,6 +24,7 @@ impl Opens {
 
 // The list out of the room in which it rests between joins.
 fn taken(rings: &[u32]) -> Opens
+    requires { ⌜ numbers ≤ length (now rings) ⌝ }
     ensures { λ r. ⌜ r ≡ opensOf (now (rings .entry)) ⌝ }
 {
     let mut o = Opens {
@@ -31,8 +32,7 @@ fn taken(rings: &[u32]) -> Opens
     };
     let mut i: usize = 0;
     while i < NUMBERS {
-        let v = record::look(rings, i);
-        o.at[i] = v;
+        o.at[i] = rings[i];
         i += 1;
     }
     o
@@ -40,22 +40,26 @@ fn taken(rings: &[u32]) -> Opens
 
 // The list back into that room.
 fn put_back(rings: &mut [u32], o: Opens)
-    requires { ⌜ length (o .at) ≡ numbers ⌝ }
+    requires { ⌜ (numbers ≤ length (now rings)) × (length (o .at) ≡ numbers) ⌝ }
     ensures { λ r. ⌜ now (rings .exit) ≡ sets (now (rings .entry)) 0 (o .at) ⌝ }
 {
     let mut i: usize = 0;
     while i < NUMBERS {
-        let v = o.at[i];
-        record::poke(rings, i, v);
+        rings[i] = o.at[i];
         i += 1;
     }
 }
 
-// A ring number's value set in the room where the list rests: the list goes through a join whole.
+// A ring number's value set in the room where the list rests: the list goes through a join whole. Room for fewer numbers
+// holds no list.
 pub fn rejoin(rings: &mut [u32], number: usize, value: u32)
     requires { ⌜ number < numbers ⌝ }
     ensures { λ r. ⌜ now (rings .exit) ≡ set (now (rings .entry)) number value ⌝ }
 {
+    if rings.len() < NUMBERS {
+        record::poke(rings, number, value);
+        return;
+    }
     let o = taken(rings);
     let joined = o.join(number, value);
     put_back(rings, joined)

@@ -1,3 +1,4 @@
+-- `graph::opens::put_back` meets its contract: the room has the numbers put back so far. Assumes nothing.
 use Prim.Native.Nat.{ℕ, _-_, _<_, _≤_}
 use mathlib.Core.Path.{_≡_, refl, ap, _∙_}
 use native.Mathlib.Omega.{arith}
@@ -9,9 +10,6 @@ use Rattle.graph.proofs.Rings.{put-more}
 use Rattle.graph.specs.Rings.{numbers}
 use Rattle.graph.proofs.opens.put_back.Statement.{statement}
 use Rattle.graph.proofs.opens.put_back.Tie as tie
-use Rattle.graph.proofs.opens.put_back.Reads as reads
-use Rattle.graph.proofs.opens.put_back.Lts as lts
-use Rattle.record.proofs.poke.Reads as poke-reads
 
 abbrev Inv-loop : tie.InvT-loop
 Inv-loop rings₀ o i₀ rings i =
@@ -20,43 +18,39 @@ Inv-loop rings₀ o i₀ rings i =
 abbrev μ-loop : tie.MeasureT-loop
 μ-loop rings₀ o i₀ rings i = numbers - i
 
--- src/opens.rt:44:5
 loop-holds : tie.Need-loop-holds Inv-loop μ-loop
 loop-holds c = (search needs, refl)
 
--- src/opens.rt:45:17
-mul-v : tie.Need-mul-v Inv-loop μ-loop
-mul-v c = search needs
+mul-rings : tie.Need-mul-rings Inv-loop μ-loop
+mul-rings c = search needs
 
--- src/opens.rt:45:17
-element-copy-out-v : tie.Need-element-copy-out-v Inv-loop μ-loop
-element-copy-out-v c = search needs
+element-copy-out-rings : tie.Need-element-copy-out-rings Inv-loop μ-loop
+element-copy-out-rings c = search needs
 
--- src/opens.rt:46:9
-poke-requires : tie.Need-poke-requires Inv-loop μ-loop
-poke-requires c κs = search needs
+mul-rings-2 : tie.Need-mul-rings-2 Inv-loop μ-loop
+mul-rings-2 c = search needs
 
--- src/opens.rt:47:9
+slice-write-rings : tie.Need-slice-write-rings Inv-loop μ-loop
+slice-write-rings c =
+    let same : length (c .before .before .loop .rings) ≡ length (c .before .before .before .args .rings .now) = ap length (c .before .before .loop .inv .1) ∙ simp length-sets in
+    omega (arith, c .before .before .before .pre, c .before .loop-test .taken)
+
 add-i : tie.Need-add-i Inv-loop μ-loop
 add-i c = search needs
 
--- src/opens.rt:44:5
 loop-less : tie.Need-loop-less Inv-loop μ-loop
 loop-less c = search needs
 
--- src/opens.rt:44:5
 loop-again : tie.Need-loop-again Inv-loop μ-loop
-loop-again c = (search needs, c .before .before .poke .ensures ∙ put-more _ _ _ _ (omega (arith, c .before .before .before .before .before .before .before .before .pre, c .before .before .before .before .before .loop-test .taken)) (c .before .before .before .before .before .before .loop .inv .1))
+loop-again c = (search needs, put-more _ _ _ _ (omega (arith, c .before .before .before .pre, c .before .loop-test .taken)) (c .before .before .loop .inv .1))
 
--- src/opens.rt:40:1
 same-length : tie.Need-same-length Inv-loop μ-loop
 same-length c = ap length (c .before .loop .inv .1) ∙ simp length-sets
 
--- src/opens.rt:40:1
 returns : tie.Need-returns Inv-loop μ-loop
 returns c =
-    let whole : length (c .before .before .before .args .t2 .at) ≤ c .before .loop .i = omega (arith, c .before .before .before .pre, c .loop-test .left) in
-    c .before .loop .inv .1 ∙ ap (λ (m : List ℕ). sets (c .before .before .before .args .rings .now) 0 m) (take-all (c .before .loop .i) (c .before .before .before .args .t2 .at) whole)
+    let whole : length (c .before .before .args .t2 .at) ≤ c .before .loop .i = omega (arith, c .before .before .pre, c .loop-test .left) in
+    c .before .loop .inv .1 ∙ ap (λ (m : List ℕ). sets (c .before .before .args .rings .now) 0 m) (take-all (c .before .loop .i) (c .before .before .args .t2 .at) whole)
 
 pub put-back-spec : {M : Type 1} → statement M
 put-back-spec =
@@ -65,9 +59,10 @@ put-back-spec =
     Inv-loop
     μ-loop
     loop-holds
-    mul-v
-    element-copy-out-v
-    poke-requires
+    mul-rings
+    element-copy-out-rings
+    mul-rings-2
+    slice-write-rings
     add-i
     loop-less
     loop-again
