@@ -28,6 +28,7 @@ use reader::lead::Lead;
 use reader::line::Came;
 use reader::line::NESTING;
 use reader::line::read_line;
+use scan::held::is_done;
 
 // What the desk says of a line. Its numbers, in order: 0, 1, 2, 3, 4, 10, 12, 13, 14, 15, 18.
 pub enum Answer {
@@ -58,10 +59,10 @@ fn end_line(text: &[u8], came: Came) -> Builder
         return b;
     }
     let at = came.at;
-    if at < text.len() {
-        return b.refused(CHARACTER, at);
+    if is_done(text, at) {
+        return b;
     }
-    b
+    b.refused(CHARACTER, at)
 }
 
 // What a builder's refusal is called.

@@ -15,12 +15,12 @@ use crate::lead::body;
 use crate::lead::read_lead;
 use feature::bond_kind::BondKind;
 use graph::builder::Builder;
-use scan::read_atom::read_atom;
+use scan::held::first_atom;
+use scan::held::missing_character;
+use scan::held::peek;
 use scan::read_rnum::Ring;
 use scan::read_rnum::read_rnum;
 use scan::scanner::Found;
-use scan::scanner::missing_character;
-use scan::scanner::peek;
 
 // The desk's number of a branch too many.
 pub const NESTING: u32 = 15;
@@ -55,7 +55,7 @@ fn line_atom(
     ensures { λ r. ⌜ ((s : List ℕ) → AtomRead (now (text .entry)) at lead n (bld (now (atoms .entry)) (now (entries .entry)) (now (path .entry)) s b)
         (bld (now (atoms .exit)) (now (entries .exit)) (now (path .exit)) s (r .b)) (r .at) (r .n)) ⌝ }
 {
-    match read_atom(text, at) {
+    match first_atom(text, at) {
         Found::Nothing => stopped(text, at, n, b),
         Found::Lacks(m) => {
             let b = put_missing(b, m);
@@ -116,7 +116,7 @@ fn line_union(
     ensures { λ r. ⌜ UnionRead (now (text .entry)) at bond n (bld (now (atoms .entry)) (now (entries .entry)) (now (path .entry)) (now (rings .entry)) b)
         (bld (now (atoms .exit)) (now (entries .exit)) (now (path .exit)) (now (rings .exit)) (r .b)) (r .at) (r .n) ⌝ }
 {
-    match read_atom(text, at) {
+    match first_atom(text, at) {
         Found::Nothing => line_ring(text, at, bond, n, entries, path, rings, b),
         Found::Lacks(m) => {
             let b = put_missing(b, m);

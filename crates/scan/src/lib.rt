@@ -2,6 +2,7 @@
 //
 // Each reader takes the line and a place and answers what it found with the place after it. The end of the line reads as
 // 256, which is no byte. A reader that misses something answers the place; `missing_character` turns it into the desk's words.
+pub mod held;
 pub mod read_atom;
 pub mod read_bond;
 pub mod read_bracket;

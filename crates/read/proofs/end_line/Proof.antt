@@ -1,5 +1,15 @@
-use mathlib.Core.Path.{refl}
-use borrow.Author.Tests.{lt-ltb, le-ltb, lt-leb, le-leb, eq-eqb, ne-eqb}
+-- What the scanner says of the line's end, as the definition asks it.
+use mathlib.Core.Path.{_≡_, sym, _∙_}
+use mathlib.Core.Bool.{Bool, true, false}
+use Prim.Native.Nat.{ℕ}
+use mathlib.Core.List.{List}
+use lib.ListN.{length}
+use lib.Dec.{leb}
+use borrow.Author.Tests.{lt-ltb, le-ltb, leb-true, leb-false, eq-eqb, ne-eqb}
+use Rattle.graph.specs.State.{refusedSt}
+use Rattle.graph.specs.declared.builder.Builder.{Builder}
+use Rattle.reader.specs.Events.{character}
+use Rattle.reader.specs.declared.line.Came.{Came}
 use Rattle.read.specs.Read.{endedSt}
 use borrow.Author.Needs.{needs}
 use Rattle.read.proofs.end_line.Statement.{statement}
@@ -7,25 +17,36 @@ use Rattle.read.proofs.end_line.Tie as tie
 use Rattle.read.proofs.end_line.Reads as reads
 use Rattle.read.proofs.end_line.Lts as lts
 use Rattle.graph.proofs.builder.Builder.refused.Reads as refused-reads
+use Rattle.scan.proofs.held.is_done.Reads as is-done-reads
 
--- src/lib.rt:42:9
+none-left : (s : List ℕ) (came : Came) (r : Bool) → came .b .refusal ≡ 0 → r ≡ leb (length s) (came .at) → r ≡ true → came .b ≡ endedSt s came
+unfolding endedSt
+none-left s came r e f g = simp (eq-eqb (came .b .refusal) 0 e, le-ltb (came .at) (length s) (leb-true (length s) (came .at) (sym f ∙ g)))
+
+some-left : (s : List ℕ) (came : Came) (r : Bool) (b : Builder) → came .b .refusal ≡ 0 → r ≡ leb (length s) (came .at) → r ≡ false → b ≡ refusedSt (came .b) character (came .at) → b ≡ endedSt s came
+unfolding endedSt
+some-left s came r b e f g h = simp (eq-eqb (came .b .refusal) 0 e, lt-ltb (came .at) (length s) (leb-false (length s) (came .at) (sym f ∙ g)), h)
+
+-- src/lib.rt:43:9
 returns : tie.Need-returns
 unfolding endedSt
 returns c = simp (ne-eqb _ _ (c .if1 .taken))
 
--- src/lib.rt:46:9
+-- src/lib.rt:46:8
+is-done-requires : tie.Need-is-done-requires
+is-done-requires c κs = search needs
+
+-- src/lib.rt:47:9
+returns-2 : tie.Need-returns-2
+returns-2 c = none-left _ _ _ (c .before .before .if1 .left) (c .before .is-done .ensures) (c .if2 .taken)
+
+-- src/lib.rt:49:5
 refused-requires : tie.Need-refused-requires
 refused-requires c κs = search needs
 
--- src/lib.rt:46:9
-returns-2 : tie.Need-returns-2
-unfolding endedSt
-returns-2 c = simp (eq-eqb _ _ (c .before .before .if1 .left), lt-ltb _ _ (c .before .if2 .taken), ← c .refused .ensures)
-
--- src/lib.rt:37:1
+-- src/lib.rt:38:1
 returns-3 : tie.Need-returns-3
-unfolding endedSt
-returns-3 c = simp (eq-eqb _ _ (c .before .if1 .left), le-ltb _ _ (c .if2 .left))
+returns-3 c = some-left _ _ _ _ (c .before .before .before .if1 .left) (c .before .before .is-done .ensures) (c .before .if2 .left) (c .refused .ensures)
 
 pub end-line-spec : {M : Type 1} → statement M
-end-line-spec = tie.close (tie.spec returns refused-requires returns-2 returns-3)
+end-line-spec = tie.close (tie.spec returns is-done-requires returns-2 refused-requires returns-3)

@@ -9,11 +9,11 @@ use Rattle.reader.proofs.line.line_atom.Lts as lts
 use Rattle.reader.proofs.event.put_atom.Reads as put-atom-reads
 use Rattle.reader.proofs.event.put_missing.Reads as put-missing-reads
 use Rattle.reader.proofs.line.stopped.Reads as stopped-reads
-use Rattle.scan.proofs.read_atom.read_atom.Reads as read-atom-reads
+use Rattle.scan.proofs.held.first_atom.Reads as first-atom-reads
 
 -- src/line.rt:51:11
-read-atom-requires : tie.Need-read-atom-requires
-read-atom-requires c κs = search needs
+first-atom-requires : tie.Need-first-atom-requires
+first-atom-requires c κs = search needs
 
 -- src/line.rt:52:27
 enum-told : tie.Need-enum-told
@@ -46,11 +46,11 @@ add-t22 c = search needs
 -- src/line.rt:37:1
 returns : tie.Need-returns
 unfolding cameMissing
-returns c = λ s. simp (c .stopped .ensures) (atom-none _ _ _ _ (c .before .before .before .before .before .before .before .before .pre .0) (c .before .before .before .before .before .before .before .before .pre .1) _ (sym (c .before .before .before .read-atom .ensures) ∙ c .before .enum-told .given .1))
+returns c = λ s. simp (c .stopped .ensures) (atom-none _ _ _ _ (c .before .before .before .before .before .before .before .before .pre .0) (c .before .before .before .before .before .before .before .before .pre .1) _ (sym (c .before .before .before .first-atom .ensures) ∙ c .before .enum-told .given .1))
 
 -- src/line.rt:37:1
 returns-2 : tie.Need-returns-2
-returns-2 c = λ s. simp (c .put-missing .ensures) (atom-lacks _ _ _ _ (c .before .before .before .before .before .before .before .before .before .pre .0) (c .before .before .before .before .before .before .before .before .before .pre .1) _ _ (sym (c .before .before .before .before .read-atom .ensures) ∙ c .before .before .m .given .1))
+returns-2 c = λ s. simp (c .put-missing .ensures) (atom-lacks _ _ _ _ (c .before .before .before .before .before .before .before .before .before .pre .0) (c .before .before .before .before .before .before .before .before .before .pre .1) _ _ (sym (c .before .before .before .before .first-atom .ensures) ∙ c .before .before .m .given .1))
 
 -- src/line.rt:37:1
 same-length : tie.Need-same-length
@@ -66,13 +66,13 @@ same-length-3 c = search needs
 
 -- src/line.rt:37:1
 returns-3 : tie.Need-returns-3
-returns-3 c = λ s. atom-made _ _ _ _ (c .before .before .before .before .before .before .before .before .before .before .before .before .before .before .before .before .before .before .pre .0) (c .before .before .before .before .before .before .before .before .before .before .before .before .before .before .before .before .before .before .pre .1) _ _ _ (sym (c .before .before .before .before .before .before .before .before .before .before .before .before .before .read-atom .ensures) ∙ c .before .before .before .before .before .before .before .before .before .before .before .k .given .1) _ (c .before .before .before .before .before .before .put-atom .ensures s)
+returns-3 c = λ s. atom-made _ _ _ _ (c .before .before .before .before .before .before .before .before .before .before .before .before .before .before .before .before .before .before .pre .0) (c .before .before .before .before .before .before .before .before .before .before .before .before .before .before .before .before .before .before .pre .1) _ _ _ (sym (c .before .before .before .before .before .before .before .before .before .before .before .before .before .first-atom .ensures) ∙ c .before .before .before .before .before .before .before .before .before .before .before .k .given .1) _ (c .before .before .before .before .before .before .put-atom .ensures s)
 
 pub line-atom-spec : {M : Type 1} → statement M
 line-atom-spec =
     tie.close
     (tie.spec
-    read-atom-requires
+    first-atom-requires
     enum-told
     stopped-requires
     enum-known-m

@@ -8,11 +8,11 @@ use Rattle.reader.proofs.line.line_union.Lts as lts
 use Rattle.reader.proofs.event.put_atom.Reads as put-atom-reads
 use Rattle.reader.proofs.event.put_missing.Reads as put-missing-reads
 use Rattle.reader.proofs.line.line_ring.Reads as line-ring-reads
-use Rattle.scan.proofs.read_atom.read_atom.Reads as read-atom-reads
+use Rattle.scan.proofs.held.first_atom.Reads as first-atom-reads
 
 -- src/line.rt:112:11
-read-atom-requires : tie.Need-read-atom-requires
-read-atom-requires c κs = search needs
+first-atom-requires : tie.Need-first-atom-requires
+first-atom-requires c κs = search needs
 
 -- src/line.rt:113:56
 enum-told : tie.Need-enum-told
@@ -56,11 +56,11 @@ same-length-3 c = search needs
 
 -- src/line.rt:97:1
 returns : tie.Need-returns
-returns c = union-ring _ _ _ _ (c .before .before .before .before .before .before .before .before .before .before .before .before .before .before .before .before .pre .0) (c .before .before .before .before .before .before .before .before .before .before .before .before .before .before .before .before .pre .1) _ (sym (c .before .before .before .before .before .before .before .before .before .before .read-atom .ensures) ∙ c .before .before .before .before .before .before .before .before .enum-told .given .1) _ _ _ (c .before .before .before .before .line-ring .ensures _)
+returns c = union-ring _ _ _ _ (c .before .before .before .before .before .before .before .before .before .before .before .before .before .before .before .before .pre .0) (c .before .before .before .before .before .before .before .before .before .before .before .before .before .before .before .before .pre .1) _ (sym (c .before .before .before .before .before .before .before .before .before .before .first-atom .ensures) ∙ c .before .before .before .before .before .before .before .before .enum-told .given .1) _ _ _ (c .before .before .before .before .line-ring .ensures _)
 
 -- src/line.rt:97:1
 returns-2 : tie.Need-returns-2
-returns-2 c = simp (c .put-missing .ensures) (union-lacks _ _ _ _ (c .before .before .before .before .before .before .before .before .before .before .pre .0) (c .before .before .before .before .before .before .before .before .before .before .pre .1) _ _ (sym (c .before .before .before .before .read-atom .ensures) ∙ c .before .before .m .given .1))
+returns-2 c = simp (c .put-missing .ensures) (union-lacks _ _ _ _ (c .before .before .before .before .before .before .before .before .before .before .pre .0) (c .before .before .before .before .before .before .before .before .before .before .pre .1) _ _ (sym (c .before .before .before .before .first-atom .ensures) ∙ c .before .before .m .given .1))
 
 -- src/line.rt:97:1
 same-length-4 : tie.Need-same-length-4
@@ -76,13 +76,13 @@ same-length-6 c = search needs
 
 -- src/line.rt:97:1
 returns-3 : tie.Need-returns-3
-returns-3 c = union-made _ _ _ _ (c .before .before .before .before .before .before .before .before .before .before .before .before .before .before .before .before .before .before .before .pre .0) (c .before .before .before .before .before .before .before .before .before .before .before .before .before .before .before .before .before .before .before .pre .1) _ _ _ (sym (c .before .before .before .before .before .before .before .before .before .before .before .before .before .read-atom .ensures) ∙ c .before .before .before .before .before .before .before .before .before .before .before .k .given .1) _ (c .before .before .before .before .before .before .put-atom .ensures _)
+returns-3 c = union-made _ _ _ _ (c .before .before .before .before .before .before .before .before .before .before .before .before .before .before .before .before .before .before .before .pre .0) (c .before .before .before .before .before .before .before .before .before .before .before .before .before .before .before .before .before .before .before .pre .1) _ _ _ (sym (c .before .before .before .before .before .before .before .before .before .before .before .before .before .first-atom .ensures) ∙ c .before .before .before .before .before .before .before .before .before .before .before .k .given .1) _ (c .before .before .before .before .before .before .put-atom .ensures _)
 
 pub line-union-spec : {M : Type 1} → statement M
 line-union-spec =
     tie.close
     (tie.spec
-    read-atom-requires
+    first-atom-requires
     enum-told
     line-ring-requires
     enum-known-m

@@ -7,7 +7,7 @@ use Rattle.reader.proofs.line.stopped.Tie as tie
 use Rattle.reader.proofs.line.stopped.Reads as reads
 use Rattle.reader.proofs.line.stopped.Lts as lts
 use Rattle.reader.proofs.event.put_missing.Reads as put-missing-reads
-use Rattle.scan.proofs.scanner.missing_character.Reads as missing-character-reads
+use Rattle.scan.proofs.held.missing_character.Reads as missing-character-reads
 
 -- src/line.rt:31:9
 missing-character-requires : tie.Need-missing-character-requires
