@@ -9,7 +9,8 @@ use Rattle.writer.specs.Line.{Event}
 use Rattle.writer.specs.Tables.{Spoken, spoken, writer, sayAll}
 use Rattle.ways.specs.Graph.{Graph}
 use Rattle.walk.specs.declared.walker.Walker.{Walker}
-use Rattle.walk.specs.Walk.{Walk, walk, startWalker, Turn, turnOf, stepOf, walkTo, eventsOf, turnsOf, Did, Near, Grows}
+use Rattle.pool.specs.declared.Pool.{Pool}
+use Rattle.walk.specs.Walk.{Walk, walk, startOf, Turn, turnOf, stepOf, walkTo, eventsOf, turnsOf, Did, Near, Grows}
 use Rattle.walk.proofs.Moves.{say-append}
 
 -- all of a walk is t turns from w₀ on, told to s₀; n of them are left from w on, told to s
@@ -77,14 +78,14 @@ module _ (g : Graph) (w v : Walk) (s r : Spoken) (sound : w .at .refusal ≡ 0) 
       say-next n ∙ ap (λ (k : ℕ). sayAll r (eventsOf g k v)) e
 
 -- ---- the loop
-pub going-start : (g : Graph) (t n : ℕ) (z : Walker) (met walked back taken pairs out starts : List ℕ) → n ≡ t → z ≡ startWalker → Going g t (walk startWalker met walked back taken pairs) (spoken (writer 0 0) out starts) n (walk z met walked back taken pairs) (spoken (writer 0 0) out starts)
-going-start g t n z met walked back taken pairs out starts e f =
+pub going-start : (g : Graph) (t n : ℕ) (p : Pool) (z : Walker) (met walked back taken pairs out starts : List ℕ) → n ≡ t → z ≡ startOf p → Going g t (walk z met walked back taken pairs) (spoken (writer 0 0) out starts) n (walk z met walked back taken pairs) (spoken (writer 0 0) out starts)
+going-start g t n p z met walked back taken pairs out starts e f =
     subst
-    (λ (x : Walker). Going g t (walk startWalker met walked back taken pairs) (spoken (writer 0 0) out starts) n (walk x met walked back taken pairs) (spoken (writer 0 0) out starts))
+    (λ (x : Walker). Going g t (walk x met walked back taken pairs) (spoken (writer 0 0) out starts) n (walk x met walked back taken pairs) (spoken (writer 0 0) out starts))
     (sym f)
     (record {
-      walks = ap (λ (k : ℕ). walkTo g k (walk startWalker met walked back taken pairs)) e;
-      says = ap (λ (k : ℕ). sayAll (spoken (writer 0 0) out starts) (eventsOf g k (walk startWalker met walked back taken pairs))) e;
+      walks = ap (λ (k : ℕ). walkTo g k (walk (startOf p) met walked back taken pairs)) e;
+      says = ap (λ (k : ℕ). sayAll (spoken (writer 0 0) out starts) (eventsOf g k (walk (startOf p) met walked back taken pairs))) e;
       sound = refl;
       next = omega (arith, e);
       pend = omega (arith, e);
@@ -92,6 +93,13 @@ going-start g t n z met walked back taken pairs out starts e f =
       pieces = omega (arith, e);
       len = omega (arith, e);
     })
+
+-- what a walk from z comes to, where z is the start with the pool p
+pub from-start : (g : Graph) (t : ℕ) (p : Pool) (z : Walker) (met walked back taken pairs : List ℕ) (s : Spoken) (v : Walk) (r : Spoken) → z ≡ startOf p
+    → (v ≡ walkTo g t (walk z met walked back taken pairs)) × (r ≡ sayAll s (eventsOf g t (walk z met walked back taken pairs)))
+    → (v ≡ walkTo g t (walk (startOf p) met walked back taken pairs)) × (r ≡ sayAll s (eventsOf g t (walk (startOf p) met walked back taken pairs)))
+from-start g t p z met walked back taken pairs s v r f =
+    subst (λ (x : Walker). (v ≡ walkTo g t (walk x met walked back taken pairs)) × (r ≡ sayAll s (eventsOf g t (walk x met walked back taken pairs)))) f
 
 pub going-near : {g : Graph} {t : ℕ} {w₀ : Walk} {s₀ : Spoken} {n : ℕ} {w : Walk} {s : Spoken} → t < 1000000 → Going g t w₀ s₀ n w s → Near (w .at) (s .at)
 going-near h i =

@@ -2,3 +2,4 @@
 pub mod Moves
 pub mod Onto
 pub mod Going
+pub mod Whole

@@ -58,8 +58,12 @@ walker next standing here pend count pool refusal first second =
     record { next = next; standing = standing; here = here; pend = pend; count = count; pool = pool; refusal = refusal; first = first; second = second }
 
 -- nothing met
+abbrev pub startOf : Pool → Walker
+startOf p = walker 0 false 0 0 0 p 0 0 0
+
+-- and nothing handed out: a walk first empties its pool
 abbrev pub startWalker : Walker
-startWalker = walker 0 false 0 0 0 emptyOf 0 0 0
+startWalker = startOf emptyOf
 
 -- ---- what changes
 abbrev pub refusedAs : Walker → ℕ → ℕ → ℕ → Walker

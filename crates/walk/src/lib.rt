@@ -2,7 +2,9 @@
 //
 // walker: what a walk knows beside its tables.
 // turn: one turn: a root tried, an entry taken, or an atom left.
-// turns: all of them.
+// turns: all of them, over a pool by value.
+// lent: the pool lent to them.
+pub mod lent;
 pub mod turn;
 pub mod turns;
 pub mod walker;

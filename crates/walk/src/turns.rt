@@ -1,16 +1,18 @@
-// All turns of a walk.
+// All turns of a walk, from a pool by value.
 ghost use mathlib.Core.Path.{_≡_};
 ghost use Prim.Native.Nat.{_<_};
 ghost use Rattle.writer.specs.Tables.{spoken, sayAll, writer};
 ghost use Rattle.ways.specs.Graph.{graph};
-ghost use Rattle.walk.specs.Walk.{walk, startWalker, walkTo, eventsOf, turnsOf};
+ghost use Rattle.walk.specs.Walk.{walk, startOf, walkTo, eventsOf, turnsOf};
 use crate::turn::Turned;
 use crate::turn::turn;
 use crate::walker::Walker;
+use pool::Pool;
 use writer::Writer;
 
 // Each atom is tried as a root and left once, and each entry is taken once: so many turns are a whole walk.
 pub fn walk(
+    pool: Pool,
     size: usize,
     entries: usize,
     atoms: &[u32],
@@ -25,10 +27,10 @@ pub fn walk(
     out: &mut [u8],
 ) -> Turned
     requires { ⌜ turnsOf size entries < 1000000 ⌝ }
-    ensures { λ r. ⌜ walk (r .walker) (now (met .exit)) (now (walked .exit)) (now (back .exit)) (now (taken .exit)) (now (pairs .exit)) ≡ walkTo (graph size (now (atoms .entry)) (now (bonds .entry)) (now (first .entry))) (turnsOf size entries) (walk startWalker (now (met .entry)) (now (walked .entry)) (now (back .entry)) (now (taken .entry)) (now (pairs .entry))) ⌝ }
-    ensures { λ r. ⌜ spoken (r .line) (now (out .exit)) (now (starts .exit)) ≡ sayAll (spoken (writer 0 0) (now (out .entry)) (now (starts .entry))) (eventsOf (graph size (now (atoms .entry)) (now (bonds .entry)) (now (first .entry))) (turnsOf size entries) (walk startWalker (now (met .entry)) (now (walked .entry)) (now (back .entry)) (now (taken .entry)) (now (pairs .entry)))) ⌝ }
+    ensures { λ r. ⌜ (walk (r .walker) (now (met .exit)) (now (walked .exit)) (now (back .exit)) (now (taken .exit)) (now (pairs .exit)) ≡ walkTo (graph size (now (atoms .entry)) (now (bonds .entry)) (now (first .entry))) (turnsOf size entries) (walk (startOf pool) (now (met .entry)) (now (walked .entry)) (now (back .entry)) (now (taken .entry)) (now (pairs .entry)))) ×
+        (spoken (r .line) (now (out .exit)) (now (starts .exit)) ≡ sayAll (spoken (writer 0 0) (now (out .entry)) (now (starts .entry))) (eventsOf (graph size (now (atoms .entry)) (now (bonds .entry)) (now (first .entry))) (turnsOf size entries) (walk (startOf pool) (now (met .entry)) (now (walked .entry)) (now (back .entry)) (now (taken .entry)) (now (pairs .entry))))) ⌝ }
 {
-    let mut z = Walker::start();
+    let mut z = Walker::start(pool);
     let mut line = Writer { pieces: 0, len: 0 };
     let mut left = 2 * size + entries;
     while left > 0 {

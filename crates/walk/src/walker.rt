@@ -1,7 +1,7 @@
 // What a walk knows beside its tables, and how it changes.
 ghost use mathlib.Core.Path.{_≡_};
 ghost use Prim.Native.Nat.{_<_};
-ghost use Rattle.walk.specs.Walk.{startWalker, refusedAs, passed, standingAt, backAt, atEnd, ringed, far};
+ghost use Rattle.walk.specs.Walk.{startOf, refusedAs, passed, standingAt, backAt, atEnd, ringed, far};
 use pool::Pool;
 
 // The desk's numbers of the walk's refusals.
@@ -29,8 +29,9 @@ pub struct Walker {
 }
 
 impl Walker {
-    pub fn start() -> Walker
-        ensures { λ r. ⌜ r ≡ startWalker ⌝ }
+    // Nothing met.
+    pub fn start(pool: Pool) -> Walker
+        ensures { λ r. ⌜ r ≡ startOf pool ⌝ }
     {
         Walker {
             next: 0,
@@ -38,7 +39,7 @@ impl Walker {
             here: 0,
             pend: 0,
             count: 0,
-            pool: Pool::empty(),
+            pool,
             refusal: 0,
             first: 0,
             second: 0,

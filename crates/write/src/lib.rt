@@ -15,8 +15,8 @@ use graph::limits::atom_room;
 use graph::limits::bond_room;
 use judge::judge;
 use pool::PAIRS;
+use walk::lent::walk;
 use walk::turn::Turned;
-use walk::turns::walk;
 
 pub mod answer;
 pub mod order;

@@ -16,7 +16,7 @@ use graph::limits::bond_room;
 use graph::limits::lesser;
 use judge::judge;
 use pool::PAIRS;
-use walk::turns::walk;
+use walk::lent::walk;
 use walk::walker::Walker;
 
 // Zeros in all three tables.

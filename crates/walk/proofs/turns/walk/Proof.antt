@@ -5,14 +5,14 @@ use lib.ListN.{length}
 use borrow.Author.Needs.{needs}
 use Rattle.writer.specs.Tables.{spoken, writer}
 use Rattle.ways.specs.Graph.{graph}
-use Rattle.walk.specs.Walk.{walk, startWalker, turnsOf}
-use Rattle.walk.proofs.Going.{Going, going-start, going-near, going-on, going-off, going-end, turns-are, few-turns}
+use Rattle.walk.specs.Walk.{walk, turnsOf}
+use Rattle.walk.proofs.Going.{Going, going-start, from-start, going-near, going-on, going-off, going-end, turns-are, few-turns}
 use Rattle.walk.proofs.turns.walk.Statement.{statement}
 use Rattle.walk.proofs.turns.walk.Tie as tie
 
 abbrev Inv-loop : tie.InvT-loop
 Inv-loop size entries atoms bonds first met₀ walked₀ back₀ taken₀ pairs₀ starts₀ out₀ z₀ line₀ left₀ met walked back taken pairs starts out z line left =
-    Going (graph size atoms bonds first) (turnsOf size entries) (walk startWalker met₀ walked₀ back₀ taken₀ pairs₀) (spoken (writer 0 0) out₀ starts₀) left (walk z met walked back taken pairs) (spoken line out starts)
+    Going (graph size atoms bonds first) (turnsOf size entries) (walk z₀ met₀ walked₀ back₀ taken₀ pairs₀) (spoken (writer 0 0) out₀ starts₀) left (walk z met walked back taken pairs) (spoken line out starts)
     × (length met ≡ length met₀)
     × (length walked ≡ length walked₀)
     × (length back ≡ length back₀)
@@ -35,7 +35,7 @@ add-left : tie.Need-add-left Inv-loop μ-loop
 add-left c = let h = few-turns (c .before .before .before .before .before .before .before .before .before .before .before .args .size) (c .before .before .before .before .before .before .before .before .before .before .before .args .entries) (c .before .before .before .before .before .before .before .before .before .before .before .pre) in omega (arith, h)
 
 loop-holds : tie.Need-loop-holds Inv-loop μ-loop
-loop-holds c = (going-start _ _ _ _ _ _ _ _ _ _ _ (turns-are _ _ _ refl) (c .start .ensures), refl, refl, refl, refl, refl, refl, refl)
+loop-holds c = (going-start _ _ _ _ _ _ _ _ _ _ _ _ (turns-are _ _ _ refl) (c .start .ensures), refl, refl, refl, refl, refl, refl, refl)
 
 sub-left : tie.Need-sub-left Inv-loop μ-loop
 sub-left c = search needs
@@ -65,7 +65,7 @@ same-length-7 : tie.Need-same-length-7 Inv-loop μ-loop
 same-length-7 c = c .before .before .before .before .before .before .before .before .before .before .before .before .before .before .before .before .before .before .turn .kept .1 .1 .1 .1 .1 .1 .1 .1 .1 .1 .0 ∙ c .before .before .before .before .before .before .before .before .before .before .before .before .before .before .before .before .before .before .before .before .before .before .before .before .before .before .before .loop .inv .7
 
 returns : tie.Need-returns Inv-loop μ-loop
-returns c = going-off _ (c .before .before .before .before .before .before .before .before .before .before .before .before .before .before .before .before .before .before .before .before .before .before .before .before .before .before .before .loop .inv .0) (c .before .before .before .before .before .before .before .before .before .before .before .before .before .before .before .before .before .before .before .before .before .before .before .before .before .before .loop-test .taken) (c .before .before .before .before .before .before .before .before .before .before .before .before .before .before .before .before .before .before .turn .ensures .0) (c .if1 .taken)
+returns c = from-start _ _ _ _ _ _ _ _ _ _ _ _ (c .before .before .before .before .before .before .before .before .before .before .before .before .before .before .before .before .before .before .before .before .before .before .before .before .before .before .before .before .start .ensures) (going-off _ (c .before .before .before .before .before .before .before .before .before .before .before .before .before .before .before .before .before .before .before .before .before .before .before .before .before .before .before .loop .inv .0) (c .before .before .before .before .before .before .before .before .before .before .before .before .before .before .before .before .before .before .before .before .before .before .before .before .before .before .loop-test .taken) (c .before .before .before .before .before .before .before .before .before .before .before .before .before .before .before .before .before .before .turn .ensures .0) (c .if1 .taken))
 
 loop-less : tie.Need-loop-less Inv-loop μ-loop
 loop-less c = search needs
@@ -95,7 +95,7 @@ same-length-14 : tie.Need-same-length-14 Inv-loop μ-loop
 same-length-14 c = c .before .loop .inv .7
 
 returns-2 : tie.Need-returns-2 Inv-loop μ-loop
-returns-2 c = going-end _ (c .before .loop .inv .0) (search needs)
+returns-2 c = from-start _ _ _ _ _ _ _ _ _ _ _ _ (c .before .before .start .ensures) (going-end _ (c .before .loop .inv .0) (search needs))
 
 pub walk-spec : {M : Type 1} → statement M
 walk-spec =
