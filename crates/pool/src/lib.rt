@@ -3,10 +3,14 @@
 //
 // A number has three words in the lent table: whether it is open, and the pair that it is open for, the lower atom first. So
 // a pair is found among the numbers that were handed out, of which there are at most 99, however many rings there were.
+//
+// lent: the same of a pool that is lent.
 ghost use mathlib.Core.Path.{_≡_};
 ghost use Rattle.pool.specs.Pairs.{emptyOf, opens, numberOf, slot, counterOf, nextOf, hits, openOf, closeOf, pairOf, hitOf};
 use record::look;
 use record::poke;
+
+pub mod lent;
 
 // The highest ring number.
 pub const HIGHEST: u32 = 99;

@@ -2,6 +2,7 @@
 //
 // Each reader takes the line and a place and answers what it found with the place after it. The end of the line reads as
 // 256, which is no byte. A reader that misses something answers the place; `missing_character` turns it into the desk's words.
+// `held` has the scanner, which holds the line and its place in it, for those who read one from its start.
 pub mod held;
 pub mod read_atom;
 pub mod read_bond;

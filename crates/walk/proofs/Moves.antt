@@ -10,7 +10,8 @@ use Rattle.feature.specs.declared.bond_kind.BondKind.{BondKind}
 use Rattle.pool.specs.declared.Pool.{Pool}
 use Rattle.pool.specs.declared.Given.{Given}
 use Rattle.pool.specs.declared.Given.the-variants.{Number, Full}
-use Rattle.pool.specs.Pairs.{hits, hitOf}
+use Rattle.pool.specs.Pairs.{hitOf}
+use Rattle.pool.specs.declared.lent.Stroke.{Stroke}
 use Rattle.writer.specs.declared.Writer.{Writer}
 use Rattle.writer.specs.Line.{Event, Join, Pop}
 use Rattle.writer.specs.Tables as writer
@@ -18,7 +19,10 @@ use Rattle.writer.specs.Tables.{Spoken, sayT, sayAll}
 use Rattle.ways.specs.declared.table.Bond.{Bond}
 use Rattle.ways.specs.Graph.{bondIn}
 use Rattle.walk.specs.declared.walker.Walker.{Walker}
-use Rattle.walk.specs.Walk.{Walk, walk, Turn, turn, quiet, refusedAs, passed, standingAt, backAt, atEnd, ringed, popsOf, popsThen, leftIn, numberedOf, ringOf, ringNumbers, far, Did, Onward, Grows}
+use Rattle.pool.specs.Strokes.{strokeOf}
+use Rattle.pool.specs.declared.lent.Told.the-variants as told
+use Rattle.walk.specs.declared.walker.Numbered.{Numbered}
+use Rattle.walk.specs.Walk.{Walk, walk, Turn, turn, quiet, numberedIn, refusedAs, passed, standingAt, backAt, atEnd, ringed, popsOf, popsThen, leftIn, numberedOf, ringOf, ringNumbers, far, Did, Onward, Grows}
 
 -- ---- how far
 pub onward-as : {z y r : Walker} → r ≡ y → Onward z y → Onward z r
@@ -108,19 +112,32 @@ left-back bonds first back z r a b o e d f h =
     (h ∙ ap (λ (x : Bond). backAt z (x .to)) f ∙ ap (λ (x : ℕ). backAt z (bondIn bonds first a (x - 1) .to)) e ∙ simp (ne-eqb _ _ (λ (q : getD back a 0 ≡ 0). d (e ∙ q))), onward-as h (onward-back z _))
 
 -- ---- a bond to an atom met before
-module _ (z r : Walker) (met walked back taken pairs pairs′ : List ℕ) (k : BondKind) (s t : ℕ) (h : Given) (p0 : hits h pairs′ ≡ hitOf (z .pool) pairs s t) where
-  ring-as : ringOf (walk z met walked back taken pairs) k s t ≡ numberedOf (walk z met walked back taken pairs) k s t h pairs′
-  unfolding ringOf
-  ring-as = rw (sym p0) refl
+told-full : (p : Pool) (g : Given) → strokeOf p g .told ≡ told.Full → g ≡ Full
+unfolding strokeOf
+told-full p (Number q n) e = absurd (let y : told.Number n ≡ told.Full = e in let z : _≡_ {A = ℕ} 0 1 = cc in omega arith)
+told-full p Full e = refl
 
-  pub ring-full : (line : Spoken) → h ≡ Full → r ≡ refusedAs z ringNumbers s t → Did (ringOf (walk z met walked back taken pairs) k s t) (walk r met walked back taken pairs′) line line
+told-number : (p : Pool) (g : Given) (n : ℕ) → strokeOf p g .told ≡ told.Number n → g ≡ Number (strokeOf p g .pool) n
+unfolding strokeOf
+told-number p (Number q m) n e = let y : told.Number m ≡ told.Number n = e in let z : m ≡ n = cc in ap (λ (x : ℕ). Number q x) z
+told-number p Full n e = absurd (let y : told.Full ≡ told.Number n = e in let z : _≡_ {A = ℕ} 0 1 = cc in omega arith)
+
+pub ringed-as : (z r : Walker) (g : Numbered) (k : Stroke) → g ≡ numberedIn z k → r ≡ ringed (g .walker) (g .walker .pool) → r ≡ ringed z (k .pool)
+ringed-as z r g k e f = f ∙ ap (λ (x : Numbered). ringed (x .walker) (x .walker .pool)) e
+
+module _ (z r : Walker) (met walked back taken pairs pairs′ : List ℕ) (k : BondKind) (s t : ℕ) (g : Numbered) (p0 : g ≡ numberedIn z (strokeOf (z .pool) (hitOf (z .pool) pairs s t .answer))) (p1 : pairs′ ≡ hitOf (z .pool) pairs s t .left) where
+  ring-as : ringOf (walk z met walked back taken pairs) k s t ≡ numberedOf (walk z met walked back taken pairs) k s t (hitOf (z .pool) pairs s t .answer) pairs′
+  unfolding ringOf
+  ring-as = ap (numberedOf (walk z met walked back taken pairs) k s t (hitOf (z .pool) pairs s t .answer)) (sym p1)
+
+  pub ring-full : (line : Spoken) → g .told ≡ told.Full → r ≡ refusedAs z ringNumbers s t → Did (ringOf (walk z met walked back taken pairs) k s t) (walk r met walked back taken pairs′) line line
   unfolding numberedOf
   ring-full line e f =
-      did-as (ring-as ∙ rw e refl)
+      did-as (ring-as ∙ ap (λ (x : Given). numberedOf (walk z met walked back taken pairs) k s t x pairs′) (told-full (z .pool) (hitOf (z .pool) pairs s t .answer) (sym (ap (λ (x : Numbered). x .told) p0) ∙ e)))
       (did-quiet (walk (refusedAs z ringNumbers s t) met walked back taken pairs′) _ line (ap (λ (x : Walker). walk x met walked back taken pairs′) f))
 
-  pub ring-number : (line popped said : Spoken) (p : Pool) (n : ℕ) → h ≡ Number p n → r ≡ ringed z p → popped ≡ sayAll line (popsOf (z .pend)) → said ≡ sayT popped (Join k n) → Did (ringOf (walk z met walked back taken pairs) k s t) (walk r met walked back taken pairs′) line said
+  pub ring-number : (line popped said : Spoken) (n : ℕ) → g .told ≡ told.Number n → r ≡ ringed (g .walker) (g .walker .pool) → popped ≡ sayAll line (popsOf (z .pend)) → said ≡ sayT popped (Join k n) → Did (ringOf (walk z met walked back taken pairs) k s t) (walk r met walked back taken pairs′) line said
   unfolding numberedOf
-  ring-number line popped said p n e f g i =
-      did-as (ring-as ∙ rw e refl)
-      (record { after = ap (λ (x : Walker). walk x met walked back taken pairs′) f; said = say-then line popped said (z .pend) (Join k n) g i })
+  ring-number line popped said n e f d i =
+      did-as (ring-as ∙ ap (λ (x : Given). numberedOf (walk z met walked back taken pairs) k s t x pairs′) (told-number (z .pool) (hitOf (z .pool) pairs s t .answer) n (sym (ap (λ (x : Numbered). x .told) p0) ∙ e)))
+      (record { after = ap (λ (x : Walker). walk x met walked back taken pairs′) (ringed-as z r g _ p0 f); said = say-then line popped said (z .pend) (Join k n) d i })

@@ -16,6 +16,7 @@ use Rattle.pool.specs.declared.Pool.{Pool}
 use Rattle.pool.specs.declared.Given.{Given}
 use Rattle.pool.specs.declared.Given.the-variants.{Number, Full}
 use Rattle.pool.specs.Pairs.{hitOf, emptyOf}
+use Rattle.pool.specs.declared.lent.Stroke.{Stroke}
 use Rattle.writer.specs.Line.{Event, Root, Extend, Join, Pop}
 use Rattle.ways.specs.declared.table.Bond.{Bond}
 use Rattle.ways.specs.declared.entry.Way.{Way}
@@ -23,6 +24,7 @@ use Rattle.ways.specs.declared.entry.Way.the-variants.{Enters, Refuses}
 use Rattle.ways.specs.Graph.{Graph, kindAt, degreeAt, bondIn, bondOf}
 use Rattle.ways.specs.Ways.{saidAs, wayOf}
 use Rattle.walk.specs.declared.walker.Walker.{Walker}
+use Rattle.walk.specs.declared.walker.Numbered.{Numbered}
 use Rattle.walk.specs.declared.turn.Turned.{Turned}
 use Rattle.writer.specs.declared.Writer.{Writer}
 use Rattle.writer.specs.Tables.{Spoken, sayAll}
@@ -89,6 +91,11 @@ atEnd z = walker (z .next) false (z .here) 0 (z .count) (z .pool) (z .refusal) (
 -- a ring number said, so all pops were
 abbrev pub ringed : Walker → Pool → Walker
 ringed z p = walker (z .next) (z .standing) (z .here) 0 (z .count) p (z .refusal) (z .first) (z .second)
+
+-- with what its pool was told, and the pool after it
+abbrev pub numberedIn : Walker → Stroke → Numbered
+numberedIn z k =
+    record { walker = walker (z .next) (z .standing) (z .here) (z .pend) (z .count) (k .pool) (z .refusal) (z .first) (z .second); told = k .told }
 
 abbrev pub moved : Walk → Walker → Walk
 moved w z = walk z (w .met) (w .walked) (w .back) (w .taken) (w .pairs)

@@ -1,7 +1,8 @@
 // The pool lent to a walk and changed in its own place.
 //
-// The turns carry the pool by value; the first function here stands over them: it empties the pool that it was lent, whatever
-// that held, has the turns start from it, and writes back what they leave. The second lends it a pool.
+// The turns carry it in their walker and lend it from there for each ring number; the first function here stands over them: it
+// empties the pool that it was lent, whatever that held, has the turns start from it, and writes back what they leave. The
+// second lends it a pool.
 ghost use mathlib.Core.Path.{_≡_};
 ghost use Prim.Native.Nat.{_<_};
 ghost use Rattle.writer.specs.Tables.{spoken, sayAll, writer};

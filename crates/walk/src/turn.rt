@@ -13,7 +13,7 @@ use crate::walker::RING_NUMBERS;
 use crate::walker::UNKNOWN_TARGET;
 use crate::walker::Walker;
 use feature::bond_kind::BondKind;
-use pool::Given;
+use pool::lent::Told;
 use record::look;
 use record::poke;
 use ways::entry::Way;
@@ -122,16 +122,19 @@ fn ring(
     ensures { λ r. ⌜ ((met walked back taken : List ℕ) → Did (ringOf (walk z met walked back taken (now (pairs .entry))) k s t) (walk (r .walker) met walked back taken (now (pairs .exit))) (spoken line (now (out .entry)) (now (starts .entry))) (spoken (r .line) (now (out .exit)) (now (starts .exit)))) ⌝ }
     ensures { λ r. ⌜ Grows z (r .walker) line (r .line) ⌝ }
 {
-    match pool::hit(pairs, z.pool, s, t) {
-        Given::Full => Turned {
+    let g = z.number(pairs, s, t);
+    let told = g.told;
+    match told {
+        Told::Full => Turned {
             walker: z.refused(RING_NUMBERS, s, t),
             line,
         },
-        Given::Number(p, n) => {
+        Told::Number(n) => {
             let popped = say_pops(out, starts, line, z.pend);
             let said = say_join(out, starts, popped, k, n);
+            let after = g.walker;
             Turned {
-                walker: z.ring(p),
+                walker: after.ring(),
                 line: said,
             }
         }

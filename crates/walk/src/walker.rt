@@ -1,8 +1,12 @@
 // What a walk knows beside its tables, and how it changes.
 ghost use mathlib.Core.Path.{_≡_};
 ghost use Prim.Native.Nat.{_<_};
-ghost use Rattle.walk.specs.Walk.{startOf, refusedAs, passed, standingAt, backAt, atEnd, ringed, far};
+ghost use Rattle.pool.specs.Pairs.{hitOf};
+ghost use Rattle.pool.specs.Strokes.{strokeOf};
+ghost use Rattle.walk.specs.Walk.{numberedIn, startOf, refusedAs, passed, standingAt, backAt, atEnd, ringed, far};
 use pool::Pool;
+use pool::lent;
+use pool::lent::Told;
 
 // The desk's numbers of the walk's refusals.
 pub const UNKNOWN_TARGET: u32 = 5;
@@ -26,6 +30,12 @@ pub struct Walker {
     pub refusal: u32,
     pub first: u32,
     pub second: u32,
+}
+
+// A walker, and what its pool answered.
+pub struct Numbered {
+    pub walker: Walker,
+    pub told: Told,
 }
 
 impl Walker {
@@ -96,11 +106,18 @@ impl Walker {
         self
     }
 
-    // A ring number handed out: the atoms left before were popped.
-    pub fn ring(mut self, p: Pool) -> Walker
-        ensures { λ r. ⌜ r ≡ ringed self p ⌝ }
+    // A ring number asked for: the pool is lent and changed in its own place.
+    pub fn number(mut self, pairs: &mut [u32], s: u32, t: u32) -> Numbered
+        ensures { λ r. ⌜ (r ≡ numberedIn self (strokeOf (self .pool) (hitOf (self .pool) (now (pairs .entry)) s t .answer))) × (now (pairs .exit) ≡ hitOf (self .pool) (now (pairs .entry)) s t .left) ⌝ }
     {
-        self.pool = p;
+        let told = lent::hit(&mut self.pool, pairs, s, t);
+        Numbered { walker: self, told }
+    }
+
+    // It was handed out: the atoms left before were popped.
+    pub fn ring(mut self) -> Walker
+        ensures { λ r. ⌜ r ≡ ringed self (self .pool) ⌝ }
+    {
         self.pend = 0;
         self
     }
