@@ -1,12 +1,13 @@
 -- What the tables of words come to is what is said of a line's atoms and bonds. Assumes nothing.
-use Prim.Native.Nat.{ℕ, _*_, _<_, _≤_}
-use mathlib.Core.Path.{_≡_, ap, _∙_, subst}
+use Prim.Native.Nat.{ℕ, _*_, _/_, _<_, _≤_}
+use mathlib.Core.Path.{_≡_, ap, _∙_, subst, sym}
 use mathlib.Core.List.{List}
 use native.Mathlib.Omega.{arith}
 use lib.ListN.{length, getD, replicate, length-replicate}
 use lib.Dec.{ltb, eqb}
 use Rattle.feature.specs.Pick.{pick}
-use Rattle.graph.specs.Limits.{textLimit, atomLimit, bondLimit}
+use Rattle.graph.specs.Limits.{textLimit, atomLimit, bondLimit, lesserOf}
+use Rattle.record.specs.Words.{atomWords, bondWords}
 use Rattle.graph.specs.Rings.{numbers}
 use Rattle.graph.specs.State.{Bld, entryWords, inversion, atomRoom, bondRoom}
 use Rattle.reader.specs.Events.{endOfLine, character, nesting}
@@ -15,10 +16,11 @@ use Rattle.build.specs.declared.Built.{Built}
 use Rattle.build.specs.declared.Built.the-variants as built
 use Rattle.sketch.specs.Sketch.{Sketch, BothEnds, sketchOf, finishS, atomTable, bondTable, padded, leftS}
 use Rattle.build.proofs.Laws.{zero-at}
-use Rattle.sketch.proofs.Text.{Reads, text-reads}
+use Rattle.sketch.proofs.Text.{Reads, text-reads, lesser-most, lesser-held}
 use Rattle.read.specs.declared.Answer.{Answer}
 use Rattle.read.specs.declared.Answer.the-variants.{Done, TextTooLong}
 use Rattle.read.specs.Read.{Said, said, refusalOf, builtAnswer, builtSaid, stateOf, saidOf, within, readOf}
+use Rattle.read.specs.Rooms.{Few, fewAtoms, fewBonds}
 use Rattle.read.specs.Line.{refusing, wholeOf, graphOf, lineOf}
 
 -- a state and a sketch that agree are answered alike
@@ -28,10 +30,11 @@ same-said b d la lb r =
     simp (r .built .answer, r .built .atoms, r .built .bonds, r .refusal, r .carried, r .atoms, r .entries, r .long)
 
 -- the work room that is lent: long enough, and no ring number held
-module _ (s : List ℕ) (la lb : ℕ) (e p r : List ℕ) (wide : bondLimit * entryWords ≤ length e) (deep : atomLimit ≤ length p) (round : numbers ≤ length r) (free : (n : ℕ) → n < numbers → getD r n 0 ≡ 0) where
+module _ (s : List ℕ) (la lb : ℕ) (e p r : List ℕ) (wide : lesserOf bondLimit (lb / bondWords) * entryWords ≤ length e) (deep : lesserOf atomLimit (la / atomWords) ≤ length p) (round : numbers ≤ length r) (free : (n : ℕ) → n < numbers → getD r n 0 ≡ 0) where
   reads : Reads (stateOf s (replicate la 0) lb e p r) (sketchOf s (length (replicate {A = ℕ} la 0)) lb) (length (replicate {A = ℕ} la 0)) lb
   unfolding stateOf
-  reads = text-reads s (replicate la 0) e p r lb wide deep round (zero-at la) free
+  reads =
+      text-reads s (replicate la 0) e p r lb wide (subst (λ (n : ℕ). lesserOf atomLimit (n / atomWords) ≤ length p) (sym (length-replicate la 0)) deep) round (zero-at la) free
 
   within-line : within s (replicate la 0) lb e p r ≡ graphOf (sketchOf s la lb) la lb
   unfolding within
@@ -41,15 +44,23 @@ module _ (s : List ℕ) (la lb : ℕ) (e p r : List ℕ) (wide : bondLimit * ent
   reads-ends : BothEnds (sketchOf s la lb .nodes)
   reads-ends = subst (λ (n : ℕ). BothEnds (sketchOf s n lb .nodes)) (length-replicate la 0) (reads .ends)
 
--- zeros are such a room
+-- zeros are such a room: of the largest size for any line, and of a small one where little was lent
 room-of : (n : ℕ) → n ≤ length (replicate {A = ℕ} n 0)
 room-of n = omega (arith, length-replicate {A = ℕ} n 0)
+
+pub within-many : (s : List ℕ) (la lb : ℕ) → within s (replicate la 0) lb (replicate (bondLimit * entryWords) 0) (replicate atomLimit 0) (replicate numbers 0) ≡ graphOf (sketchOf s la lb) la lb
+within-many s la lb =
+    within-line s la lb _ _ _ (omega (arith, room-of (bondLimit * entryWords), lesser-most bondLimit (lb / bondWords))) (omega (arith, room-of atomLimit, lesser-most atomLimit (la / atomWords))) (room-of numbers) (λ n h. zero-at numbers n)
+
+pub within-few : (s : List ℕ) (la lb : ℕ) → Few la lb → within s (replicate la 0) lb (replicate (fewBonds * entryWords) 0) (replicate fewAtoms 0) (replicate numbers 0) ≡ graphOf (sketchOf s la lb) la lb
+within-few s la lb few =
+    within-line s la lb _ _ _ (omega (arith, room-of (fewBonds * entryWords), lesser-held bondLimit (lb / bondWords), few .bonds)) (omega (arith, room-of fewAtoms, lesser-held atomLimit (la / atomWords), few .atoms)) (room-of numbers) (λ n h. zero-at numbers n)
 
 pub read-line : (s : List ℕ) (la lb : ℕ) → readOf s la lb ≡ lineOf s la lb
 unfolding readOf lineOf
 read-line s la lb =
     ap (pick (ltb textLimit (length s)) (refusing (TextTooLong (length s)) la lb))
-    (within-line s la lb _ _ _ (room-of (bondLimit * entryWords)) (room-of atomLimit) (room-of numbers) (λ n h. zero-at numbers n))
+    (within-many s la lb)
 
 -- so what is equal to the one is equal to the other
 pub by-line : (s : List ℕ) (la lb : ℕ) (x : Said) → x ≡ readOf s la lb → x ≡ lineOf s la lb
@@ -59,7 +70,7 @@ by-line s la lb x e = e ∙ read-line s la lb
 -- whatever the line, each bond that it is read to is held at both ends as reverses
 pub both-held : (s : List ℕ) (la lb : ℕ) → BothEnds (sketchOf s la lb .nodes)
 both-held s la lb =
-    reads-ends s la lb (replicate (bondLimit * entryWords) 0) (replicate atomLimit 0) (replicate numbers 0) (room-of (bondLimit * entryWords)) (room-of atomLimit) (room-of numbers) (λ n h. zero-at numbers n)
+    reads-ends s la lb (replicate (bondLimit * entryWords) 0) (replicate atomLimit 0) (replicate numbers 0) (omega (arith, room-of (bondLimit * entryWords), lesser-most bondLimit (lb / bondWords))) (omega (arith, room-of atomLimit, lesser-most atomLimit (la / atomWords))) (room-of numbers) (λ n h. zero-at numbers n)
 
 clash : _≡_ {A = ℕ} 0 1 → ⊥
 clash e = omega arith

@@ -1,12 +1,15 @@
 // The read call: a line's text into an atom table and a bond table.
 ghost use mathlib.Core.Path.{_≡_};
 ghost use Prim.Native.Nat.{ℕ, _≤_, _<_};
+ghost use mathlib.Core.Bool.{true};
 ghost use mathlib.Core.List.{List};
 ghost use lib.ListN.{length, replicate};
 ghost use Rattle.graph.specs.Limits.{textLimit};
 ghost use Rattle.graph.specs.State.{bld};
 ghost use Rattle.read.specs.Read.{said, endedSt, refusalOf, builtAnswer, within};
-ghost use Rattle.read.specs.Line.{lineOf};
+ghost use Rattle.sketch.specs.Sketch.{sketchOf};
+ghost use Rattle.read.specs.Line.{graphOf, lineOf};
+ghost use Rattle.read.specs.Rooms.{Cleared, Few};
 use build::Built;
 use build::build;
 use build::clear;
@@ -28,6 +31,8 @@ use reader::lead::Lead;
 use reader::line::Came;
 use reader::line::NESTING;
 use reader::line::read_line;
+use record::ATOM_WORDS;
+use record::BOND_WORDS;
 use scan::held::is_done;
 
 // What the desk says of a line. Its numbers, in order: 0, 1, 2, 3, 4, 10, 12, 13, 14, 15, 18.
@@ -135,6 +140,44 @@ fn read_within(
     built(r, b)
 }
 
+// The work room of a line whose tables have room for few atoms and bond entries, and so the line's graph no more.
+const FEW_ATOMS: usize = 128;
+
+const FEW_BONDS: usize = 256;
+
+fn read_few(text: &[u8], atoms: &mut [u32], bonds: &mut [u32]) -> Answer
+    requires { ⌜ Cleared (now text) (now atoms) (now bonds) × Few (length (now atoms)) (length (now bonds)) ⌝ }
+    ensures { λ r. ⌜ said r (now (atoms .exit)) (now (bonds .exit))
+        ≡ graphOf (sketchOf (now (text .entry)) (length (now (atoms .entry))) (length (now (bonds .entry)))) (length (now (atoms .entry))) (length (now (bonds .entry))) ⌝ }
+{
+    let mut entries = [0u32; FEW_BONDS * ENTRY_WORDS];
+    let mut path = [0u32; FEW_ATOMS];
+    let mut rings = [0u32; NUMBERS];
+    read_within(text, atoms, bonds, &mut entries, &mut path, &mut rings)
+}
+
+// The same for a line of any size.
+fn read_many(text: &[u8], atoms: &mut [u32], bonds: &mut [u32]) -> Answer
+    requires { ⌜ Cleared (now text) (now atoms) (now bonds) ⌝ }
+    ensures { λ r. ⌜ said r (now (atoms .exit)) (now (bonds .exit))
+        ≡ graphOf (sketchOf (now (text .entry)) (length (now (atoms .entry))) (length (now (bonds .entry)))) (length (now (atoms .entry))) (length (now (bonds .entry))) ⌝ }
+{
+    let mut entries = [0u32; BONDS * ENTRY_WORDS];
+    let mut path = [0u32; ATOMS];
+    let mut rings = [0u32; NUMBERS];
+    read_within(text, atoms, bonds, &mut entries, &mut path, &mut rings)
+}
+
+// Whether tables have room for few atoms and entries alone.
+fn are_few(atoms: &[u32], bonds: &[u32]) -> bool
+    ensures { λ r. ⌜ (r ≡ true → Few (length (now (atoms .entry))) (length (now (bonds .entry)))) ⌝ }
+{
+    if FEW_ATOMS < atoms.len() / ATOM_WORDS {
+        return false;
+    }
+    bonds.len() / BOND_WORDS <= FEW_BONDS
+}
+
 // Reads a line. The tables hold its graph in their final form, zeros after it; after a refusal they hold zeros.
 pub fn read(text: &[u8], atoms: &mut [u32], bonds: &mut [u32]) -> Answer
     ensures { λ r. ⌜ said r (now (atoms .exit)) (now (bonds .exit))
@@ -145,8 +188,8 @@ pub fn read(text: &[u8], atoms: &mut [u32], bonds: &mut [u32]) -> Answer
     if TEXT < text.len() {
         return Answer::TextTooLong(text.len());
     }
-    let mut entries = [0u32; BONDS * ENTRY_WORDS];
-    let mut path = [0u32; ATOMS];
-    let mut rings = [0u32; NUMBERS];
-    read_within(text, atoms, bonds, &mut entries, &mut path, &mut rings)
+    if are_few(atoms, bonds) {
+        return read_few(text, atoms, bonds);
+    }
+    read_many(text, atoms, bonds)
 }

@@ -123,14 +123,14 @@ run-kept n l b (e ∷ es) kept =
     by-test (Kept n l) (eqb (b .st .refusal) 0) (run-kept n l (step b e) es (step-kept n l b kept e)) kept
 
 -- ---- the room of tables
-lesser-most : (limit n : ℕ) → lesserOf limit n ≤ limit
+pub lesser-most : (limit n : ℕ) → lesserOf limit n ≤ limit
 unfolding lesserOf
 lesser-most limit n = split (ltb n limit) refl where
   split : (q : Bool) → ltb n limit ≡ q → pick q n limit ≤ limit
   split true e = omega (arith, ltb-true n limit e)
   split false e = omega arith
 
-lesser-held : (limit n : ℕ) → lesserOf limit n ≤ n
+pub lesser-held : (limit n : ℕ) → lesserOf limit n ≤ n
 unfolding lesserOf
 lesser-held limit n = split (ltb n limit) refl where
   split : (q : Bool) → ltb n limit ≡ q → pick q n limit ≤ n
@@ -148,7 +148,7 @@ pub record Reads (b : Bld) (d : Sketch) (la lb : ℕ) : Type 0 where
   pub built : Says (buildOf (tables (b .atoms) (replicate lb 0) (b .path)) (b .entries) (b .st)) (finishS d) (d .nodes) la lb
   pub ends : BothEnds (d .nodes)
 
-module _ (s a e p r : List ℕ) (lb : ℕ) (wide : bondLimit * entryWords ≤ length e) (deep : atomLimit ≤ length p) (round : numbers ≤ length r) (blank : (i : ℕ) → getD a i 0 ≡ 0) (free : (n : ℕ) → n < numbers → getD r n 0 ≡ 0) where
+module _ (s a e p r : List ℕ) (lb : ℕ) (wide : lesserOf bondLimit (lb / bondWords) * entryWords ≤ length e) (deep : lesserOf atomLimit (length a / atomWords) ≤ length p) (round : numbers ≤ length r) (blank : (i : ℕ) → getD a i 0 ≡ 0) (free : (n : ℕ) → n < numbers → getD r n 0 ≡ 0) where
   abbrev places : ℕ
   places = lesserOf atomLimit (length a / atomWords)
 
@@ -159,8 +159,8 @@ module _ (s a e p r : List ℕ) (lb : ℕ) (wide : bondLimit * entryWords ≤ le
   room =
       record {
         atoms = omega (arith, lesser-held atomLimit (length a / atomWords));
-        entries = omega (arith, lesser-most bondLimit (lb / bondWords));
-        path = omega (arith, lesser-most atomLimit (length a / atomWords));
+        entries = wide;
+        path = deep;
         rings = round;
         few = lesser-most atomLimit (length a / atomWords);
         small = lesser-most bondLimit (lb / bondWords);
