@@ -11,9 +11,6 @@ use Rattle.pool.specs.Pairs.{Hits, hits, hitOf}
 use Rattle.pool.specs.Strokes.{stroke, strokeOf}
 use Rattle.pool.proofs.lent.strike.Statement.{statement}
 use Rattle.pool.proofs.lent.strike.Tie as tie
-use Rattle.pool.proofs.lent.strike.Reads as reads
-use Rattle.pool.proofs.lent.strike.Lts as lts
-use Rattle.pool.proofs.hit.Reads as hit-reads
 
 number-given : (p : Pool) (pairs pairs′ : List ℕ) (a b : ℕ) (g : Given) → hits g pairs′ ≡ hitOf p pairs a b → (q : Pool) (n : ℕ) → g ≡ Number q n
     → (stroke q (told.Number n) ≡ strokeOf p (hitOf p pairs a b .answer)) × (pairs′ ≡ hitOf p pairs a b .left)
@@ -25,31 +22,24 @@ none-given : (p : Pool) (pairs pairs′ : List ℕ) (a b : ℕ) (g : Given) → 
 unfolding strokeOf
 none-given p pairs pairs′ a b g h e = (ap (strokeOf p) (sym e ∙ ap (λ (x : Hits). x .answer) h), ap (λ (x : Hits). x .left) h)
 
--- src/lent.rt:24:11
 hit-requires : tie.Need-hit-requires
 hit-requires c κs = search needs
 
--- src/lent.rt:25:23
 enum-known-q : tie.Need-enum-known-q
 enum-known-q c = search needs
 
--- src/lent.rt:31:19
 enum-told : tie.Need-enum-told
 enum-told c = search needs
 
--- src/lent.rt:21:1
 same-length : tie.Need-same-length
 same-length c = search needs
 
--- src/lent.rt:21:1
 returns : tie.Need-returns
 returns c = number-given _ _ _ _ _ _ (c .before .before .before .before .before .hit .ensures) _ _ (c .before .q .given .1)
 
--- src/lent.rt:21:1
 same-length-2 : tie.Need-same-length-2
 same-length-2 c = search needs
 
--- src/lent.rt:21:1
 returns-2 : tie.Need-returns-2
 returns-2 c = none-given _ _ _ _ _ _ (c .before .before .before .before .hit .ensures) (c .enum-told .given .1)
 

@@ -3,63 +3,43 @@ use borrow.Author.Needs.{needs}
 use Rattle.walk.proofs.Moves.{onward-as, onward-refused, onward-ringed, grows-quiet, grows-two, ring-full, ring-number, ringed-as}
 use Rattle.walk.proofs.turn.ring.Statement.{statement}
 use Rattle.walk.proofs.turn.ring.Tie as tie
-use Rattle.walk.proofs.turn.ring.Reads as reads
-use Rattle.walk.proofs.turn.ring.Lts as lts
-use Rattle.walk.proofs.turn.say_pops.Reads as say-pops-reads
-use Rattle.walk.proofs.walker.Walker.number.Reads as number-reads
-use Rattle.walk.proofs.walker.Walker.refused.Reads as refused-reads
-use Rattle.walk.proofs.walker.Walker.ring.Reads as ring-reads
-use Rattle.writer.proofs.say.say_join.Reads as say-join-reads
 
--- src/turn.rt:125:9
 number-requires : tie.Need-number-requires
 number-requires c κs = search needs
 
--- src/turn.rt:129:21
 enum-told : tie.Need-enum-told
 enum-told c = search needs
 
--- src/turn.rt:129:21
 refused-requires : tie.Need-refused-requires
 refused-requires c κs = search needs
 
--- src/turn.rt:132:22
 enum-known-told : tie.Need-enum-known-told
 enum-known-told c = search needs
 
--- src/turn.rt:133:17
 say-pops-requires : tie.Need-say-pops-requires
 say-pops-requires c κs = search needs
 
--- src/turn.rt:134:17
 say-join-requires : tie.Need-say-join-requires
 say-join-requires c κs = search needs
 
--- src/turn.rt:137:25
 ring-requires : tie.Need-ring-requires
 ring-requires c κs = search needs
 
--- src/turn.rt:111:1
 same-length : tie.Need-same-length
 same-length c = search needs
 
--- src/turn.rt:111:1
 returns : tie.Need-returns
 returns c = (λ met walked back taken. ring-full _ _ _ _ _ _ _ _ _ _ _ _ (c .before .before .before .before .before .number .ensures .0) (c .before .before .before .before .before .number .ensures .1) _ (c .before .enum-told .given .1) (c .refused .ensures), grows-quiet _ (onward-as (c .refused .ensures) (onward-refused _ _ _ _)))
 
--- src/turn.rt:111:1
 same-length-2 : tie.Need-same-length-2
 same-length-2 c = c .before .before .before .before .before .before .before .before .before .before .before .before .before .before .before .before .before .before .before .before .before .number .kept .1 .0
 
--- src/turn.rt:111:1
 same-length-3 : tie.Need-same-length-3
 same-length-3 c = search needs
 
--- src/turn.rt:111:1
 same-length-4 : tie.Need-same-length-4
 same-length-4 c = search needs
 
--- src/turn.rt:111:1
 returns-2 : tie.Need-returns-2
 returns-2 c = (λ met walked back taken. ring-number _ _ _ _ _ _ _ _ _ _ _ _ (c .before .before .before .before .before .before .before .before .before .before .before .before .before .before .before .before .before .before .before .before .before .number .ensures .0) (c .before .before .before .before .before .before .before .before .before .before .before .before .before .before .before .before .before .before .before .before .before .number .ensures .1) _ _ _ _ (c .before .before .before .before .before .before .before .before .before .before .before .before .before .before .before .before .before .told .given .1) (c .ring .ensures) (c .before .before .before .before .before .before .before .before .before .before .before .before .before .say-pops .ensures .0) (c .before .before .before .before .before .before .say-join .ensures .0), grows-two (onward-as (ringed-as (c .before .before .before .before .before .before .before .before .before .before .before .before .before .before .before .before .before .before .before .before .before .before .before .before .before .before .args .z) _ _ _ (c .before .before .before .before .before .before .before .before .before .before .before .before .before .before .before .before .before .before .before .before .before .number .ensures .0) (c .ring .ensures)) (onward-ringed (c .before .before .before .before .before .before .before .before .before .before .before .before .before .before .before .before .before .before .before .before .before .before .before .before .before .before .args .z) _)) (c .before .before .before .before .before .before .before .before .before .before .before .before .before .say-pops .ensures .1) (c .before .before .before .before .before .before .say-join .ensures .1))
 
