@@ -2,3 +2,4 @@ pub mod Names
 pub mod Grammar
 pub mod Lines
 pub mod OpenSmiles
+pub mod Molecule

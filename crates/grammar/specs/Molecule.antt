@@ -1,0 +1,199 @@
+-- What OpenSMILES makes of a line: its atoms, each with its neighbours in the order in which the line names them, and what it
+-- forbids of them; and where the graph that is read departs from that, each departure by its name in the list of differences.
+-- Written from a summary of its rules.
+use Prim.Native.Nat.{ℕ, _+_, _≤_}
+use mathlib.Core.Path.{_≡_}
+use mathlib.Core.List.{List, [], _∷_, _++_}
+use mathlib.Core.Option.{Option, none, some}
+use mathlib.Core.Bool.{Bool, false}
+use lib.ListN.{length, drop}
+use Rattle.feature.specs.Pick.{pick, both}
+use Rattle.feature.specs.Kinds.{invertOf}
+use Rattle.feature.specs.Bonds.{same, reverseOf}
+use Rattle.feature.specs.declared.atom_kind.AtomKind.{AtomKind}
+use Rattle.feature.specs.declared.atom_kind.Inverted.{Inverted}
+use Rattle.feature.specs.declared.atom_kind.Inverted.the-variants.{Turned, Refused}
+use Rattle.feature.specs.declared.bond_kind.BondKind.{BondKind}
+use Rattle.feature.specs.declared.bond_kind.BondKind.the-variants.{Elided, Double}
+use Rattle.graph.specs.State.{inversion, atomRoom, bondRoom}
+use Rattle.reader.specs.declared.lead.Lead.{Lead}
+use Rattle.reader.specs.declared.lead.Lead.the-variants.{Dot, Bond}
+use Rattle.reader.specs.Events.{Event, Enter, Join, Pop, Miss, Nest}
+use Rattle.sketch.specs.Sketch.{To, Open, Edge, Node, Held, None, Failed, Sketch, edge, node, held, upd, edgesAt, addEdge, openKind, fill, lookup, without, leads, firstOpenS, sketchOf, finishS}
+use Rattle.grammar.specs.OpenSmiles.{Chain, says}
+use Rattle.build.specs.declared.Built.the-variants.{Done}
+
+-- ---- A MOLECULE IN THE MAKING
+-- The atoms with their neighbours; the atoms that the next one may follow, the last first; the ring numbers used once; how many
+-- ring numbers there were.
+pub record Molecule : Type 0 where
+  pub atoms : List Node
+  pub path : List ℕ
+  pub opens : List Held
+  pub joins : ℕ
+
+abbrev pub molecule : List Node → List ℕ → List Held → ℕ → Molecule
+molecule ns at os j = record { atoms = ns; path = at; opens = os; joins = j }
+
+-- An atom after a dot has no neighbour yet. Else the atom that stands is its first neighbour, and it is that one's last.
+unfoldable pub placed : Molecule → Lead → AtomKind → List ℕ → Option Molecule
+placed m Dot k at = some (molecule (m .atoms ++ (node k [] ∷ [])) (length (m .atoms) ∷ at) (m .opens) (m .joins))
+placed m (Bond e) k [] = none
+placed m (Bond e) k (s ∷ at) =
+    some (molecule
+    (upd s (addEdge (edge e (To (length (m .atoms))))) (m .atoms) ++ (node k (edge (reverseOf e) (To s) ∷ []) ∷ []))
+    (length (m .atoms) ∷ s ∷ at) (m .opens) (m .joins))
+
+-- The two ends of a ring bond: either may be elided; if neither is, each is the other as seen from its own end. The bond is
+-- given as seen from the opening atom.
+unfoldable pub agreed : BondKind → BondKind → Option BondKind
+agreed k l =
+    pick (same k Elided) (some (reverseOf l))
+    (pick (same l Elided) (some k)
+    (pick (same l (reverseOf k)) (some k)
+    none))
+
+-- A number's second use: the opening atom's neighbour stands where the number did.
+unfoldable pub closed : Molecule → ℕ → ℕ → Held → Option BondKind → Option Molecule
+closed m n s h none = none
+closed m n s h (some k) =
+    some (molecule
+    (upd s (addEdge (edge (reverseOf k) (To (h .atom)))) (upd (h .atom) (fill (h .join) k s) (m .atoms)))
+    (m .path) (without n (m .opens)) (m .joins + 1))
+
+-- A ring number at the atom s: its first use keeps its place among the neighbours, its second closes the ring, and the number is
+-- free again.
+unfoldable pub ringed : Molecule → BondKind → ℕ → ℕ → Option Held → Option Molecule
+ringed m e n s none =
+    some (molecule (upd s (addEdge (edge e (Open (m .joins)))) (m .atoms)) (m .path) (held n s (m .joins) ∷ m .opens) (m .joins + 1))
+ringed m e n s (some h) = closed m n s h (agreed (openKind (h .join) (edgesAt (h .atom) (m .atoms))) e)
+
+unfoldable pub numbered : Molecule → BondKind → ℕ → List ℕ → Option Molecule
+numbered m e n [] = none
+numbered m e n (s ∷ at) = ringed m e n s (lookup n (m .opens))
+
+-- ---- HOW AN ATOM IS HELD
+-- OpenSMILES: as it is written.
+unfoldable pub asWritten : Lead → AtomKind → AtomKind
+asWritten l k = k
+
+-- Departure "TH marks": an atom that bears hydrogen and follows another is held with the other mark. OpenSMILES' "@" speaks of
+-- the neighbours in the order atom before, hydrogen, others; the held mark of the order hydrogen, atom before, others. Without
+-- hydrogen, or with no atom before, the two orders are one, and no mark changes.
+unfoldable pub turnedOr : AtomKind → Inverted → AtomKind
+turnedOr k (Turned j) = j
+turnedOr k Refused = k
+
+unfoldable pub asHeld : Lead → AtomKind → AtomKind
+asHeld Dot k = k
+asHeld (Bond e) k = turnedOr k (invertOf k)
+
+-- ---- THE MOLECULE OF A LINE, by its events and by how its atoms are held; none if it has none
+unfoldable pub told : (Lead → AtomKind → AtomKind) → Molecule → Event → Option Molecule
+told hold m (Enter l k place) = placed m l (hold l k) (m .path)
+told hold m (Join e n place) = numbered m e n (m .path)
+told hold m (Pop n) = some (molecule (m .atoms) (drop n (m .path)) (m .opens) (m .joins))
+told hold m (Miss x) = none
+told hold m (Nest place) = none
+
+unfoldable pub next : (Lead → AtomKind → AtomKind) → Option Molecule → Event → Option Molecule
+next hold none e = none
+next hold (some m) e = told hold m e
+
+unfoldable pub tellAll : (Lead → AtomKind → AtomKind) → Option Molecule → List Event → Option Molecule
+tellAll hold o [] = o
+tellAll hold o (e ∷ es) = tellAll hold (next hold o e) es
+
+unfoldable pub moleculeOf : (Lead → AtomKind → AtomKind) → List Event → Option Molecule
+moleculeOf hold es = tellAll hold (some (molecule [] [] [] 0)) es
+
+-- Each atom's neighbours, and each atom's kind; only the kinds depend on how an atom is held.
+unfoldable pub neighbours : List Node → List (List Edge)
+neighbours [] = []
+neighbours (n ∷ ns) = n .edges ∷ neighbours ns
+
+unfoldable pub kinds : List Node → List AtomKind
+kinds [] = []
+kinds (n ∷ ns) = n .kind ∷ kinds ns
+
+unfoldable pub kindTold : (Lead → AtomKind → AtomKind) → Event → List AtomKind
+kindTold hold (Enter l k place) = hold l k ∷ []
+kindTold hold (Join e n place) = []
+kindTold hold (Pop n) = []
+kindTold hold (Miss x) = []
+kindTold hold (Nest place) = []
+
+unfoldable pub kindsTold : (Lead → AtomKind → AtomKind) → List Event → List AtomKind
+kindsTold hold [] = []
+kindsTold hold (e ∷ es) = kindTold hold e ++ kindsTold hold es
+
+-- ---- WHAT OPENSMILES FORBIDS
+-- how many neighbours of an atom are the atom t
+unfoldable pub timesTo : ℕ → List Edge → ℕ
+timesTo t [] = 0
+timesTo t (e ∷ es) = pick (leads t (e .target)) 1 0 + timesTo t es
+
+-- Departure "joined to itself": an atom is its own neighbour. Smallest line: C11.
+pub record JoinedToItself (ns : List Node) : Type 0 where
+  pub atom : ℕ
+  pub itself : 1 ≤ timesTo atom (edgesAt atom ns)
+
+-- Departure "joined twice": an atom has another one twice as its neighbour. Smallest line: C1C1.
+pub record JoinedTwice (ns : List Node) : Type 0 where
+  pub atom : ℕ
+  pub other : ℕ
+  pub apart : ¬ (atom ≡ other)
+  pub twice : 2 ≤ timesTo other (edgesAt atom ns)
+
+-- OpenSMILES' rule: neither. The reader has no such rule; the walk has (numbers 6 and 8), so that such a graph is not written.
+pub record Allowed (ns : List Node) : Type 0 where
+  pub self-free : ¬ JoinedToItself ns
+  pub twice-free : ¬ JoinedTwice ns
+
+-- Departure "allenes": OpenSMILES means AL1 by "@" and AL2 by "@@" where an atom's neighbours are two, both by double bonds; here,
+-- as in the reader, these marks are TH1 and TH2 wherever they stand. Smallest line: C=[C@]=C.
+unfoldable pub alleneLike : List Edge → Bool
+alleneLike [] = false
+alleneLike (a ∷ []) = false
+alleneLike (a ∷ b ∷ []) = both (same (a .kind) Double) (same (b .kind) Double)
+alleneLike (a ∷ b ∷ c ∷ es) = false
+
+-- ---- WHAT OPENSMILES MEANS BY A CHAIN: the atoms of its molecule, all rings closed, and none joined to itself or joined twice
+pub record Meant (u : Chain) (ns : List Node) : Type 0 where
+  pub whole : Molecule
+  pub is : moleculeOf asWritten (says u) ≡ some whole
+  pub atoms : whole .atoms ≡ ns
+  pub rings : firstOpenS ns ≡ none
+  pub allowed : Allowed ns
+
+-- ---- WHAT IS READ
+-- A text is read into tables of so many words: its atoms with their bond entries.
+pub record ReadAs (s : List ℕ) (la lb : ℕ) (ns : List Node) : Type 0 where
+  pub accepted : sketchOf s la lb .refusal ≡ 0
+  pub done : finishS (sketchOf s la lb) ≡ Done
+  pub nodes : sketchOf s la lb .nodes ≡ ns
+
+-- What is held of a chain beside what is meant by it: the same neighbours; the kinds as they are held, where they are meant as
+-- they are written.
+pub record HeldFor (u : Chain) (meant ns : List Node) : Type 0 where
+  pub around : neighbours ns ≡ neighbours meant
+  pub here : kinds ns ≡ kindsTold asHeld (says u)
+  pub there : kinds meant ≡ kindsTold asWritten (says u)
+
+-- Where the reader stops and OpenSMILES doesn't: the room for atoms (13) and for bond entries (14) is limited; and departure "mark
+-- not turned" (10): where a mark other than TH1 and TH2 would have to be turned, the line is refused. Smallest line: C[C@SP1H].
+pub data Limited : ℕ → Type 0 where
+  no-place : Limited atomRoom
+  no-slot : Limited bondRoom
+  not-turned : Limited inversion
+
+-- A line in the reading, beside its molecule: nothing is refused, the ring bonds' ends agree, and the graph's atoms are the
+-- molecule's; or two ends don't agree, or something is missing, and there is no molecule; or a limit is met.
+abbrev pub moleculeIn : Sketch → Molecule
+moleculeIn d = molecule (d .nodes) (d .path) (d .opens) (d .joins)
+
+pub data Alike (d : Sketch) : Option Molecule → Type 0 where
+  alike : d .refusal ≡ 0 → d .failure ≡ None → d .unseen ≡ 0 → Alike d (some (moleculeIn d))
+  disagree : (x y : ℕ) → d .failure ≡ Failed x y → Alike d none
+  missing : ¬ (d .refusal ≡ 0) → Alike d none
+  limited : {o : Option Molecule} → Limited (d .refusal) → Alike d o
