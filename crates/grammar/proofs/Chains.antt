@@ -6,9 +6,9 @@ use mathlib.Core.Option.{Option}
 use Prim.Native.Nat.{ℕ, _≤_}
 use lib.ListN.{length}
 use native.Mathlib.Omega.{arith}
-use Rattle.grammar.specs.OpenSmiles.{Charge′, neutral′, sign′, twice′, digit′, digits′, Atom′, organic′, bracket′, Rings, no-rings, and-ring, Chain, first, then, Branched, branched, Branches, no-branches, and-branch, numberS, chargeS′, classS′, atomS′, ringsS, chainS, branchedS, branchesS, SmallCharge, SmallAtom, Small, SmallBranched, SmallBranches, NoBranch, StrictAtom, Strict}
+use Rattle.grammar.specs.OpenSmiles.{Chiral′, mark′, pair′, chiralS′, SmallChiral, Charge′, neutral′, sign′, twice′, digit′, digits′, Atom′, organic′, bracket′, Rings, no-rings, and-ring, Chain, first, then, Branched, branched, Branches, no-branches, and-branch, numberS, chargeS′, classS′, atomS′, ringsS, chainS, branchedS, branchesS, SmallCharge, SmallAtom, Small, SmallBranched, SmallBranches, NoBranch, StrictAtom, Strict}
 use Rattle.grammar.proofs.Table.{test-yes}
-use Rattle.grammar.specs.Grammar.{Digit, Bond, Isotope, iso0, iso1, iso2, iso3, head, headS, okay1, okay2, Charge, neutral, sign, twice, num1, num2, chargeS, Map, nomap, m1, m2, m3, mapS, Atom, organic, bracket, Rnum, Link, Line, start, link, ring, branch, isotopeS, atomS, linkS, spell}
+use Rattle.grammar.specs.Grammar.{Digit, Bond, Isotope, iso0, iso1, iso2, iso3, Chiral, flat, code2, valid2, chiralS, head, headS, okay1, okay2, Charge, neutral, sign, twice, num1, num2, chargeS, Map, nomap, m1, m2, m3, mapS, Atom, organic, bracket, Rnum, Link, Line, start, link, ring, branch, isotopeS, atomS, linkS, spell}
 use Rattle.grammar.proofs.Machine.{test, done, read}
 use Rattle.grammar.proofs.Reading.{sound, complete}
 
@@ -25,6 +25,10 @@ mapOf (a ∷ []) = m1 a
 mapOf (a ∷ b ∷ []) = m2 a b
 mapOf (a ∷ b ∷ c ∷ r) = m3 a b c
 
+unfoldable pub chiralOf : Chiral′ → Chiral
+chiralOf (mark′ c) = c
+chiralOf (pair′ k w d e) = test (valid2 k d e) (λ p. code2 k d e p) flat
+
 unfoldable pub chargeOf : Charge′ → Charge
 chargeOf neutral′ = neutral
 chargeOf (sign′ g) = sign g
@@ -35,7 +39,7 @@ chargeOf (digits′ g d e) = test (okay2 d e) (λ p. num2 g d e p) neutral
 -- ---- chains as trees
 unfoldable pub atomOf : Atom′ → Atom
 atomOf (organic′ o k) = organic o
-atomOf (bracket′ i s c h k q m) = bracket (head (isotopeOf i) s c h) (chargeOf q) (mapOf m)
+atomOf (bracket′ i s c h k q m) = bracket (head (isotopeOf i) s (chiralOf c) h) (chargeOf q) (mapOf m)
 
 unfoldable pub ringsOf : Line → Rings → Line
 ringsOf t no-rings = t
@@ -70,6 +74,11 @@ map-ok (a ∷ b ∷ []) h = refl
 map-ok (a ∷ b ∷ c ∷ []) h = refl
 map-ok (a ∷ b ∷ c ∷ d ∷ r) h = absurd (omega arith)
 
+pub chiral-ok : (c : Chiral′) → SmallChiral c → chiralS (chiralOf c) ≡ chiralS′ c
+unfolding SmallChiral chiralOf chiralS chiralS′
+chiral-ok (mark′ c) h = refl
+chiral-ok (pair′ k w d e) h = rw (test-yes (valid2 k d e) h (λ p. code2 k d e p) flat)
+
 pub charge-ok : (q : Charge′) → SmallCharge q → chargeS (chargeOf q) ≡ chargeS′ q
 unfolding SmallCharge chargeOf chargeS chargeS′
 charge-ok neutral′ h = refl
@@ -81,7 +90,7 @@ charge-ok (digits′ g d e) h = rw (test-yes (okay2 d e) h (λ p. num2 g d e p) 
 pub atom-ok : (a : Atom′) → SmallAtom a → atomS (atomOf a) ≡ atomS′ a
 unfolding SmallAtom atomOf atomS atomS′ headS
 atom-ok (organic′ o k) h = refl
-atom-ok (bracket′ i s c g k q m) h = rw (number-ok i (h .0), charge-ok q (h .1), map-ok m (h .2)) (simp append-assoc)
+atom-ok (bracket′ i s c g k q m) h = rw (number-ok i (h .0), chiral-ok c (h .3), charge-ok q (h .1), map-ok m (h .2)) (simp append-assoc)
 
 strict-atom : (a : Atom′) → StrictAtom (atomOf a)
 unfolding StrictAtom atomOf
@@ -150,7 +159,7 @@ klass (m3 a b c) = a ∷ b ∷ c ∷ []
 atom : (a : Atom) → StrictAtom a → Atom′
 unfolding number charge klass StrictAtom
 atom (organic o) k = organic′ o k
-atom (bracket (head i s c h) q m) k = bracket′ (number i) s c h k (charge q) (klass m)
+atom (bracket (head i s c h) q m) k = bracket′ (number i) s (mark′ c) h k (charge q) (klass m)
 
 alone : (a : Atom) → StrictAtom a → Branched
 unfolding atom
@@ -194,7 +203,7 @@ charge-back (num1 g d p) = test-yes (okay1 d) p (λ p. num1 g d p) neutral
 charge-back (num2 g d e p) = test-yes (okay2 d e) p (λ p. num2 g d e p) neutral
 
 atom-back : (a : Atom) (k : StrictAtom a) → atomOf (atom a k) ≡ a
-unfolding atom atomOf
+unfolding atom atomOf chiralOf
 atom-back (organic o) k = refl
 atom-back (bracket (head i s c h) q m) k = rw (number-back, charge-back, klass-back)
 
@@ -240,9 +249,9 @@ charge-small (num1 g d p) = p
 charge-small (num2 g d e p) = p
 
 atom-small : (a : Atom) (k : StrictAtom a) → SmallAtom (atom a k)
-unfolding atom SmallAtom
+unfolding atom SmallAtom SmallChiral
 atom-small (organic o) k = tt
-atom-small (bracket (head i s c h) q m) k = (number-small i, charge-small q, klass-small m)
+atom-small (bracket (head i s c h) q m) k = (number-small i, charge-small q, klass-small m, tt)
 
 ring-small : (u : Chain) (b : Option Bond) (r : Rnum) → Small u → Small (addRing u b r)
 unfolding addRing Small

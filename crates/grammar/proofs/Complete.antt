@@ -91,7 +91,7 @@ afterAtom (organic (bare1 a p)) = bare a (has1-leads a organics p)
 afterAtom (organic (bare2 a b p)) = whole (bare2 a b p)
 afterAtom (bracket x q m) = closed x q m
 
-read-isotope : (i : Isotope) → parts (isotope iso0) (isotopeS i) ≡ some (isotope i)
+pub read-isotope : (i : Isotope) → parts (isotope iso0) (isotopeS i) ≡ some (isotope i)
 unfolding parts chain partStep grow isotopeS
 read-isotope iso0 = refl
 read-isotope (iso1 a) = simp digit-of
@@ -102,18 +102,18 @@ read-lead : (i : Isotope) (a : ℕ) (p : T (leads a names)) → partStep (isotop
 unfolding partStep toSymbol
 read-lead i a p = rw (name-undigit a p) (test-yes (leads a names) p (λ p. some (lead i a p)) none)
 
-read-symbol : (i : Isotope) (s : Symbol) → parts (isotope i) (symbolS s) ≡ some (afterSymbol i s)
+pub read-symbol : (i : Isotope) (s : Symbol) → parts (isotope i) (symbolS s) ≡ some (afterSymbol i s)
 unfolding parts chain symbolS afterSymbol
 read-symbol i (short a p) = rw (read-lead i a (has1-leads a names p))
 read-symbol i (long a b p) = rw (read-lead i a (has2-leads a b names p)) (unfold partStep in rw (test-yes (has2 a b names) p (λ q. some (symbol i (long a b q))) _))
 
 -- a byte that is no second letter ends the symbol
-past-symbol : (i : Isotope) (s : Symbol) (b : ℕ) → seconds b names ≡ false → partStep (afterSymbol i s) b ≡ toChiral i s b
+pub past-symbol : (i : Isotope) (s : Symbol) (b : ℕ) → seconds b names ≡ false → partStep (afterSymbol i s) b ≡ toChiral i s b
 unfolding partStep afterSymbol
 past-symbol i (short a p) b e = test-not (has2 a b names) _ _ (no-second a b names e) ∙ test-yes (has1 a names) p (λ q. toChiral i (short a q) b) none
 past-symbol i (long a c p) b e = refl
 
-read-class : (i : Isotope) (s : Symbol) (k : Class) → parts (chiral1 i s) (class1 k ∷ class2 k ∷ []) ≡ some (class i s k)
+pub read-class : (i : Isotope) (s : Symbol) (k : Class) → parts (chiral1 i s) (class1 k ∷ class2 k ∷ []) ≡ some (class i s k)
 unfolding parts chain partStep famOf classOf class1 class2
 read-class i s TH = refl
 read-class i s AL = refl
@@ -138,7 +138,7 @@ valid-cut k d e p = by (leb 1 (value d)) p
     by true q = le→leb (value d) (most k) (omega (arith, leb→le (10 * value d + value e) (most k) q))
     by false q = q
 
-read-chiral : (i : Isotope) (s : Symbol) (c : Chiral) → parts (afterSymbol i s) (chiralS c) ≡ some (afterChiral i s c)
+pub read-chiral : (i : Isotope) (s : Symbol) (c : Chiral) → parts (afterSymbol i s) (chiralS c) ≡ some (afterChiral i s c)
 unfolding parts chain toChiral chiralS afterChiral partStep
 read-chiral i s flat = refl
 read-chiral i s at = rw (past-symbol i s (byte "@") at-second)

@@ -12,13 +12,13 @@ use Rattle.scan.specs.declared.scanner.Missing.the-variants.{EndOfLine, Charact
 use Rattle.reader.specs.Events.{Miss}
 use Rattle.reader.specs.Parse.{parse}
 use Rattle.grammar.specs.Names.{table, without, has1, has2}
-use Rattle.grammar.specs.Grammar.{link, meaning, tells, enter, atomK, bracketK, symbolK, d0, d1, d6, value, digitS, organics, bare1, bare2, organicS, names, known, short, long, symbolS, iso0, isotopeS, flat, chiralS, bald, H, hcountS, head, headS, plus, signS, neutral, chargeS, okay1, okay2, nomap, mapS, organic, bracket, atomS, ring1, rnumS, bond?S, elided, linkS, Line, start, ring, branch, spell}
+use Rattle.grammar.specs.Grammar.{link, meaning, tells, enter, atomK, bracketK, symbolK, d0, d1, d6, value, digitS, organics, bare1, bare2, organicS, names, known, short, long, symbolS, iso0, isotopeS, flat, TB, class1, class2, valid2, chiralS, bald, H, hcountS, head, headS, plus, signS, neutral, chargeS, okay1, okay2, nomap, mapS, organic, bracket, atomS, ring1, rnumS, bond?S, elided, linkS, Line, start, ring, branch, spell}
 use Rattle.grammar.proofs.Verdict.{read-tree}
 use Rattle.grammar.proofs.First.{after-line}
 use Rattle.grammar.proofs.Late.{late, latePart, eaten-late}
 use Rattle.graph.specs.Limits.{branchLimit}
 use Rattle.grammar.specs.Lines.{Fits, Eaten, Late, Ends, Bytes, Refused}
-use Rattle.grammar.specs.OpenSmiles.{openOrganics, openNames, OpenOrganic, OpenSymbol, uncounted, bracket′, neutral′, digit′, digits′, no-rings, Chain, first, branched, no-branches, numberS, chargeS′, classS′, atomS′, ringsS, chainS, Small, SmallCharge, SmallAtom, Strict, StrictAtom, NoBranch, Terminator, space, tab, feed, return, terminatorS}
+use Rattle.grammar.specs.OpenSmiles.{openOrganics, openNames, OpenOrganic, OpenSymbol, uncounted, mark′, pair′, chiralS′, paired, SmallChiral, bracket′, neutral′, digit′, digits′, no-rings, Chain, first, branched, no-branches, numberS, chargeS′, classS′, atomS′, ringsS, chainS, Small, SmallCharge, SmallAtom, Strict, StrictAtom, NoBranch, Terminator, space, tab, feed, return, terminatorS}
 use Rattle.grammar.proofs.Machine.{top, ending, digitOf, bondOf, begins, leads, bodyStep}
 use Rattle.grammar.proofs.Table.{seconds, Free, free}
 use Rattle.grammar.proofs.Link.{full, told, toldWhere, toldAround, halt, parse-full}
@@ -162,10 +162,10 @@ ringAfter-loose h = h .1
 -- "charge zero"
 pub chargeZero : Chain
 unfolding has1 has2 names known organics Strict StrictAtom NoBranch OpenOrganic OpenSymbol uncounted openNames openOrganics
-chargeZero = first (branched (bracket′ [] (short (byte "C") tt) flat bald tt (digit′ plus d0) []) no-rings no-branches)
+chargeZero = first (branched (bracket′ [] (short (byte "C") tt) (mark′ flat) bald tt (digit′ plus d0) []) no-rings no-branches)
 
 pub chargeZero-spelled : chainS chargeZero ≡ bytes "[C+0]"
-unfolding chargeZero chainS atomS′ ringsS numberS chargeS′ classS′ signS spell atomS organicS headS isotopeS symbolS chiralS hcountS chargeS mapS digitS rnumS bond?S linkS
+unfolding chargeZero chainS atomS′ ringsS numberS chiralS′ chargeS′ classS′ signS spell atomS organicS headS isotopeS symbolS chiralS hcountS chargeS mapS digitS rnumS bond?S linkS
 chargeZero-spelled = refl
 
 pub chargeZero-big : ¬ Small chargeZero
@@ -175,10 +175,10 @@ chargeZero-big h = h .0 .1
 -- "charge ten"
 pub chargeTen : Chain
 unfolding has1 has2 names known organics Strict StrictAtom NoBranch OpenOrganic OpenSymbol uncounted openNames openOrganics
-chargeTen = first (branched (bracket′ [] (short (byte "C") tt) flat bald tt (digits′ plus d1 d0) []) no-rings no-branches)
+chargeTen = first (branched (bracket′ [] (short (byte "C") tt) (mark′ flat) bald tt (digits′ plus d1 d0) []) no-rings no-branches)
 
 pub chargeTen-spelled : chainS chargeTen ≡ bytes "[C+10]"
-unfolding chargeTen chainS atomS′ ringsS numberS chargeS′ classS′ signS spell atomS organicS headS isotopeS symbolS chiralS hcountS chargeS mapS digitS rnumS bond?S linkS
+unfolding chargeTen chainS atomS′ ringsS numberS chiralS′ chargeS′ classS′ signS spell atomS organicS headS isotopeS symbolS chiralS hcountS chargeS mapS digitS rnumS bond?S linkS
 chargeTen-spelled = refl
 
 pub chargeTen-big : ¬ Small chargeTen
@@ -188,10 +188,10 @@ chargeTen-big h = h .0 .1
 -- "charge above fifteen"
 pub chargeAbove : Chain
 unfolding has1 has2 names known organics Strict StrictAtom NoBranch OpenOrganic OpenSymbol uncounted openNames openOrganics
-chargeAbove = first (branched (bracket′ [] (short (byte "C") tt) flat bald tt (digits′ plus d1 d6) []) no-rings no-branches)
+chargeAbove = first (branched (bracket′ [] (short (byte "C") tt) (mark′ flat) bald tt (digits′ plus d1 d6) []) no-rings no-branches)
 
 pub chargeAbove-spelled : chainS chargeAbove ≡ bytes "[C+16]"
-unfolding chargeAbove chainS atomS′ ringsS numberS chargeS′ classS′ signS spell atomS organicS headS isotopeS symbolS chiralS hcountS chargeS mapS digitS rnumS bond?S linkS
+unfolding chargeAbove chainS atomS′ ringsS numberS chiralS′ chargeS′ classS′ signS spell atomS organicS headS isotopeS symbolS chiralS hcountS chargeS mapS digitS rnumS bond?S linkS
 chargeAbove-spelled = refl
 
 pub chargeAbove-big : ¬ Small chargeAbove
@@ -201,10 +201,10 @@ chargeAbove-big h = h .0 .1
 -- "long isotope"
 pub longIsotope : Chain
 unfolding has1 has2 names known organics Strict StrictAtom NoBranch OpenOrganic OpenSymbol uncounted openNames openOrganics
-longIsotope = first (branched (bracket′ (d1 ∷ d0 ∷ d0 ∷ d0 ∷ []) (short (byte "C") tt) flat bald tt neutral′ []) no-rings no-branches)
+longIsotope = first (branched (bracket′ (d1 ∷ d0 ∷ d0 ∷ d0 ∷ []) (short (byte "C") tt) (mark′ flat) bald tt neutral′ []) no-rings no-branches)
 
 pub longIsotope-spelled : chainS longIsotope ≡ bytes "[1000C]"
-unfolding longIsotope chainS atomS′ ringsS numberS chargeS′ classS′ signS spell atomS organicS headS isotopeS symbolS chiralS hcountS chargeS mapS digitS rnumS bond?S linkS
+unfolding longIsotope chainS atomS′ ringsS numberS chiralS′ chargeS′ classS′ signS spell atomS organicS headS isotopeS symbolS chiralS hcountS chargeS mapS digitS rnumS bond?S linkS
 longIsotope-spelled = refl
 
 pub longIsotope-big : ¬ Small longIsotope
@@ -214,15 +214,28 @@ longIsotope-big h = absurd (omega (arith, h .0 .0))
 -- "long map"
 pub longMap : Chain
 unfolding has1 has2 names known organics Strict StrictAtom NoBranch OpenOrganic OpenSymbol uncounted openNames openOrganics
-longMap = first (branched (bracket′ [] (short (byte "C") tt) flat bald tt neutral′ (d1 ∷ d0 ∷ d0 ∷ d0 ∷ [])) no-rings no-branches)
+longMap = first (branched (bracket′ [] (short (byte "C") tt) (mark′ flat) bald tt neutral′ (d1 ∷ d0 ∷ d0 ∷ d0 ∷ [])) no-rings no-branches)
 
 pub longMap-spelled : chainS longMap ≡ bytes "[C:1000]"
-unfolding longMap chainS atomS′ ringsS numberS chargeS′ classS′ signS spell atomS organicS headS isotopeS symbolS chiralS hcountS chargeS mapS digitS rnumS bond?S linkS
+unfolding longMap chainS atomS′ ringsS numberS chiralS′ chargeS′ classS′ signS spell atomS organicS headS isotopeS symbolS chiralS hcountS chargeS mapS digitS rnumS bond?S linkS
 longMap-spelled = refl
 
 pub longMap-big : ¬ Small longMap
 unfolding longMap Small SmallAtom SmallCharge okay1 okay2 value
 longMap-big h = absurd (omega (arith, h .0 .2))
+
+-- "leading zero"
+pub leadingZero : Chain
+unfolding has1 has2 names known organics Strict StrictAtom NoBranch OpenOrganic OpenSymbol uncounted openNames openOrganics paired
+leadingZero = first (branched (bracket′ [] (short (byte "C") tt) (pair′ TB tt d0 d1) bald tt neutral′ []) no-rings no-branches)
+
+pub leadingZero-spelled : chainS leadingZero ≡ bytes "[C@TB01]"
+unfolding leadingZero chainS atomS′ ringsS numberS chiralS′ chargeS′ classS′ class1 class2 symbolS hcountS digitS
+leadingZero-spelled = refl
+
+pub leadingZero-big : ¬ Small leadingZero
+unfolding leadingZero Small SmallAtom SmallChiral valid2 value
+leadingZero-big h = h .0 .3
 
 -- "empty line": an empty chain is the end of the line
 pub empty-line : parse [] ≡ Miss EndOfLine ∷ []

@@ -9,13 +9,13 @@ use lib.Dec.{eqb, T}
 use lib.ListN.{length}
 use native.Mathlib.Omega.{arith}
 use Rattle.feature.specs.Text.{byte}
-use Rattle.grammar.specs.Grammar.{Digit, d0, d1, d2, d3, d4, d5, d6, d7, d8, d9, iso0, iso3, at, Head, head, headS, signS, okay1, okay2, Charge, Atom, Link, Line, start, link, digitS, symbolS, chiralS, hcountS, atomS, linkS, spell}
-use Rattle.grammar.proofs.Machine.{Part, isotope, signed, charge1, charge2, map3, grow, toClose, partStep, partEnd, Around, top, inside, Where, begin, after, State, want, inAtom, atomStep, step, done, character, read}
-use Rattle.grammar.proofs.Table.{test-yes, test-not}
-use Rattle.grammar.proofs.Complete.{chain, steps, steps-then, parts, parts-then, now, read-line, digit-of, afterHead, afterCharge, read-head, read-sign, read-charge, read-colon, atom-steps, read-open, open-link, open-first}
+use Rattle.grammar.specs.Grammar.{Digit, d0, d1, d2, d3, d4, d5, d6, d7, d8, d9, iso0, iso3, at, Isotope, Symbol, class1, class2, valid1, valid2, code1, Head, head, headS, signS, okay1, okay2, Charge, Atom, Link, Line, start, link, digitS, symbolS, chiralS, hcountS, atomS, linkS, spell}
+use Rattle.grammar.proofs.Machine.{Part, isotope, signed, charge1, charge2, map3, class, coded1, coded2, toChiral, grow, toClose, partStep, partEnd, Around, top, inside, Where, begin, after, State, want, inAtom, atomStep, step, done, character, read}
+use Rattle.grammar.proofs.Table.{test-yes, test-not, at-second}
+use Rattle.grammar.proofs.Complete.{chain, steps, steps-then, parts, parts-then, now, read-line, digit-of, afterSymbol, afterChiral, read-isotope, read-symbol, past-symbol, read-class, read-chiral, afterHead, afterCharge, read-head, read-sign, read-charge, read-colon, atom-steps, read-open, open-link, open-first}
 use Rattle.grammar.proofs.Reading.{zero-state, read-stuck}
-use Rattle.grammar.specs.OpenSmiles.{Atom′, organic′, bracket′, Charge′, neutral′, sign′, twice′, digit′, digits′, Chain, first, then, Branched, branched, Branches, no-branches, and-branch, Rings, numberS, chargeS′, classS′, atomS′, ringsS, chainS, branchedS, branchesS, Small, SmallBranched, SmallBranches, SmallAtom, SmallCharge, Strict}
-use Rattle.grammar.proofs.Chains.{isotopeOf, chargeOf, atomOf, ringsOf, lineOf, branchesOf, small-read, number-ok, charge-ok, atom-ok, rings-ok, chain-ok, branches-ok}
+use Rattle.grammar.specs.OpenSmiles.{Chiral′, mark′, pair′, chiralS′, SmallChiral, Atom′, organic′, bracket′, Charge′, neutral′, sign′, twice′, digit′, digits′, Chain, first, then, Branched, branched, Branches, no-branches, and-branch, Rings, numberS, chargeS′, classS′, atomS′, ringsS, chainS, branchedS, branchesS, Small, SmallBranched, SmallBranches, SmallAtom, SmallCharge, Strict}
+use Rattle.grammar.proofs.Chains.{isotopeOf, chiralOf, chargeOf, atomOf, ringsOf, lineOf, branchesOf, small-read, number-ok, chiral-ok, charge-ok, atom-ok, rings-ok, chain-ok, branches-ok}
 
 record PStuck (q : Part) (bs : List ℕ) : Type 0 where
   before : List ℕ
@@ -40,6 +40,34 @@ number-run (a ∷ []) = inl (omega arith)
 number-run (a ∷ b ∷ []) = inl (omega arith)
 number-run (a ∷ b ∷ c ∷ []) = inl (omega arith)
 number-run (a ∷ b ∷ c ∷ d ∷ r) = inr (record { before = digitS a ∷ digitS b ∷ digitS c ∷ []; byte = digitS d; behind = numberS r; last = isotope (iso3 a b c); is = refl; gone = simp digit-of; halts = rw (digit-of d); open′ = refl })
+
+chiral-run : (i : Isotope) (s : Symbol) (c : Chiral′) → SmallChiral c ⊎ PStuck (afterSymbol i s) (chiralS′ c)
+unfolding SmallChiral chiralS′
+chiral-run i s (mark′ c) = inl tt
+chiral-run i s (pair′ k w d e) = by (valid2 k d e) refl (valid1 k d) refl
+  where
+    by : (t : Bool) → valid2 k d e ≡ t → (u : Bool) → valid1 k d ≡ u → T (valid2 k d e) ⊎ PStuck (afterSymbol i s) ((byte "@") ∷ class1 k ∷ class2 k ∷ digitS d ∷ digitS e ∷ [])
+    by true h u f = inl (rw h tt)
+    by false h true f = inr (record {
+      before = (byte "@") ∷ class1 k ∷ class2 k ∷ digitS d ∷ [];
+      byte = digitS e;
+      behind = [];
+      last = coded1 i s k d (rw f tt);
+      is = refl;
+      gone = unfold chiralS afterChiral in read-chiral i s (code1 k d (rw f tt));
+      halts = unfold partStep in rw (digit-of e, test-not (valid2 k d e) (λ q. some (coded2 i s k d e q)) none h);
+      open′ = unfold partEnd in refl;
+    })
+    by false h false f = inr (record {
+      before = (byte "@") ∷ class1 k ∷ class2 k ∷ [];
+      byte = digitS d;
+      behind = digitS e ∷ [];
+      last = class i s k;
+      is = refl;
+      gone = unfold parts chain toChiral in rw (past-symbol i s (byte "@") at-second) (read-class i s k);
+      halts = unfold partStep in rw (digit-of d, test-not (valid1 k d) (λ p. some (coded1 i s k d p)) none f);
+      open′ = unfold partEnd in refl;
+    })
 
 charge-run : (x : Head) (q : Charge′) → SmallCharge q ⊎ PStuck (afterHead x) (chargeS′ q)
 unfolding SmallCharge chargeS′ parts chain partEnd
@@ -108,29 +136,39 @@ atom-run (organic′ o k) = inl tt
 atom-run (bracket′ i s c h k q m) = by (number-run i)
   where
     tail : List ℕ
-    tail = symbolS s ++ (chiralS c ++ (hcountS h ++ (chargeS′ q ++ (classS′ m ++ ((byte "]") ∷ [])))))
+    tail = hcountS h ++ (chargeS′ q ++ (classS′ m ++ ((byte "]") ∷ [])))
+
+    text : List ℕ
+    text = numberS i ++ (symbolS s ++ (chiralS′ c ++ tail))
 
     x : Head
-    x = head (isotopeOf i) s c h
+    x = head (isotopeOf i) s (chiralOf c) h
 
-    heads : length i ≤ 3 → parts (isotope iso0) (numberS i ++ (symbolS s ++ (chiralS c ++ hcountS h))) ≡ some (afterHead x)
-    heads l = unfold headS in rw (number-ok i l) at (read-head x)
+    symbols : length i ≤ 3 → parts (isotope iso0) (numberS i ++ symbolS s) ≡ some (afterSymbol (isotopeOf i) s)
+    symbols l = parts-then (numberS i) (symbolS s) _ _ (rw (number-ok i l) at (read-isotope (isotopeOf i))) ∙ read-symbol (isotopeOf i) s
 
-    third : length i ≤ 3 → SmallCharge q → (length m ≤ 3) ⊎ PStuck (afterCharge x (chargeOf q)) (classS′ m) → ((length i ≤ 3) × SmallCharge q × (length m ≤ 3)) ⊎ AtomStuck (bracket′ i s c h k q m)
-    third l g (inl w) = inl (l, g, w)
-    third l g (inr z) = inr (record {
-      rest = numberS i ++ tail;
+    heads : length i ≤ 3 → SmallChiral c → parts (isotope iso0) (numberS i ++ (symbolS s ++ (chiralS′ c ++ hcountS h))) ≡ some (afterHead x)
+    heads l v = unfold headS in rw (number-ok i l, chiral-ok c v) at (read-head x)
+
+    fourth : length i ≤ 3 → SmallChiral c → SmallCharge q → (length m ≤ 3) ⊎ PStuck (afterCharge x (chargeOf q)) (classS′ m) → ((length i ≤ 3) × SmallCharge q × (length m ≤ 3) × SmallChiral c) ⊎ AtomStuck (bracket′ i s c h k q m)
+    fourth l v g (inl w) = inl (l, g, w, v)
+    fourth l v g (inr z) = inr (record {
+      rest = text;
       is = refl;
-      stuck = simp append-assoc at (p-after _ (heads l) (p-after (chargeS′ q) (rw (charge-ok q g) at (read-charge x (chargeOf q))) (p-more ((byte "]") ∷ []) z)));
+      stuck = simp append-assoc at (p-after _ (heads l v) (p-after (chargeS′ q) (rw (charge-ok q g) at (read-charge x (chargeOf q))) (p-more ((byte "]") ∷ []) z)));
     })
 
-    second : length i ≤ 3 → SmallCharge q ⊎ PStuck (afterHead x) (chargeS′ q) → ((length i ≤ 3) × SmallCharge q × (length m ≤ 3)) ⊎ AtomStuck (bracket′ i s c h k q m)
-    second l (inl g) = third l g (class-run x (chargeOf q) m)
-    second l (inr z) = inr (record { rest = numberS i ++ tail; is = refl; stuck = simp append-assoc at (p-after _ (heads l) (p-more (classS′ m ++ ((byte "]") ∷ [])) z)) })
+    third : length i ≤ 3 → SmallChiral c → SmallCharge q ⊎ PStuck (afterHead x) (chargeS′ q) → ((length i ≤ 3) × SmallCharge q × (length m ≤ 3) × SmallChiral c) ⊎ AtomStuck (bracket′ i s c h k q m)
+    third l v (inl g) = fourth l v g (class-run x (chargeOf q) m)
+    third l v (inr z) = inr (record { rest = text; is = refl; stuck = simp append-assoc at (p-after _ (heads l v) (p-more (classS′ m ++ ((byte "]") ∷ [])) z)) })
 
-    by : (length i ≤ 3) ⊎ PStuck (isotope iso0) (numberS i) → ((length i ≤ 3) × SmallCharge q × (length m ≤ 3)) ⊎ AtomStuck (bracket′ i s c h k q m)
-    by (inl l) = second l (charge-run x q)
-    by (inr z) = inr (record { rest = numberS i ++ tail; is = refl; stuck = p-more tail z })
+    second : length i ≤ 3 → SmallChiral c ⊎ PStuck (afterSymbol (isotopeOf i) s) (chiralS′ c) → ((length i ≤ 3) × SmallCharge q × (length m ≤ 3) × SmallChiral c) ⊎ AtomStuck (bracket′ i s c h k q m)
+    second l (inl v) = third l v (charge-run x q)
+    second l (inr z) = inr (record { rest = text; is = refl; stuck = simp append-assoc at (p-after _ (symbols l) (p-more tail z)) })
+
+    by : (length i ≤ 3) ⊎ PStuck (isotope iso0) (numberS i) → ((length i ≤ 3) × SmallCharge q × (length m ≤ 3) × SmallChiral c) ⊎ AtomStuck (bracket′ i s c h k q m)
+    by (inl l) = second l (chiral-run (isotopeOf i) s c)
+    by (inr z) = inr (record { rest = text; is = refl; stuck = p-more (symbolS s ++ (chiralS′ c ++ tail)) z })
 
 -- ---- lines
 record Stuck (s : State) (bs : List ℕ) : Type 0 where

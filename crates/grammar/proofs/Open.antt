@@ -8,13 +8,13 @@ use lib.ListN.{length}
 use Rattle.graph.specs.Limits.{branchLimit}
 use Rattle.reader.specs.Events.{Event, Enter}
 use Rattle.reader.specs.Parse.{parse}
-use Rattle.grammar.specs.Grammar.{Digit, okay1, okay2, neutral, num1, num2, isotopeK, mapK, chargeK, bracketK, Atom, atomS, atomK, Link, linkS, linkK, dot, Line, start, link, spell, enter, atoms, tells, meaning}
+use Rattle.grammar.specs.Grammar.{Digit, flat, code2, valid2, chiralK, okay1, okay2, neutral, num1, num2, isotopeK, mapK, chargeK, bracketK, Atom, atomS, atomK, Link, linkS, linkK, dot, Line, start, link, spell, enter, atoms, tells, meaning}
 use Rattle.grammar.specs.Lines.{Fits, Clean, Refused}
-use Rattle.grammar.specs.OpenSmiles.{Charge′, neutral′, sign′, twice′, digit′, digits′, Atom′, organic′, bracket′, Rings, no-rings, and-ring, Chain, first, then, Branched, branched, Branches, no-branches, and-branch, chainS, numberK, chargeK′, atomK′, along, ringsE, chainE, branchedE, branchesE, says, SmallCharge, SmallAtom, Small, SmallBranched, SmallBranches, FitsChain, FitsBranched, FitsBranches, Strict}
+use Rattle.grammar.specs.OpenSmiles.{Chiral′, mark′, pair′, chiralK′, SmallChiral, Charge′, neutral′, sign′, twice′, digit′, digits′, Atom′, organic′, bracket′, Rings, no-rings, and-ring, Chain, first, then, Branched, branched, Branches, no-branches, and-branch, chainS, numberK, chargeK′, atomK′, along, ringsE, chainE, branchedE, branchesE, says, SmallCharge, SmallAtom, Small, SmallBranched, SmallBranches, FitsChain, FitsBranched, FitsBranches, Strict}
 use Rattle.grammar.proofs.Table.{test-yes}
 use Rattle.grammar.proofs.Machine.{done, read}
 use Rattle.grammar.proofs.Reading.{complete, unique, character-refused}
-use Rattle.grammar.proofs.Chains.{isotopeOf, mapOf, chargeOf, atomOf, ringsOf, lineOf, branchedOf, branchesOf, atom-ok, rings-ok, chain-ok, branches-ok, chainOf, line-back, line-small}
+use Rattle.grammar.proofs.Chains.{isotopeOf, mapOf, chiralOf, chargeOf, atomOf, ringsOf, lineOf, branchedOf, branchesOf, atom-ok, rings-ok, chain-ok, branches-ok, chainOf, line-back, line-small}
 use Rattle.grammar.proofs.NotSmall.{wide-refused, open-read}
 use Rattle.grammar.proofs.Spelling.{chain-bytes}
 use Rattle.grammar.proofs.Verdict.{sound, read-tree}
@@ -36,6 +36,11 @@ map-worth (a ∷ b ∷ []) h = refl
 map-worth (a ∷ b ∷ c ∷ []) h = refl
 map-worth (a ∷ b ∷ c ∷ d ∷ r) h = absurd (omega arith)
 
+chiral-worth : (c : Chiral′) → SmallChiral c → chiralK (chiralOf c) ≡ chiralK′ c
+unfolding SmallChiral chiralOf chiralK chiralK′
+chiral-worth (mark′ c) h = refl
+chiral-worth (pair′ k w d e) h = rw (test-yes (valid2 k d e) h (λ p. code2 k d e p) flat)
+
 charge-worth : (q : Charge′) → SmallCharge q → chargeK (chargeOf q) ≡ chargeK′ q
 unfolding SmallCharge chargeOf chargeK chargeK′
 charge-worth neutral′ h = refl
@@ -47,7 +52,7 @@ charge-worth (digits′ g d e) h = rw (test-yes (okay2 d e) h (λ p. num2 g d e 
 atom-worth : (a : Atom′) → SmallAtom a → atomK (atomOf a) ≡ atomK′ a
 unfolding SmallAtom atomOf atomK atomK′ bracketK
 atom-worth (organic′ o k) h = refl
-atom-worth (bracket′ i s c g k q m) h = rw (isotope-worth i (h .0), charge-worth q (h .1), map-worth m (h .2))
+atom-worth (bracket′ i s c g k q m) h = rw (isotope-worth i (h .0), chiral-worth c (h .3), charge-worth q (h .1), map-worth m (h .2))
 
 enter-worth : (k : Link) (a : Atom′) (n : ℕ) → SmallAtom a → enter k (atomOf a) n ≡ Enter (linkK k) (atomK′ a) n
 unfolding enter

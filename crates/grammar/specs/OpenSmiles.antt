@@ -14,7 +14,7 @@ use Rattle.feature.specs.declared.atom_kind.AtomKind.{AtomKind}
 use Rattle.feature.specs.declared.atom_kind.AtomKind.the-variants.{Bracket}
 use Rattle.reader.specs.Events.{Event, Enter, Pop}
 use Rattle.grammar.specs.Names.{Name, table, has1, has2}
-use Rattle.grammar.specs.Grammar.{Digit, value, digitS, worth, Bond, bond?S, Organic, bare1, bare2, organicS, organicK, Symbol, short, long, symbolS, symbolK, Chiral, chiralS, chiralK, Hcount, bald, H, Hn, hcountS, hcountK, head, Sign, signS, signed, okay1, okay2, Atom, organic, bracket, Rnum, rnumS, Link, linkS, linkK, Line, start, link, ring, branch, join, dot}
+use Rattle.grammar.specs.Grammar.{Digit, value, digitS, worth, Bond, bond?S, Organic, bare1, bare2, organicS, organicK, Symbol, short, long, symbolS, symbolK, Class, TH, AL, SP, TB, OH, class1, class2, valid2, base, Chiral, chiralS, chiralK, Hcount, bald, H, Hn, hcountS, hcountK, head, Sign, signS, signed, okay1, okay2, Atom, organic, bracket, Rnum, rnumS, Link, linkS, linkK, Line, start, link, ring, branch, join, dot}
 
 -- ---- TABLES
 -- Without brackets: aliphatic_organic, aromatic_organic, "*". Departure "bare At, Ts": the reader takes these two as well.
@@ -53,11 +53,23 @@ pub data Charge′ : Type 0 where
   digit′ : Sign → Digit → Charge′
   digits′ : Sign → Digit → Digit → Charge′
 
--- bracket_atom ::= '[' isotope? symbol chiral? hcount? charge? class? ']'; isotope and class have any number of digits. Chiral
--- marks are the reader's: whether "@TB01" is one too rests on our reading.
+-- chiral ::= '@' | '@@' | '@TH1' | .. | '@OH30', the reader's marks; and '@TB' DIGIT DIGIT | '@OH' DIGIT DIGIT, two digits as
+-- written, so that "@TB01" is one too (rests on our reading); or nothing
+unfoldable pub paired : Class → Bool
+paired TH = false
+paired AL = false
+paired SP = false
+paired TB = true
+paired OH = true
+
+pub data Chiral′ : Type 0 where
+  mark′ : Chiral → Chiral′
+  pair′ : (k : Class) → T (paired k) → Digit → Digit → Chiral′
+
+-- bracket_atom ::= '[' isotope? symbol chiral? hcount? charge? class? ']'; isotope and class have any number of digits.
 pub data Atom′ : Type 0 where
   organic′ : (o : Organic) → OpenOrganic o → Atom′
-  bracket′ : List Digit → (s : Symbol) → Chiral → (h : Hcount) → OpenSymbol s h → Charge′ → List Digit → Atom′
+  bracket′ : List Digit → (s : Symbol) → Chiral′ → (h : Hcount) → OpenSymbol s h → Charge′ → List Digit → Atom′
 
 -- ringbond*
 pub data Rings : Type 0 where
@@ -95,6 +107,10 @@ unfoldable pub numberS : List Digit → List ℕ
 numberS [] = []
 numberS (d ∷ ds) = digitS d ∷ numberS ds
 
+unfoldable pub chiralS′ : Chiral′ → List ℕ
+chiralS′ (mark′ c) = chiralS c
+chiralS′ (pair′ k w d e) = byte "@" ∷ class1 k ∷ class2 k ∷ digitS d ∷ digitS e ∷ []
+
 unfoldable pub chargeS′ : Charge′ → List ℕ
 chargeS′ neutral′ = []
 chargeS′ (sign′ g) = signS g ∷ []
@@ -108,7 +124,7 @@ classS′ (d ∷ ds) = byte ":" ∷ numberS (d ∷ ds)
 
 unfoldable pub atomS′ : Atom′ → List ℕ
 atomS′ (organic′ o k) = organicS o
-atomS′ (bracket′ i s c h k q m) = byte "[" ∷ (numberS i ++ (symbolS s ++ (chiralS c ++ (hcountS h ++ (chargeS′ q ++ (classS′ m ++ (byte "]" ∷ [])))))))
+atomS′ (bracket′ i s c h k q m) = byte "[" ∷ (numberS i ++ (symbolS s ++ (chiralS′ c ++ (hcountS h ++ (chargeS′ q ++ (classS′ m ++ (byte "]" ∷ [])))))))
 
 unfoldable pub ringsS : Rings → List ℕ
 ringsS no-rings = []
@@ -127,11 +143,15 @@ unfoldable mutual
   branchesS (and-branch bs l c) = branchesS bs ++ (byte "(" ∷ (linkS l ++ (chainS c ++ (byte ")" ∷ []))))
 
 -- ---- MEANING
--- A number is worth its digits. "@" is TH1 and "@@" TH2: departure "allenes", where OpenSMILES means AL1 and AL2 on an
+-- A number is worth its digits, so "@TB01" is "@TB1". "@" is TH1 and "@@" TH2: departure "allenes", where OpenSMILES means AL1 and AL2 on an
 -- allene-like centre.
 unfoldable pub numberK : List Digit → ℕ
 numberK [] = noNumber
 numberK (d ∷ ds) = worth 0 (d ∷ ds)
+
+unfoldable pub chiralK′ : Chiral′ → ℕ
+chiralK′ (mark′ c) = chiralK c
+chiralK′ (pair′ k w d e) = base k + (value d * 10 + value e)
 
 unfoldable pub chargeK′ : Charge′ → ℕ
 chargeK′ neutral′ = noCharge
@@ -142,7 +162,7 @@ chargeK′ (digits′ g d e) = signed g (10 * value d + value e)
 
 unfoldable pub atomK′ : Atom′ → AtomKind
 atomK′ (organic′ o k) = organicK o
-atomK′ (bracket′ i s c h k q m) = Bracket (kinds.bracket (numberK i) (symbolK s) (chiralK c) (hcountK h) (chargeK′ q) (numberK m))
+atomK′ (bracket′ i s c h k q m) = Bracket (kinds.bracket (numberK i) (symbolK s) (chiralK′ c) (hcountK h) (chargeK′ q) (numberK m))
 
 -- The atoms along a chain, its branches left out.
 unfoldable pub along : Chain → ℕ
@@ -178,10 +198,15 @@ SmallCharge (twice′ g) = Unit {0}
 SmallCharge (digit′ g d) = T (okay1 d)
 SmallCharge (digits′ g d e) = T (okay2 d e)
 
+-- Departure "leading zero": "@TB01" is not read, nor is a number that no arrangement has, as in "@TB00" and "@TB21".
+unfoldable pub SmallChiral : Chiral′ → Type 0
+SmallChiral (mark′ c) = Unit {0}
+SmallChiral (pair′ k w d e) = T (valid2 k d e)
+
 -- Departures "long isotope" and "long map": at most three digits are read.
 unfoldable pub SmallAtom : Atom′ → Type 0
 SmallAtom (organic′ o k) = Unit {0}
-SmallAtom (bracket′ i s c h k q m) = (length i ≤ 3) × SmallCharge q × (length m ≤ 3)
+SmallAtom (bracket′ i s c h k q m) = (length i ≤ 3) × SmallCharge q × (length m ≤ 3) × SmallChiral c
 
 -- A chain whose numbers are read.
 unfoldable mutual
