@@ -25,10 +25,8 @@ use Rattle.reader.specs.Events.{Event, Enter, Join, Pop, Miss, Nest}
 use Rattle.scan.specs.declared.scanner.Missing.{Missing}
 use Rattle.scan.specs.declared.scanner.Missing.the-variants.{EndOfLine, Character}
 use Rattle.sketch.specs.Sketch.{Held, Failure, None, Failed, Sketch, startS, refused, numberOf, countOf, edgesAt, openKind, firstOf, rootS, bondedS, extendS, openedS, closedS, ringS, joinS, judgedS, enterS, numberS, missedS, stepS, runS, sketchOf}
-use Rattle.graph.specs.Limits.{branchLimit}
 use Rattle.reader.specs.Parse.{parse}
-use Rattle.grammar.specs.OpenSmiles.{Chain, chainS, says, Small, FitsChain}
-use Rattle.grammar.proofs.Open.{open-says}
+use Rattle.grammar.specs.OpenSmiles.{Chain, chainS, says}
 use Rattle.grammar.specs.Molecule.{Molecule, moleculeIn, placed, agreed, closed, ringed, numbered, turnedOr, asHeld, told, next, tellAll, moleculeOf, Limited, no-place, no-slot, not-turned, Alike, alike, disagree, missing, limited}
 
 -- ---- the two ends of a ring bond
@@ -232,6 +230,6 @@ pub text-alike : (s : List ℕ) (la lb : ℕ) → Alike (sketchOf s la lb) (mole
 unfolding sketchOf moleculeOf
 text-alike s la lb = run-alike (parse s) (startS _ _) _ (alike refl refl refl)
 
--- and so of a chain of OpenSMILES
-pub open-alike : (u : Chain) → Small u → FitsChain branchLimit u → (la lb : ℕ) → Alike (sketchOf (chainS u) la lb) (moleculeOf asHeld (says u))
-open-alike u h f la lb = subst (λ (es : List Event). Alike (sketchOf (chainS u) la lb) (moleculeOf asHeld es)) (open-says u h f) (text-alike (chainS u) la lb)
+-- and so of a chain that is read to what it says
+pub says-alike : (u : Chain) → parse (chainS u) ≡ says u → (la lb : ℕ) → Alike (sketchOf (chainS u) la lb) (moleculeOf asHeld (says u))
+says-alike u e la lb = subst (λ (es : List Event). Alike (sketchOf (chainS u) la lb) (moleculeOf asHeld es)) e (text-alike (chainS u) la lb)

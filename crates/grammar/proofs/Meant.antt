@@ -16,9 +16,14 @@ use Rattle.reader.specs.Events.{Event, Enter, Join, Pop, Miss, Nest}
 use Rattle.graph.specs.Limits.{branchLimit}
 use Rattle.build.specs.declared.Built.the-variants as built
 use Rattle.sketch.specs.Sketch.{Edge, Node, Held, Failure, None, Failed, Sketch, node, upd, edgesAt, addEdge, fill, lookup, firstOpenS, ringsSay, saysS, finishS, sketchOf}
-use Rattle.grammar.specs.OpenSmiles.{Chain, chainS, says, Small, FitsChain}
+use Rattle.grammar.specs.OpenSmiles.{Chain, chainS, says, Small, FitsChain, Strict}
 use Rattle.grammar.specs.Molecule.{Molecule, molecule, moleculeIn, placed, closed, ringed, numbered, asWritten, asHeld, told, next, tellAll, moleculeOf, neighbours, kinds, kindTold, kindsTold, Allowed, Meant, ReadAs, HeldFor, Limited, Alike, alike, disagree, missing, limited}
-use Rattle.grammar.proofs.Joined.{not-limited, open-alike}
+use Rattle.grammar.proofs.Joined.{not-limited, says-alike}
+use Rattle.grammar.proofs.Open.{open-says, strict-open}
+use Rattle.grammar.proofs.Verdict.{read-tree}
+use Rattle.grammar.specs.Lines.{Fits}
+use Rattle.grammar.specs.Grammar.{Line, spell}
+use Rattle.reader.specs.Parse.{parse}
 
 -- ---- a molecule without its kinds
 bare : Lead → AtomKind → AtomKind
@@ -210,7 +215,7 @@ module _ (ns ms : List Node) (e : erase ns ≡ erase ms) where
     twice-free = λ j. h .twice-free (record { atom = j .atom; other = j .other; apart = j .apart; twice = rw (same-edges (j .atom)) at (j .twice) });
   }
 
-atomsIn : Option Molecule → List Node
+unfoldable pub atomsIn : Option Molecule → List Node
 atomsIn none = []
 atomsIn (some m) = m .atoms
 
@@ -251,50 +256,65 @@ taken d none m (disagree x y f) e = absurd (let w : _≡_ {A = ℕ} 0 1 = cc in 
 taken d none m (missing h) e = absurd (let w : _≡_ {A = ℕ} 0 1 = cc in omega arith)
 taken d o m (limited h) e = inl h
 
--- ---- THE CLAIMS
--- What is read of a chain and is no departure in meaning is what OpenSMILES means by it, as it is held.
-pub read-meant : (u : Chain) → Small u → FitsChain branchLimit u → (la lb : ℕ) (ns : List Node) → ReadAs (chainS u) la lb ns → Allowed ns
-    → (meant : List Node) × Meant u meant × HeldFor u meant ns
-unfolding finishS
-read-meant u h f la lb ns r a =
-    let d = sketchOf (chainS u) la lb in
-    let c = done-closed (d .failure) (d .nodes) (r .done) in
-    let i : moleculeOf asHeld (says u) ≡ some (moleculeIn d) = settled d _ (open-alike u h f la lb) (r .accepted) (c .0) in
-    let o = otherwise asHeld asWritten (says u) (moleculeIn d) i in
-    let e : erase (o .0 .atoms) ≡ erase ns = o .2 ∙ ap erase (r .nodes) in (
-      o .0 .atoms,
-      record { whole = o .0; is = o .1; atoms = refl; rings = same-open (o .0 .atoms) (d .nodes) (o .2) ∙ c .1; allowed = same-allowed (o .0 .atoms) ns e a },
-      record {
-        around = same-neighbours ns (o .0 .atoms) (sym e);
-        here = ap kinds (sym (r .nodes)) ∙ molecule-kinds asHeld (says u) (moleculeIn d) i;
-        there = molecule-kinds asWritten (says u) (o .0) (o .1);
-      },
-    )
+module _ (u : Chain) (p : parse (chainS u) ≡ says u) (la lb : ℕ) where
+  read-as-meant : (ns : List Node) → ReadAs (chainS u) la lb ns → Allowed ns → (meant : List Node) × Meant u meant × HeldFor u meant ns
+  unfolding finishS
+  read-as-meant ns r a =
+      let d = sketchOf (chainS u) la lb in
+      let c = done-closed (d .failure) (d .nodes) (r .done) in
+      let i : moleculeOf asHeld (says u) ≡ some (moleculeIn d) = settled d _ (says-alike u p la lb) (r .accepted) (c .0) in
+      let o = otherwise asHeld asWritten (says u) (moleculeIn d) i in
+      let e : erase (o .0 .atoms) ≡ erase ns = o .2 ∙ ap erase (r .nodes) in (
+        o .0 .atoms,
+        record { whole = o .0; is = o .1; atoms = refl; rings = same-open (o .0 .atoms) (d .nodes) (o .2) ∙ c .1; allowed = same-allowed (o .0 .atoms) ns e a },
+        record {
+          around = same-neighbours ns (o .0 .atoms) (sym e);
+          here = ap kinds (sym (r .nodes)) ∙ molecule-kinds asHeld (says u) (moleculeIn d) i;
+          there = molecule-kinds asWritten (says u) (o .0) (o .1);
+        },
+      )
 
+  meant-as-read : (meant : List Node) → Meant u meant → Limited (sketchOf (chainS u) la lb .refusal) ⊎ ((ns : List Node) × ReadAs (chainS u) la lb ns × HeldFor u meant ns)
+  unfolding finishS
+  meant-as-read meant m = by (taken d (moleculeOf asHeld (says u)) (o .0) (says-alike u p la lb) (o .1))
+    where
+      d : Sketch
+      d = sketchOf (chainS u) la lb
+
+      o : (x : Molecule) × (moleculeOf asHeld (says u) ≡ some x) × (erase (x .atoms) ≡ erase (m .whole .atoms))
+      o = otherwise asWritten asHeld (says u) (m .whole) (m .is)
+
+      e : erase (o .0 .atoms) ≡ erase meant
+      e = o .2 ∙ ap erase (m .atoms)
+
+      by : Limited (d .refusal) ⊎ ((d .refusal ≡ 0) × (d .failure ≡ None) × (d .nodes ≡ o .0 .atoms))
+          → Limited (d .refusal) ⊎ ((ns : List Node) × ReadAs (chainS u) la lb ns × HeldFor u meant ns)
+      by (inl z) = inl z
+      by (inr z) = inr (
+        o .0 .atoms,
+        record { accepted = z .0; done = closed-done (d .failure) (d .nodes) (z .1) (ap firstOpenS (z .2) ∙ same-open (o .0 .atoms) meant e ∙ m .rings); nodes = z .2 },
+        record {
+          around = same-neighbours (o .0 .atoms) meant e;
+          here = molecule-kinds asHeld (says u) (o .0) (o .1);
+          there = ap kinds (sym (m .atoms)) ∙ molecule-kinds asWritten (says u) (m .whole) (m .is);
+        },
+      )
+
+-- ---- THE CLAIMS
 -- What OpenSMILES means by a chain is read, as it is held, unless a limit is met.
 pub meant-read : (u : Chain) → Small u → FitsChain branchLimit u → (la lb : ℕ) (meant : List Node) → Meant u meant
     → Limited (sketchOf (chainS u) la lb .refusal) ⊎ ((ns : List Node) × ReadAs (chainS u) la lb ns × HeldFor u meant ns)
-unfolding finishS
-meant-read u h f la lb meant m = by (taken d (moleculeOf asHeld (says u)) (o .0) (open-alike u h f la lb) (o .1))
-  where
-    d : Sketch
-    d = sketchOf (chainS u) la lb
+meant-read u h f la lb = meant-as-read u (open-says u h f) la lb
 
-    o : (x : Molecule) × (moleculeOf asHeld (says u) ≡ some x) × (erase (x .atoms) ≡ erase (m .whole .atoms))
-    o = otherwise asWritten asHeld (says u) (m .whole) (m .is)
+-- What is read of a chain and is no departure in meaning is what OpenSMILES means by it, as it is held.
+pub read-meant : (u : Chain) → Small u → FitsChain branchLimit u → (la lb : ℕ) (ns : List Node) → ReadAs (chainS u) la lb ns → Allowed ns
+    → (meant : List Node) × Meant u meant × HeldFor u meant ns
+read-meant u h f la lb = read-as-meant u (open-says u h f) la lb
 
-    e : erase (o .0 .atoms) ≡ erase meant
-    e = o .2 ∙ ap erase (m .atoms)
-
-    by : Limited (d .refusal) ⊎ ((d .refusal ≡ 0) × (d .failure ≡ None) × (d .nodes ≡ o .0 .atoms))
-        → Limited (d .refusal) ⊎ ((ns : List Node) × ReadAs (chainS u) la lb ns × HeldFor u meant ns)
-    by (inl z) = inl z
-    by (inr z) = inr (
-      o .0 .atoms,
-      record { accepted = z .0; done = closed-done (d .failure) (d .nodes) (z .1) (ap firstOpenS (z .2) ∙ same-open (o .0 .atoms) meant e ∙ m .rings); nodes = z .2 },
-      record {
-        around = same-neighbours (o .0 .atoms) meant e;
-        here = molecule-kinds asHeld (says u) (o .0) (o .1);
-        there = ap kinds (sym (m .atoms)) ∙ molecule-kinds asWritten (says u) (m .whole) (m .is);
-      },
-    )
+-- The same of a strict line: it is spelled as a chain of OpenSMILES, and read as what that means.
+pub strict-meant : (t : Line) → Strict t → Fits branchLimit t → (la lb : ℕ) (ns : List Node) → ReadAs (spell t) la lb ns → Allowed ns
+    → (u : Chain) × (chainS u ≡ spell t) × ((meant : List Node) × Meant u meant × HeldFor u meant ns)
+strict-meant t h f la lb ns r a =
+    let o = strict-open t h in
+    let p : parse (chainS (o .0)) ≡ says (o .0) = ap parse (o .2) ∙ read-tree t f ∙ sym (o .3) in
+    (o .0, o .2, read-as-meant (o .0) p la lb ns (subst (λ (s : List ℕ). ReadAs s la lb ns) (sym (o .2)) r) a)

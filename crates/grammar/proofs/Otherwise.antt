@@ -4,7 +4,7 @@ use Prim.Native.Nat.{ℕ, zero, suc, _+_, _≤_}
 use mathlib.Core.Path.{_≡_, refl, sym, ap, _∙_, subst}
 use mathlib.Core.Bool.{Bool, true, false}
 use mathlib.Core.List.{List, [], _∷_}
-use mathlib.Core.Option.{Option, none, some}
+use mathlib.Core.Option.{none}
 use native.Mathlib.Omega.{arith}
 use Rattle.feature.specs.Pick.{pick}
 use Rattle.feature.specs.Text.{byte, bytes, oneLetter}
@@ -21,7 +21,8 @@ use Rattle.sketch.specs.Sketch.{To, Edge, Node, edge, node, leads, numberOf, co
 use Rattle.grammar.specs.Grammar.{d1, bare1, organics, ring1, elided, organicS, organicK, digitS, rnumS, rnumK, bond?S, bond?K, linkS, linkK, join, value, aromatics, aliphatics}
 use Rattle.grammar.specs.Names.{place1, has1}
 use Rattle.grammar.specs.OpenSmiles.{openOrganics, OpenOrganic, Atom′, organic′, no-rings, and-ring, Chain, first, then, branched, no-branches, atomS′, atomK′, ringsS, chainS, ringsE, chainE, says}
-use Rattle.grammar.specs.Molecule.{Molecule, placed, agreed, closed, ringed, numbered, asWritten, told, next, tellAll, moleculeOf, Meant, kinds, timesTo, JoinedToItself, JoinedTwice, Allowed, alleneLike, ReadAs, Limited, not-turned}
+use Rattle.grammar.proofs.Meant.{atomsIn}
+use Rattle.grammar.specs.Molecule.{placed, agreed, closed, ringed, numbered, asWritten, told, next, tellAll, moleculeOf, Meant, kinds, timesTo, JoinedToItself, JoinedTwice, Allowed, alleneLike, ReadAs, Limited, not-turned}
 
 -- the words that are lent for atoms and for bond entries
 abbrev room : ℕ
@@ -31,17 +32,13 @@ abbrev carbon : AtomKind
 carbon = Aliphatic 1
 
 -- a chain whose molecule is forbidden means nothing
-atomsIn : Option Molecule → List Node
-atomsIn none = []
-atomsIn (some m) = m .atoms
-
 unmeant : (u : Chain) (bad : List Node) → atomsIn (moleculeOf asWritten (says u)) ≡ bad → ¬ Allowed bad → (ns : List Node) → ¬ Meant u ns
 unfolding atomsIn
 unmeant u bad h f ns m = f (subst Allowed (sym (m .atoms) ∙ sym (ap atomsIn (m .is)) ∙ h) (m .allowed))
 
-c : Atom′
+unmarked : Atom′
 unfolding has1 organics openOrganics OpenOrganic
-c = organic′ (bare1 (byte "C") tt) tt
+unmarked = organic′ (bare1 (byte "C") tt) tt
 
 -- "joined to itself": C11
 abbrev pub loop : List Node
@@ -59,15 +56,15 @@ pub loop-forbidden : ¬ Allowed loop
 loop-forbidden a = a .self-free loop-joined
 
 pub loopChain : Chain
-unfolding c
-loopChain = first (branched c (and-ring (and-ring no-rings none (ring1 d1)) none (ring1 d1)) no-branches)
+unfolding unmarked
+loopChain = first (branched unmarked (and-ring (and-ring no-rings none (ring1 d1)) none (ring1 d1)) no-branches)
 
 pub loop-spelled : chainS loopChain ≡ bytes "C11"
-unfolding loopChain c chainS atomS′ organicS ringsS bond?S rnumS digitS
+unfolding loopChain unmarked chainS atomS′ organicS ringsS bond?S rnumS digitS
 loop-spelled = refl
 
 pub loop-unmeant : (ns : List Node) → ¬ Meant loopChain ns
-unfolding loopChain c atomsIn moleculeOf tellAll next told asWritten placed numbered ringed closed agreed lookup openKind waits edgesAt addEdge upd fill fillEdges without reverseOf codeOf says chainE ringsE atomK′ organicK linkK join bond?K rnumK value place1 has1 aromatics aliphatics
+unfolding loopChain unmarked atomsIn moleculeOf tellAll next told asWritten placed numbered ringed closed agreed lookup openKind waits edgesAt addEdge upd fill fillEdges without reverseOf codeOf says chainE ringsE atomK′ organicK linkK join bond?K rnumK value place1 has1 aromatics aliphatics
 loop-unmeant ns = unmeant loopChain loop refl loop-forbidden ns
 
 -- "joined twice": C1C1
@@ -86,15 +83,15 @@ pub pair-forbidden : ¬ Allowed pair
 pair-forbidden a = a .twice-free pair-joined
 
 pub pairChain : Chain
-unfolding c
-pairChain = then (first (branched c (and-ring no-rings none (ring1 d1)) no-branches)) elided (branched c (and-ring no-rings none (ring1 d1)) no-branches)
+unfolding unmarked
+pairChain = then (first (branched unmarked (and-ring no-rings none (ring1 d1)) no-branches)) elided (branched unmarked (and-ring no-rings none (ring1 d1)) no-branches)
 
 pub pair-spelled : chainS pairChain ≡ bytes "C1C1"
-unfolding pairChain c chainS atomS′ organicS ringsS bond?S rnumS digitS linkS
+unfolding pairChain unmarked chainS atomS′ organicS ringsS bond?S rnumS digitS linkS
 pair-spelled = refl
 
 pub pair-unmeant : (ns : List Node) → ¬ Meant pairChain ns
-unfolding pairChain c atomsIn moleculeOf tellAll next told asWritten placed numbered ringed closed agreed lookup openKind waits edgesAt addEdge upd fill fillEdges without reverseOf codeOf says chainE ringsE atomK′ organicK linkK join bond?K rnumK value place1 has1 aromatics aliphatics
+unfolding pairChain unmarked atomsIn moleculeOf tellAll next told asWritten placed numbered ringed closed agreed lookup openKind waits edgesAt addEdge upd fill fillEdges without reverseOf codeOf says chainE ringsE atomK′ organicK linkK join bond?K rnumK value place1 has1 aromatics aliphatics
 pair-unmeant ns = unmeant pairChain pair refl pair-forbidden ns
 
 -- a carbon in brackets with a mark and hydrogens
@@ -161,15 +158,15 @@ ethane-single (suc zero) t h = absurd (omega (arith, h, few-times t (edge Elided
 ethane-single (suc (suc a)) t h = absurd (omega (arith, h, none-times t))
 
 pub ethaneChain : Chain
-unfolding c
-ethaneChain = then (first (branched c no-rings no-branches)) elided (branched c no-rings no-branches)
+unfolding unmarked
+ethaneChain = then (first (branched unmarked no-rings no-branches)) elided (branched unmarked no-rings no-branches)
 
 pub ethane-spelled : chainS ethaneChain ≡ bytes "CC"
-unfolding ethaneChain c chainS atomS′ organicS ringsS linkS
+unfolding ethaneChain unmarked chainS atomS′ organicS ringsS linkS
 ethane-spelled = refl
 
 pub ethane-meant : Meant ethaneChain ethane
-unfolding ethaneChain c moleculeOf tellAll next told asWritten placed numbered ringed closed agreed lookup openKind waits edgesAt addEdge upd fill fillEdges without reverseOf codeOf says chainE ringsE atomK′ organicK linkK join bond?K rnumK value place1 has1 aromatics aliphatics firstOpenS openIn openHere
+unfolding ethaneChain unmarked moleculeOf tellAll next told asWritten placed numbered ringed closed agreed lookup openKind waits edgesAt addEdge upd fill fillEdges without reverseOf codeOf says chainE ringsE atomK′ organicK linkK join bond?K rnumK value place1 has1 aromatics aliphatics firstOpenS openIn openHere
 ethane-meant = record {
   whole = record { atoms = ethane; path = 1 ∷ 0 ∷ []; opens = []; joins = 0 };
   is = refl;

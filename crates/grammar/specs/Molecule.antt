@@ -1,6 +1,6 @@
 -- What OpenSMILES makes of a line: its atoms, each with its neighbours in the order in which the line names them, and what it
 -- forbids of them; and where the graph that is read departs from that, each departure by its name in the list of differences.
--- Written from a summary of its rules.
+-- Written from a summary of its rules: the joining without the rooms, refusals and failures that the sketch of a graph has beside.
 use Prim.Native.Nat.{ℕ, _+_, _≤_}
 use mathlib.Core.Path.{_≡_}
 use mathlib.Core.List.{List, [], _∷_, _++_}
