@@ -221,28 +221,34 @@ pub fn graph_answer(outcome: Result<Vec<Atom>, String>) -> String {
 }
 
 fn written(graph: Vec<Atom>) -> String {
-    let mut writer = Writer::new();
-
-    walked(caught(|| walk(graph, &mut writer)), || {
-        text_answer(&writer.write())
-    })
+    match walked(graph, Writer::new()) {
+        Ok(writer) => text_answer(&writer.write()),
+        Err(refusal) => refusal,
+    }
 }
 
 fn order(graph: Vec<Atom>) -> String {
     let size = graph.len();
-    let mut order = Order::new(&graph);
 
-    walked(caught(|| walk(graph, &mut order)), || {
-        format!("0 {} {}", size, order.text())
-    })
+    match order_of(graph) {
+        Ok(order) => format!("0 {} {}", size, order.text()),
+        Err(refusal) => refusal,
+    }
 }
 
-// The answer for a walk, which is `done` if the walk was.
-fn walked(outcome: Result<Result<(), walk::Error>, String>, done: impl FnOnce() -> String) -> String {
-    match outcome {
-        Ok(Ok(())) => done(),
-        Ok(Err(error)) => walk_refusal(error),
-        Err(message) => format!("panic {}", message),
+/// The order of purr's walk over the graph, or its refusal as an answer.
+pub fn order_of(graph: Vec<Atom>) -> Result<Order, String> {
+    let order = Order::new(&graph);
+
+    walked(graph, order)
+}
+
+// The follower after a walk, or the walk's refusal as an answer.
+fn walked<F: Follower>(graph: Vec<Atom>, mut follower: F) -> Result<F, String> {
+    match caught(|| walk(graph, &mut follower)) {
+        Ok(Ok(())) => Ok(follower),
+        Ok(Err(error)) => Err(walk_refusal(error)),
+        Err(message) => Err(format!("panic {}", message)),
     }
 }
 

@@ -107,7 +107,8 @@ pub fn parse_latin(source: &str) -> Option<String> {
     Some(parse_bytes(source)?.into_iter().map(char::from).collect())
 }
 
-fn parse_bytes(source: &str) -> Option<Vec<u8>> {
+/// The bytes of a TEXT argument.
+pub fn parse_bytes(source: &str) -> Option<Vec<u8>> {
     if source == "!-" {
         return Some(Vec::new());
     }
@@ -262,7 +263,7 @@ fn print_field<T>(field: &Option<T>, print: fn(&T) -> String) -> String {
     field.as_ref().map_or_else(|| "~".to_string(), print)
 }
 
-fn print_symbol(symbol: &BracketSymbol) -> &'static str {
+pub fn print_symbol(symbol: &BracketSymbol) -> &'static str {
     match symbol {
         BracketSymbol::Star => "*",
         BracketSymbol::Element(element) => print_element(element),

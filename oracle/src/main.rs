@@ -2,6 +2,9 @@
 //! a plain text form. This file holds the commands; oracle/README.md describes
 //! them and the form.
 
+// Only `oracle/scale` sets `exports`.
+#![allow(unknown_lints, unexpected_cfgs)]
+
 mod answer;
 mod caught;
 mod differences;
@@ -10,6 +13,9 @@ mod make;
 mod model;
 mod order;
 mod random;
+// The comparison with our exports, which the oracle alone does without.
+#[cfg(exports)]
+mod scale;
 
 // purr's own modules: what the oracle does not use of them is no fault.
 #[allow(dead_code, unused_imports)]
@@ -90,6 +96,8 @@ fn run(arguments: &[String]) -> Result<bool, String> {
                 print_answers(requests, &mut output)
             }
         }
+        #[cfg(exports)]
+        ["scale", rest @ ..] => scale::run(rest).ok_or(scale::USAGE)?,
         _ => return Err(USAGE.to_string()),
     };
 

@@ -139,8 +139,8 @@ impl<F: Follower> Walk<'_, F> {
     }
 }
 
-// purr's AtomKind is not Clone.
-fn copied(kind: &AtomKind) -> AtomKind {
+/// A copy; purr's AtomKind is not Clone.
+pub fn copied(kind: &AtomKind) -> AtomKind {
     form::parse_kind(&form::print_kind(kind)).expect("a kind as printed can be parsed")
 }
 

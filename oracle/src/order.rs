@@ -12,8 +12,18 @@ pub struct Order {
     taken: Vec<usize>,
     visited: Vec<bool>,
     path: Vec<usize>,
-    /// The atoms met, each with its text as it is written.
-    met: Vec<(usize, String)>,
+    met: Vec<Met>,
+}
+
+/// An atom that the walk has met.
+struct Met {
+    atom: usize,
+    /// The place, from 1, of its entry back to the atom that it was reached from; 0
+    /// for a root.
+    #[cfg_attr(not(exports), allow(dead_code))]
+    back: usize,
+    /// Its text as it is written.
+    text: String,
 }
 
 impl Order {
@@ -35,15 +45,35 @@ impl Order {
         self.met
             .iter()
             .enumerate()
-            .map(|(number, (atom, text))| format!("{}:{}:{}", atom, number, text))
+            .map(|(number, met)| format!("{}:{}:{}", met.atom, number, met.text))
             .collect::<Vec<String>>()
             .join(";")
     }
 
-    fn enter(&mut self, atom: usize, kind: AtomKind) {
+    /// The atom of each number in walk order; of each atom that number, and the
+    /// place of its entry back.
+    #[cfg(exports)]
+    pub fn tables(&self) -> [Vec<u32>; 3] {
+        let size = self.met.len();
+        let mut tables = [vec![0; size], vec![0; size], vec![0; size]];
+
+        for (number, met) in self.met.iter().enumerate() {
+            tables[0][number] = met.atom as u32;
+            tables[1][met.atom] = number as u32;
+            tables[2][met.atom] = met.back as u32;
+        }
+
+        tables
+    }
+
+    fn enter(&mut self, atom: usize, back: usize, kind: AtomKind) {
         self.visited[atom] = true;
         self.path.push(atom);
-        self.met.push((atom, kind.to_string()));
+        self.met.push(Met {
+            atom,
+            back,
+            text: kind.to_string(),
+        });
     }
 
     fn head(&self) -> usize {
@@ -69,16 +99,20 @@ impl Follower for Order {
             .expect("a root is an atom not visited");
 
         self.path.clear();
-        self.enter(atom, root);
+        self.enter(atom, 0, root);
     }
 
     fn extend(&mut self, _: BondKind, atom_kind: AtomKind) {
         let parent = self.head();
         let child = self.next_target();
+        let back = self.targets[child]
+            .iter()
+            .position(|&target| target == parent)
+            .expect("a child has an entry back");
 
         // The walk does not go back to where it came from.
         self.targets[child].retain(|&target| target != parent);
-        self.enter(child, atom_kind);
+        self.enter(child, 1 + back, atom_kind);
     }
 
     fn join(&mut self, _: BondKind, _: Rnum) {
