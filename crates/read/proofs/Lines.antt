@@ -62,10 +62,6 @@ read-line s la lb =
     ap (pick (ltb textLimit (length s)) (refusing (TextTooLong (length s)) la lb))
     (within-many s la lb)
 
--- so what is equal to the one is equal to the other
-pub by-line : (s : List ℕ) (la lb : ℕ) (x : Said) → x ≡ readOf s la lb → x ≡ lineOf s la lb
-by-line s la lb x e = e ∙ read-line s la lb
-
 -- ---- a line that is done
 -- whatever the line, each bond that it is read to is held at both ends as reverses
 pub both-held : (s : List ℕ) (la lb : ℕ) → BothEnds (sketchOf s la lb .nodes)

@@ -27,6 +27,7 @@ use Rattle.write.specs.declared.answer.Written.{Written}
 use Rattle.write.specs.declared.answer.Written.the-variants.{Done, OutRoom}
 use Rattle.write.specs.Write.{zeros, pairWords, startIn, walkIn, refusalOf, Left, left, refusing, putLine, ended, concluded, graphWritten}
 use Rattle.write.specs.Order as made
+use Rattle.write.specs.Rooms.{Blank}
 use Rattle.write.specs.Lengths.{graphIn, smallWalk, smallSaid, smallWritten}
 use Rattle.write.proofs.Lengths.{small-written}
 
@@ -119,6 +120,31 @@ module _ (k : ℕ) (atoms bonds first : List ℕ) (n m : ℕ) (fst : first ≡ s
       ∙ ended-is room out z line x (h .len) (h .line ∙ ap (λ (y : List ℕ). sets y 0 x) zo)
       ∙ ap (λ (y : Walk). concluded room (y .at) x) (walk-is _ _ w)
       ∙ small-written atoms n bonds m (omega (arith, low, high)) k low room
+
+-- work tables that are blank, whatever their length, are such
+module _ (atoms bonds : List ℕ) (n m : ℕ) (first met walked back taken pairs starts laid : List ℕ) (b : Blank n first met walked back taken pairs starts) (is : laid ≡ startsOf n atoms first) where
+  abbrev begun : Walk
+  begun = walk startWalker met walked back taken pairs
+
+  abbrev wide : List ℕ
+  wide = zeros (length first)
+
+  start-blank : begun ≡ fresh (length first) (length first) (length first) (length first) (zeros pairWords)
+  start-blank =
+      ap (λ (x : List ℕ). walk startWalker x walked back taken pairs) (b .marks)
+      ∙ ap (λ (x : List ℕ). walk startWalker wide x back taken pairs) (b .order)
+      ∙ ap (λ (x : List ℕ). walk startWalker wide wide x taken pairs) (b .backs)
+      ∙ ap (λ (x : List ℕ). walk startWalker wide wide wide x pairs) (b .takes)
+      ∙ ap (λ (x : List ℕ). walk startWalker wide wide wide wide x) (b .slots)
+
+  pub blank-written : (room : ℕ) (o out starts′ met′ walked′ back′ taken′ pairs′ : List ℕ) (z : Walker) (line : Writer) (r : Left) → o ≡ zeros room → walk z met′ walked′ back′ taken′ pairs′ ≡ walkTo (graph n atoms bonds laid) (turnsOf n m) begun → spoken line out starts′ ≡ sayAll (spoken (writer 0 0) o starts) (eventsOf (graph n atoms bonds laid) (turnsOf n m) begun) → r ≡ ended out z line → r ≡ graphWritten room atoms n bonds m
+  blank-written room o out starts′ met′ walked′ back′ taken′ pairs′ z line r zo w s e =
+      graph-written (length first) atoms bonds laid n m (is ∙ ap (startsOf n atoms) (b .firsts)) (b .room) (b .most) room o out starts′ met′ walked′ back′ taken′ pairs′ z line r zo
+      (w ∙ ap (walkTo (graph n atoms bonds laid) (turnsOf n m)) start-blank)
+      (s
+      ∙ ap (λ (x : List ℕ). sayAll (spoken (writer 0 0) o x) (eventsOf (graph n atoms bonds laid) (turnsOf n m) begun)) (b .pieces)
+      ∙ ap (λ (x : Walk). sayAll (spoken (writer 0 0) o wide) (eventsOf (graph n atoms bonds laid) (turnsOf n m) x)) start-blank)
+      e
 
 -- ---- a walk order
 pub order-refused : (walked met back w′ m′ b′ : List ℕ) (n : ℕ) (z : Walker) (r : Written) → z .refusal ≢ 0 → w′ ≡ zeros (length walked) → m′ ≡ zeros (length met) → b′ ≡ zeros (length back) → r ≡ refusalOf z → made.order r w′ m′ b′ ≡ made.concluded n z walked met back

@@ -1,3 +1,4 @@
 pub mod Write
 pub mod Order
 pub mod Lengths
+pub mod Rooms

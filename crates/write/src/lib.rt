@@ -7,6 +7,7 @@ ghost use Prim.Native.Nat.{_≤_};
 ghost use lib.ListN.{length, replicate};
 ghost use Rattle.graph.specs.Limits.{atomLimit, bondLimit};
 ghost use Rattle.write.specs.Write.{zeros, left, ended, graphWritten, writeOf};
+ghost use Rattle.write.specs.Rooms.{fewAtoms, Writable, Blank};
 use answer::Written;
 use answer::refusal;
 use build::lay_starts;
@@ -48,9 +49,75 @@ fn conclude(out: &mut [u8], end: Turned) -> Written
     Written::Done(len)
 }
 
-// A graph written into an output of zeros.
-fn write_graph(atoms: &[u32], n: usize, bonds: &[u32], m: usize, out: &mut [u8]) -> Written
-    requires { ⌜ (n ≤ atomLimit) × (m ≤ bondLimit) × (now out ≡ zeros (length (now out))) ⌝ }
+// A graph written into an output of zeros, with work tables of zeros that have room for its atoms.
+fn write_in(
+    atoms: &[u32],
+    n: usize,
+    bonds: &[u32],
+    m: usize,
+    first: &mut [u32],
+    met: &mut [u32],
+    walked: &mut [u32],
+    back: &mut [u32],
+    taken: &mut [u32],
+    pairs: &mut [u32],
+    starts: &mut [u32],
+    out: &mut [u8],
+) -> Written
+    requires { ⌜ Writable n m (now out) × Blank n (now first) (now met) (now walked) (now back) (now taken) (now pairs) (now starts) ⌝ }
+    ensures { λ r. ⌜ left r (now (out .exit)) ≡ graphWritten (length (now (out .entry))) (now (atoms .entry)) n (now (bonds .entry)) m ⌝ }
+{
+    lay_starts(first, atoms, n);
+    let end = walk(
+        n,
+        m,
+        atoms,
+        bonds,
+        first,
+        met,
+        walked,
+        back,
+        taken,
+        pairs,
+        starts,
+        out,
+    );
+    conclude(out, end)
+}
+
+// So many atoms are few, and need little work room.
+const FEW_ATOMS: usize = 128;
+
+fn write_few(atoms: &[u32], n: usize, bonds: &[u32], m: usize, out: &mut [u8]) -> Written
+    requires { ⌜ Writable n m (now out) × (n ≤ fewAtoms) ⌝ }
+    ensures { λ r. ⌜ left r (now (out .exit)) ≡ graphWritten (length (now (out .entry))) (now (atoms .entry)) n (now (bonds .entry)) m ⌝ }
+{
+    let mut first = [0u32; FEW_ATOMS];
+    let mut met = [0u32; FEW_ATOMS];
+    let mut walked = [0u32; FEW_ATOMS];
+    let mut back = [0u32; FEW_ATOMS];
+    let mut taken = [0u32; FEW_ATOMS];
+    let mut pairs = [0u32; PAIRS];
+    let mut starts = [0u32; FEW_ATOMS];
+    write_in(
+        atoms,
+        n,
+        bonds,
+        m,
+        &mut first,
+        &mut met,
+        &mut walked,
+        &mut back,
+        &mut taken,
+        &mut pairs,
+        &mut starts,
+        out,
+    )
+}
+
+// The same for a graph of any size.
+fn write_many(atoms: &[u32], n: usize, bonds: &[u32], m: usize, out: &mut [u8]) -> Written
+    requires { ⌜ Writable n m (now out) ⌝ }
     ensures { λ r. ⌜ left r (now (out .exit)) ≡ graphWritten (length (now (out .entry))) (now (atoms .entry)) n (now (bonds .entry)) m ⌝ }
 {
     let mut first = [0u32; ATOMS];
@@ -60,13 +127,12 @@ fn write_graph(atoms: &[u32], n: usize, bonds: &[u32], m: usize, out: &mut [u8])
     let mut taken = [0u32; ATOMS];
     let mut pairs = [0u32; PAIRS];
     let mut starts = [0u32; ATOMS];
-    lay_starts(&mut first, atoms, n);
-    let end = walk(
-        n,
-        m,
+    write_in(
         atoms,
+        n,
         bonds,
-        &first,
+        m,
+        &mut first,
         &mut met,
         &mut walked,
         &mut back,
@@ -74,8 +140,7 @@ fn write_graph(atoms: &[u32], n: usize, bonds: &[u32], m: usize, out: &mut [u8])
         &mut pairs,
         &mut starts,
         out,
-    );
-    conclude(out, end)
+    )
 }
 
 // Writes the graph of n atoms and m bond entries. The bytes after its line are zero; after a refusal all are.
@@ -93,5 +158,8 @@ pub fn write(atoms: &[u32], n: usize, bonds: &[u32], m: usize, out: &mut [u8]) -
     if bad < n + m {
         return Written::BadTable(bad);
     }
-    write_graph(atoms, n, bonds, m, out)
+    if n <= FEW_ATOMS {
+        return write_few(atoms, n, bonds, m, out);
+    }
+    write_many(atoms, n, bonds, m, out)
 }

@@ -5,6 +5,14 @@ use Rattle.write.proofs.Ends.{zeros-self}
 use Rattle.write.proofs.Calls.{write-13, write-14, write-17, write-all}
 use Rattle.write.proofs.write.Statement.{statement}
 use Rattle.write.proofs.write.Tie as tie
+use Rattle.write.proofs.write.Reads as reads
+use Rattle.write.proofs.write.Lts as lts
+use Rattle.graph.proofs.limits.atom_room.Reads as atom-room-reads
+use Rattle.graph.proofs.limits.bond_room.Reads as bond-room-reads
+use Rattle.judge.proofs.judge.Reads as judge-reads
+use Rattle.write.proofs.clear_bytes.Reads as clear-bytes-reads
+use Rattle.write.proofs.write_few.Reads as write-few-reads
+use Rattle.write.proofs.write_many.Reads as write-many-reads
 
 clear-bytes-requires : tie.Need-clear-bytes-requires
 clear-bytes-requires c κs = search needs
@@ -39,14 +47,23 @@ same-length-3 c = search needs
 returns-3 : tie.Need-returns-3
 returns-3 c = write-17 _ _ _ _ _ _ _ (c .before .before .before .before .before .atom-room .ensures) (c .before .before .before .before .before .before .before .before .clear-bytes .ensures) _ _ (c .before .before .before .before .if1 .left) (c .before .before .before .bond-room .ensures) (c .before .before .if2 .left) (c .before .judge .ensures) (c .if3 .taken)
 
-write-graph-requires : tie.Need-write-graph-requires
-write-graph-requires c κs = (search needs, search needs, zeros-self (length (c .before .before .before .before .before .before .before .before .before .before .before .before .before .before .args .out .now)) (c .before .before .before .before .before .before .before .before .before .clear-bytes .ensures))
+write-few-requires : tie.Need-write-few-requires
+write-few-requires c κs = (record { atoms = search needs; bonds = search needs; empty = zeros-self (length (c .before .before .before .before .before .before .before .before .before .before .before .before .before .before .before .args .out .now)) (c .before .before .before .before .before .before .before .before .before .before .clear-bytes .ensures) }, c .before .if4 .taken)
 
 same-length-4 : tie.Need-same-length-4
 same-length-4 c = search needs
 
 returns-4 : tie.Need-returns-4
-returns-4 c = write-all _ _ _ _ _ _ _ (c .before .before .before .before .before .before .before .before .before .atom-room .ensures) (c .before .before .before .before .before .before .before .before .before .before .before .before .clear-bytes .ensures) _ _ (c .before .before .before .before .before .before .before .before .if1 .left) (c .before .before .before .before .before .before .before .bond-room .ensures) _ (c .before .before .before .before .before .before .if2 .left) (c .before .before .before .before .before .judge .ensures) (c .before .before .before .before .if3 .left) (c .before .before .write-graph .ensures)
+returns-4 c = write-all _ _ _ _ _ _ _ (c .before .before .before .before .before .before .before .before .before .before .atom-room .ensures) (c .before .before .before .before .before .before .before .before .before .before .before .before .before .clear-bytes .ensures) _ _ (c .before .before .before .before .before .before .before .before .before .if1 .left) (c .before .before .before .before .before .before .before .before .bond-room .ensures) _ (c .before .before .before .before .before .before .before .if2 .left) (c .before .before .before .before .before .before .judge .ensures) (c .before .before .before .before .before .if3 .left) (c .before .before .write-few .ensures)
+
+write-many-requires : tie.Need-write-many-requires
+write-many-requires c κs = record { atoms = search needs; bonds = search needs; empty = zeros-self (length (c .before .before .before .before .before .before .before .before .before .before .before .before .before .before .before .args .out .now)) (c .before .before .before .before .before .before .before .before .before .before .clear-bytes .ensures) }
+
+same-length-5 : tie.Need-same-length-5
+same-length-5 c = search needs
+
+returns-5 : tie.Need-returns-5
+returns-5 c = write-all _ _ _ _ _ _ _ (c .before .before .before .before .before .before .before .before .before .before .atom-room .ensures) (c .before .before .before .before .before .before .before .before .before .before .before .before .before .clear-bytes .ensures) _ _ (c .before .before .before .before .before .before .before .before .before .if1 .left) (c .before .before .before .before .before .before .before .before .bond-room .ensures) _ (c .before .before .before .before .before .before .before .if2 .left) (c .before .before .before .before .before .before .judge .ensures) (c .before .before .before .before .before .if3 .left) (c .before .before .write-many .ensures)
 
 pub write-spec : {M : Type 1} → statement M
 write-spec =
@@ -63,6 +80,9 @@ write-spec =
     add-if3
     same-length-3
     returns-3
-    write-graph-requires
+    write-few-requires
     same-length-4
-    returns-4)
+    returns-4
+    write-many-requires
+    same-length-5
+    returns-5)
