@@ -9,8 +9,11 @@ use form::byte::put_word;
 use form::number;
 use graph::limits::ATOMS;
 use graph::limits::BONDS;
+use graph::limits::TEXT;
 use read::Answer;
 use read::read;
+use record::ATOM_WORDS;
+use record::BOND_WORDS;
 use show::desk::DONE;
 use show::desk::Said;
 use show::desk::print_number;
@@ -18,6 +21,7 @@ use show::desk::print_refusal;
 use show::order::print_order;
 use show::said::of_read;
 use show::said::of_written;
+use show::tables::least;
 use show::tables::print_graph;
 use show::words::place_of;
 use show::words::print_words;
@@ -35,8 +39,12 @@ const ENTRY_BYTES: usize = 12;
 
 pub const LONGEST: usize = COUNT_BYTES + ATOMS * ATOM_BYTES + BONDS * ENTRY_BYTES;
 
-// Room for the longest written line: 24 bytes an atom and 4 a bond entry.
-const LINE: usize = 24 * ATOMS + 4 * BONDS;
+// A written line has at most so many bytes an atom, and a bond entry.
+const ATOM_LINE: usize = 24;
+
+const ENTRY_LINE: usize = 4;
+
+const LINE: usize = ATOM_LINE * ATOMS + ENTRY_LINE * BONDS;
 
 // A bond has two ends, each an entry.
 const ENDS: usize = 2;
@@ -68,12 +76,37 @@ fn refused(at: usize, place: usize) -> Told
     }
 }
 
-// What the read call says of a text. Of one that was too long for its room, only the length is known.
+// What the read call says of a text. Of one that was too long for its room, only the length is known. No more of the tables
+// is lent than a text of so many bytes can need, an atom and two bond entries for each.
 fn read_text(text: &[u8], size: usize, atoms: &mut [u32], bonds: &mut [u32]) -> Answer {
     if text.len() < size {
         return Answer::TextTooLong(size);
     }
-    read(&text[0..size], atoms, bonds)
+    if TEXT < size {
+        return Answer::TextTooLong(size);
+    }
+    let a = least(size * ATOM_WORDS, atoms.len());
+    let b = least(size * ENDS * BOND_WORDS, bonds.len());
+    read(&text[0..size], &mut atoms[0..a], &mut bonds[0..b])
+}
+
+// The longest line that a graph of n atoms and m bond entries is written as.
+fn line_room(n: usize, m: usize) -> usize {
+    if ATOMS < n {
+        return LINE;
+    }
+    if BONDS < m {
+        return LINE;
+    }
+    ATOM_LINE * n + ENTRY_LINE * m
+}
+
+// The graph written from a place of the output on, and what the write call says of it.
+fn write_at(out: &mut [u8], at: usize, atoms: &[u32], n: usize, bonds: &[u32], m: usize) -> Said
+    requires { ⌜ at ≤ length (now out) ⌝ }
+{
+    let room = least(line_room(n, m), out.len() - at);
+    of_written(write(atoms, n, bonds, m, &mut out[at..at + room]))
 }
 
 // The graph of n atoms and m bond entries, with these counts.
@@ -107,17 +140,13 @@ fn print_rewritten(
 ) -> Told
     ensures { λ r. ⌜ r .at ≤ length (now (out .exit)) ⌝ }
 {
-    let mut line = [0u8; LINE];
-    let s = of_written(write(atoms, n, bonds, m, &mut line));
+    let begin = print_number(out, at, DONE);
+    let s = write_at(out, begin, atoms, n, bonds, m);
     if s.no != DONE {
         return refused(print_refusal(out, at, s), NOWHERE);
     }
-    let at = print_number(out, at, DONE);
-    let len = s.first;
-    if LINE < len {
-        return done(at);
-    }
-    done(put_word(out, at, &line[0..len]))
+    let room = out.len() - begin;
+    done(begin + least(s.first, room))
 }
 
 // The order in which it is walked.
@@ -146,7 +175,19 @@ fn print_why(out: &mut [u8], at: usize, s: Said, size: usize) -> Told
     refused(print_words(out, at, s), place_of(s, size))
 }
 
-// Whether it can be written, and what it counts.
+fn print_counts(out: &mut [u8], at: usize, atoms: usize, bonds: usize, bytes: usize) -> usize
+    ensures { λ r. ⌜ r ≤ length (now (out .exit)) ⌝ }
+{
+    let at = put_word(out, at, b"done: ");
+    let at = number::print(out, at, atoms);
+    let at = put_word(out, at, b" atoms, ");
+    let at = number::print(out, at, bonds);
+    let at = put_word(out, at, b" bonds, written in ");
+    let at = number::print(out, at, bytes);
+    put_word(out, at, b" bytes")
+}
+
+// Whether it can be written, and what it counts. The line itself is written over by the words.
 fn print_checked(
     out: &mut [u8],
     at: usize,
@@ -157,18 +198,12 @@ fn print_checked(
 ) -> Told
     ensures { λ r. ⌜ r .at ≤ length (now (out .exit)) ⌝ }
 {
-    let mut line = [0u8; LINE];
-    let s = of_written(write(atoms, n, bonds, m, &mut line));
+    let at = least(at, out.len());
+    let s = write_at(out, at, atoms, n, bonds, m);
     if s.no != DONE {
         return print_why(out, at, s, 0);
     }
-    let at = put_word(out, at, b"done: ");
-    let at = number::print(out, at, n);
-    let at = put_word(out, at, b" atoms, ");
-    let at = number::print(out, at, m / ENDS);
-    let at = put_word(out, at, b" bonds, written in ");
-    let at = number::print(out, at, s.first);
-    done(put_word(out, at, b" bytes"))
+    done(print_counts(out, at, n, m / ENDS, s.first))
 }
 
 // What a command has to say of a text that was not read.
