@@ -3,7 +3,7 @@
 // tables: a graph parsed into tables.
 // words: plain words parsed into a table.
 // blank: whether lent room holds zeros only.
-// lines, orders, pieces and pairs: the requests by what they are about. Each group answers 0 bytes where the operation is
+// lines, orders, pieces, pairs and reasons: the requests by what they are about. Each group answers 0 bytes where the operation is
 // none of its own or the arguments cannot be read, and then the next one is asked. No answer is empty, so 0 in the end
 // says that none of them knows the request.
 ghost use Prim.Native.Nat.{_≤_};
@@ -14,6 +14,7 @@ mod lines;
 mod orders;
 mod pairs;
 mod pieces;
+mod reasons;
 mod tables;
 mod words;
 
@@ -33,5 +34,9 @@ pub fn answer(operation: &[u8], arguments: &[u8], out: &mut [u8], room: &mut [u8
     if n > 0 {
         return n;
     }
-    pairs::answer(operation, arguments, out)
+    let n = pairs::answer(operation, arguments, out);
+    if n > 0 {
+        return n;
+    }
+    reasons::answer(operation, arguments, out, room)
 }
