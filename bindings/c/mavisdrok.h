@@ -2,7 +2,8 @@
  * of the pool; one atom, bond or ring number as text. The archive is made by tools/archive.
  *
  * Every call takes any bytes, any tables, any words and any counts, ends, and writes nothing outside what it is lent. A slice
- * is a pointer and a length in elements; the pointer of an empty one may be anything but null.
+ * is a pointer and a length in elements; the pointer of an empty one may be anything but null. A call takes less than 256 KiB
+ * of stack: a line of 128 nested branches is read in 192.
  *
  * report: three words, as far as there is room: the desk's number, and the two values that it carries, 0 where it carries
  * fewer: crates/export/specs/Report.antt has them for each answer. docs/PACKING.md says how atoms, bonds and states stand in
