@@ -9,6 +9,7 @@ use lib.ListN.{length, getD, set, drop, replicate, length-replicate, drop-of-len
 use lib.Seq.{length-sets, drop-cons}
 use lib.Dec.{ltb}
 use borrow.Author.Tests.{lt-ltb, le-ltb, ltb-false}
+use Rattle.feature.proofs.Lists.{drop-zeros}
 use Rattle.feature.specs.Pick.{pick}
 use Rattle.feature.specs.Kinds.{inRange}
 use Rattle.feature.specs.declared.atom_kind.AtomKind.{AtomKind}
@@ -32,17 +33,6 @@ wipe-end t at l h =
     rw (drop-of-length-le t h) (append-nil (replicate at 0) ∙ ap (λ (n : ℕ). replicate n 0) e)
 
 -- ---- a text over zeros
-drop-zeros : (n m : ℕ) → drop n (zeros m) ≡ zeros (m - n)
-drop-zeros zero m =
-    let e : m ≡ m - 0 = omega arith in
-    ap (λ (i : ℕ). replicate i 0) e
-drop-zeros (suc n) zero =
-    let e : 0 ≡ 0 - suc n = omega arith in
-    ap (λ (i : ℕ). replicate i 0) e
-drop-zeros (suc n) (suc m) =
-    let e : m - n ≡ suc m - suc n = omega arith in
-    drop-zeros n m ∙ ap (λ (i : ℕ). replicate i 0) e
-
 pub settle-short : (out m : List ℕ) (need : ℕ) → length out < need → m ≡ zeros (length out) → spelt (OutRoom need) m ≡ settled out need
 unfolding settled
 settle-short out m need h e = simp (lt-ltb _ _ h, e)

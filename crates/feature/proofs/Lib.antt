@@ -3,3 +3,4 @@ pub mod Table
 pub mod Names
 pub mod Ranges
 pub mod Lists
+pub mod Cases

@@ -1,5 +1,5 @@
--- The table of names is ordered, so a search by halves finds what a look at each would. Assumes nothing.
-use Prim.Native.Nat.{ℕ, zero, suc, suc-le-suc, _+_, _*_, _/_, _<_, _≤_}
+-- The table of names is ordered, so a search from the first name with a letter on finds what a look at each would. Assumes nothing.
+use Prim.Native.Nat.{ℕ, zero, suc, suc-le-suc, _+_, _*_, _/_, _%_, _<_, _≤_}
 use mathlib.Core.Path.{_≡_, refl, _∙_, ap, sym, subst}
 use mathlib.Core.Bool.{Bool, true, false}
 use mathlib.Core.List.{List, [], _∷_}
@@ -8,7 +8,7 @@ use native.Mathlib.Nat.{le-of-suc-le-suc, not-suc-le-zero, zero-lt-suc, lt-irref
 use lib.ListN.{length, getD, List·getD-eq-default}
 use lib.Dec.{T, ltb, leb, ltb→lt, leb→le, eqb}
 use borrow.Author.Tests.{eq-eqb, ne-eqb, ltb-true, ltb-false, leb-true, eqb-true, eqb-false}
-use Rattle.feature.specs.Pick.{either}
+use Rattle.feature.specs.Pick.{both, either}
 use Rattle.feature.specs.Text.{letter}
 use Rattle.feature.specs.Names.{symbols, names, placeOf, begins, Begun, Ranked}
 use Rattle.feature.proofs.Table.{at, every, both-left, both-right, rising}
@@ -149,3 +149,21 @@ begun-at byte r small test = record {
 
 pub begun-nowhere : (byte : ℕ) → Begun byte 0
 begun-nowhere byte = record { small = omega arith; lower = λ j h. absurd (not-suc-le-zero h) }
+
+-- ---- the letters of a name are bytes
+letters : ℕ → ℕ → Bool
+letters k x = both (ltb (x / letter) 128) (ltb (x % letter) 128)
+
+letters-at : (y : ℕ) → y < symbols → T (letters y (getD names y 0))
+unfolding names letters
+letters-at y h = at letters names tt y (omega (arith, names-length))
+
+pub first-small : (y : ℕ) → y < symbols → getD names y 0 / letter < 128
+unfolding letters
+first-small y h =
+    ltb→lt _ 128 (both-left (ltb (getD names y 0 / letter) 128) (ltb (getD names y 0 % letter) 128) (letters-at y h))
+
+pub second-small : (y : ℕ) → y < symbols → getD names y 0 % letter < 128
+unfolding letters
+second-small y h =
+    ltb→lt _ 128 (both-right (ltb (getD names y 0 / letter) 128) (ltb (getD names y 0 % letter) 128) (letters-at y h))

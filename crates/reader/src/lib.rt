@@ -6,7 +6,6 @@
 // lead: what leads an atom in, and what a byte begins.
 // event: what the reader says to the builder.
 // line: the grammar.
-// answer: what the desk says of a line, and the read call.
 pub mod event;
 pub mod lead;
 pub mod line;

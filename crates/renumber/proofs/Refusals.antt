@@ -18,7 +18,8 @@ use Rattle.ways.specs.Ways.{isFixed, even, inversion}
 use Rattle.walk.specs.declared.walker.Walker.{Walker}
 use Rattle.walk.specs.Walk.{Walk, Turn, quiet, moved, tookAt, leftIn, rootOf, leaveOf, numberedOf, ringOf, enteredOf, enterOf, bondTurn, entryOf, atomOf, turnOf, stepOf, walkTo, ringNumbers}
 use Rattle.trek.specs.Trek.{Room, fresh}
-use Rattle.trek.proofs.Moves.{by-test, turn-moves}
+use Rattle.feature.proofs.Cases.{by-test}
+use Rattle.trek.proofs.Moves.{turn-moves}
 use Rattle.trek.proofs.Sound.{Sound, sound-start, step-sound, up-within}
 use Rattle.renumber.specs.Renumber.{Simple}
 use Rattle.renumber.specs.Marks.{Tetrahedral}

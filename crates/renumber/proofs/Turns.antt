@@ -28,7 +28,7 @@ use Rattle.ways.specs.Ways.{saidAs}
 use Rattle.walk.specs.declared.walker.Walker.{Walker}
 use Rattle.walk.specs.Walk.{Walk, Turn, turn, quiet, passed, ringed, moved, pooled, metAt, tookAt, popsOf, popsThen, leftIn, rootOf, leaveOf, numberedOf, ringOf, enteredOf, enterOf, bondTurn, entryOf, atomOf, turnOf, ringNumbers}
 use Rattle.trek.specs.Trek.{degrees}
-use Rattle.trek.proofs.Moves.{by-test}
+use Rattle.feature.proofs.Cases.{by-test}
 use Rattle.trek.proofs.Sound.{Sound}
 use Rattle.trek.proofs.Fits.{count-below}
 use Rattle.renumber.specs.Opened.{Pair, pair, look, del, numIn, joinIn, Opens, full, number, Serves}

@@ -23,7 +23,7 @@ use Rattle.write.specs.declared.answer.Written.{Written}
 use Rattle.write.specs.declared.answer.Written.the-variants.{Done, AtomRoom, BondRoom, OutRoom, BadTable}
 use Rattle.write.specs.Write.{zeros, graphOf, walkIn, saidIn, walkOf, saidOf, lineSaid, refusalOf, atomRoom, bondRoom, Left, left, refusing, putLine, concluded, graphWritten, writeOf}
 use Rattle.trek.specs.Trek.{Room, degrees}
-use Rattle.trek.proofs.Moves.{by-test}
+use Rattle.feature.proofs.Cases.{by-test}
 use Rattle.trek.proofs.Judged.{judged-degrees}
 use Rattle.renumber.specs.Renumber.{Simple, renumbered, told, unplaced, Numbering, Built}
 use Rattle.renumber.specs.Marks.{Tetrahedral}

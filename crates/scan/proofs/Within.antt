@@ -17,7 +17,8 @@ use Rattle.feature.specs.declared.bond_kind.BondKind.the-variants as kind
 use Rattle.feature.specs.Kinds.{aliphatics, aromatics, noConfiguration, al, sp, tb, oh, bracket}
 use Rattle.feature.specs.declared.atom_kind.AtomKind.{AtomKind}
 use Rattle.feature.specs.declared.atom_kind.BracketAtom.{BracketAtom}
-use Rattle.feature.proofs.Names.{names-length}
+use Rattle.feature.proofs.Cases.{by-test}
+use Rattle.feature.proofs.Names.{names-length, second-small}
 use Rattle.feature.proofs.Table as table
 use Rattle.scan.specs.declared.scanner.Part.{Part}
 use Rattle.scan.specs.declared.scanner.Step.{Step}
@@ -28,11 +29,6 @@ use Rattle.scan.specs.declared.read_rnum.Ring.{Ring}
 use Rattle.scan.specs.declared.read_rnum.Ring.the-variants as ring
 use Rattle.scan.specs.Scan.{ended, peekAt, digitOf, digitAt, part, digitStep, numberAt, isotopeAt, hydrogensAt, fifteenAt, signedAt, chargeAt, mapAt, slip, symbolOf, symbolAt, shortAt, longAt, alleneAt, octahedralAt, squareAt, trigonalAt, configurationAt, closeAt, afterMap, afterCharge, afterHydrogens, afterConfiguration, configured, afterSymbol, afterIsotope, insideAt, bracketAt, starAt, optionalAt, wantedAt, organicAt, aromaticOf, aliphaticOf, orElse, otherAt, atomAt, bondOf, markWidth, bondAt, percentAt, rnumAt}
 use Rattle.scan.proofs.Laws.{peek-out}
-
--- what holds of both outcomes of a test, each with what the test says, holds of the one picked
-by-test : {A : Type 0} (P : A → Type 0) (b : Bool) {x y : A} → (b ≡ true → P x) → (b ≡ false → P y) → P (pick b x y)
-by-test P true f g = f refl
-by-test P false f g = g refl
 
 -- ---- bytes and digits
 module _ (s : List ℕ) (at : ℕ) where
@@ -140,14 +136,6 @@ place-found k [] = λ h. absurd (not-suc-le-zero h)
 place-found k (x ∷ xs) =
     by-test (λ (p : ℕ). p < length (x ∷ xs) → getD (x ∷ xs) p 0 ≡ k) (eqb x k) (λ e h. eqb-true x k e)
     (λ e h. place-found k xs (le-of-suc-le-suc h))
-
--- a name's second letter is a byte
-secondSmall : ℕ → ℕ → Bool
-secondSmall k x = ltb (x % letter) 128
-
-second-small : (y : ℕ) → y < symbols → getD names y 0 % letter < 128
-unfolding names secondSmall
-second-small y h = ltb→lt (getD names y 0 % letter) 128 (table.at secondSmall names tt y h)
 
 -- no name has the end mark for its second letter
 second-not-ended : (b d : ℕ) → placeOf (twoLetters b d) names < symbols → d ≡ ended → ⊥

@@ -9,6 +9,7 @@ use lib.ListN.{length, getD, drop, replicate, length-replicate}
 use lib.Seq.{sets, sets-eq}
 use lib.Dec.{eqb}
 use borrow.Author.Tests.{le-leb, lt-leb}
+use Rattle.feature.proofs.Lists.{drop-zeros}
 use Rattle.feature.specs.Pick.{pick}
 use Rattle.feature.specs.Bonds.{codeOf}
 use Rattle.feature.specs.declared.atom_kind.AtomKind.{AtomKind}
@@ -69,17 +70,6 @@ bonds-row (k ∷ ks) f =
 -- the bonds
 pub bonds-upto : (ks : List AtomKind) (rs : List Row) → upto (length ks) (flat rs) ≡ bondTable (nodesOf ks (edgesOf rs))
 bonds-upto ks rs = upto-rows rs (length ks) ∙ sym (bonds-row ks (edgesOf rs))
-
-drop-zeros : (n m : ℕ) → drop n (replicate {A = ℕ} m 0) ≡ replicate (m - n) 0
-drop-zeros zero m =
-    let e : m ≡ m - 0 = omega arith in
-    ap (λ (i : ℕ). replicate i 0) e
-drop-zeros (suc n) zero =
-    let e : 0 ≡ 0 - suc n = omega arith in
-    ap (λ (i : ℕ). replicate i 0) e
-drop-zeros (suc n) (suc m) =
-    let e : m - n ≡ suc m - suc n = omega arith in
-    drop-zeros n m ∙ ap (λ (i : ℕ). replicate i 0) e
 
 -- a table laid over zeros is that table and zeros
 pub laid-padded : (n : ℕ) (t : List ℕ) → length t ≤ n → sets (replicate n 0) 0 t ≡ padded n t

@@ -39,24 +39,6 @@ laid-as {n} {N} {at} {r} {l} {m} a h e =
 pub in-front : {n r : ℕ} {l m xs : List ℕ} → Laid n l 0 xs m r → length xs ≤ length l → m ≡ xs ++ drop (length xs) l
 in-front {n} {r} {l} {m} {xs} a h = a .is ∙ sets-eq xs l 0 (omega arith) ∙ rw zero-add
 
--- the letters of a name are bytes
-letters : ℕ → ℕ → Bool
-letters k x = both (ltb (x / letter) 128) (ltb (x % letter) 128)
-
-letters-at : (y : ℕ) → y < symbols → T (letters y (getD names y 0))
-unfolding names letters
-letters-at y h = at letters names tt y h
-
-pub first-small : (y : ℕ) → y < symbols → getD names y 0 / letter < 128
-unfolding letters
-first-small y h =
-    ltb→lt _ 128 (both-left (ltb (getD names y 0 / letter) 128) (ltb (getD names y 0 % letter) 128) (letters-at y h))
-
-pub second-small : (y : ℕ) → y < symbols → getD names y 0 % letter < 128
-unfolding letters
-second-small y h =
-    ltb→lt _ 128 (both-right (ltb (getD names y 0 / letter) 128) (ltb (getD names y 0 % letter) 128) (letters-at y h))
-
 -- the organic symbols are symbols
 isSymbol : ℕ → ℕ → Bool
 isSymbol k y = ltb y symbols

@@ -12,7 +12,8 @@ use borrow.Author.Tests.{eqb-false, le-leb}
 use Rattle.ways.specs.Graph.{Graph}
 use Rattle.walk.specs.Walk.{Walk, Turn, rootOf, turnOf, stepOf, walkTo, turnsOf}
 use Rattle.trek.specs.Trek.{Room, fresh, degrees, Finished}
-use Rattle.trek.proofs.Moves.{Move, still, skip, root, ends, leaves, takes, refuses, joins, enters, by-test, turn-moves}
+use Rattle.feature.proofs.Cases.{by-test}
+use Rattle.trek.proofs.Moves.{Move, still, skip, root, ends, leaves, takes, refuses, joins, enters, turn-moves}
 use Rattle.trek.proofs.Sums.{unmet, unmet-set, unmet-none, unmet-all, entriesLeft, left-all}
 use Rattle.trek.proofs.Sound.{no, Sound, up-some, sound-start, step-sound}
 use Rattle.trek.proofs.Fits.{left-less}

@@ -12,7 +12,8 @@ use Rattle.writer.specs.Line.{Event, lineOf, writeEvents}
 use Rattle.ways.specs.Graph.{Graph, degreeAt}
 use Rattle.walk.specs.Walk.{Walk, Turn, stepOf, walkTo, eventsOf}
 use Rattle.trek.specs.Trek.{Room, fresh, AllAccepted, degrees}
-use Rattle.trek.proofs.Moves.{Move, still, skip, root, ends, leaves, takes, refuses, joins, enters, by-test, turn-moves, takenOf}
+use Rattle.feature.proofs.Cases.{by-test}
+use Rattle.trek.proofs.Moves.{Move, still, skip, root, ends, leaves, takes, refuses, joins, enters, turn-moves, takenOf}
 use Rattle.trek.proofs.Sums.{entriesLeft, left-taken, left-all}
 use Rattle.trek.proofs.Sound.{Sound, up-within, up-some, sound-start, met-counted, step-sound}
 use Rattle.trek.proofs.Written.{leaves-root, pops-join, pops-extend, write-append, accept-append}

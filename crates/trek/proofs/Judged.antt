@@ -11,7 +11,7 @@ use Rattle.judge.specs.declared.Judged.the-variants.{Bad, Holds}
 use Rattle.judge.specs.Judge.{degreeOf, atomStands, bondStands, atomsFrom, bondsFrom, afterAtoms, badRecord}
 use Rattle.ways.specs.Graph.{Graph, graph, degreeIn}
 use Rattle.trek.specs.Trek.{degrees}
-use Rattle.trek.proofs.Moves.{by-test}
+use Rattle.feature.proofs.Cases.{by-test}
 
 -- what the judge says of the atoms below n: the first bad one is one of them, or they hold no more than m entries
 Says : Graph → ℕ → ℕ → Judged → Type 0

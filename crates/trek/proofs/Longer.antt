@@ -26,7 +26,8 @@ use Rattle.walk.specs.declared.walker.Walker.{Walker}
 use Rattle.walk.specs.Walk.{Walk, Turn, turn, quiet, passed, moved, metAt, tookAt, popsThen, leftIn, rootOf, leaveOf, numberedOf, ringOf, enteredOf, enterOf, bondTurn, entryOf, atomOf, turnOf, stepOf, walkTo, eventsOf}
 use Rattle.trek.specs.Trek.{Room, fresh, Accepts, AllAccepted}
 use Rattle.trek.specs.Longer.{longer, longerGraph, longerWalk, Alike, Lengths, leastWalk, AnyLength, ExactWalk}
-use Rattle.trek.proofs.Moves.{Move, still, skip, root, ends, leaves, takes, refuses, joins, enters, by-test, turn-moves}
+use Rattle.feature.proofs.Cases.{by-test}
+use Rattle.trek.proofs.Moves.{Move, still, skip, root, ends, leaves, takes, refuses, joins, enters, turn-moves}
 use Rattle.trek.proofs.Sound.{Sound, up-within, sound-start, step-sound}
 use Rattle.trek.proofs.Fits.{count-below}
 

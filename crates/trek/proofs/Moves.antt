@@ -8,6 +8,7 @@ use native.Mathlib.Omega.{arith}
 use lib.ListN.{getD}
 use lib.Dec.{leb, eqb}
 use borrow.Author.Tests.{eqb-true, eqb-false, leb-true, leb-false}
+use Rattle.feature.proofs.Cases.{by-test}
 use Rattle.feature.specs.Pick.{pick, both}
 use Rattle.feature.specs.Bonds.{same, reverseOf}
 use Rattle.feature.specs.declared.atom_kind.AtomKind.{AtomKind}
@@ -25,11 +26,6 @@ use Rattle.ways.specs.Graph.{Graph, degreeAt, bondIn, bondOf}
 use Rattle.ways.specs.Ways.{even, scanIn, scanOf, judgedBack, wayOf}
 use Rattle.walk.specs.declared.walker.Walker.{Walker}
 use Rattle.walk.specs.Walk.{Walk, Turn, turn, quiet, refuse, passed, backAt, atEnd, ringed, moved, pooled, metAt, tookAt, popsThen, leftIn, rootOf, leaveOf, numberedOf, ringOf, enteredOf, enterOf, bondTurn, entryOf, atomOf, turnOf}
-
--- a choice by a test, where each side may use what the test said
-pub by-test : {A : Type 0} (P : A → Type 0) (q : Bool) {x y : A} → (q ≡ true → P x) → (q ≡ false → P y) → P (pick q x y)
-by-test P true f g = f refl
-by-test P false f g = g refl
 
 -- how many entries of the standing atom were taken
 abbrev pub takenOf : Walk → ℕ

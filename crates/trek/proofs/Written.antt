@@ -14,7 +14,7 @@ use Rattle.writer.proofs.Pieces.{length-onLast, line-onLast, line-split, long-w
 use Rattle.writer.proofs.Lengths.{atom-short, bond-short, rnum-short, dot-short}
 use Rattle.walk.specs.Walk.{popsOf, popsThen}
 use Rattle.trek.specs.Trek.{AllAccepted}
-use Rattle.trek.proofs.Moves.{by-test}
+use Rattle.feature.proofs.Cases.{by-test}
 
 -- events are taken, and leave n pieces with a line of at most m bytes
 pub record Leaves (most : ℕ) (es : List Event) (ps : List (List ℕ)) (n m : ℕ) : Type 0 where

@@ -12,7 +12,8 @@ use Rattle.writer.specs.Line.{Event, Extend, Join}
 use Rattle.ways.specs.Graph.{Graph}
 use Rattle.walk.specs.Walk.{Walk, Turn, popsOf, popsThen, rootOf, turnOf, stepOf, eventsOf}
 use Rattle.trek.specs.Trek.{Room, fresh}
-use Rattle.trek.proofs.Moves.{Move, still, skip, root, ends, leaves, takes, refuses, joins, enters, by-test, turn-moves}
+use Rattle.feature.proofs.Cases.{by-test}
+use Rattle.trek.proofs.Moves.{Move, still, skip, root, ends, leaves, takes, refuses, joins, enters, turn-moves}
 use Rattle.trek.proofs.Sums.{zeros-at}
 use Rattle.trek.proofs.Sound.{Sound, up-some, sound-start, step-sound, no}
 use Rattle.retell.specs.Retell.{Told}

@@ -29,7 +29,7 @@ use Rattle.walk.specs.declared.walker.Walker.{Walker}
 use Rattle.walk.specs.Walk.{Walk, Turn, quiet, moved, tookAt, popsOf, popsThen, leftIn, rootOf, leaveOf, numberedOf, ringOf, enteredOf, enterOf, bondTurn, entryOf, atomOf, turnOf, stepOf, eventsOf}
 use Rattle.write.specs.Write.{pairWords, zeros}
 use Rattle.trek.specs.Trek.{fresh}
-use Rattle.trek.proofs.Moves.{by-test}
+use Rattle.feature.proofs.Cases.{by-test}
 use Rattle.retell.specs.Retell.{Spelled}
 
 -- ---- kinds

@@ -10,6 +10,7 @@ use lib.ListN.{length, drop, length-replicate}
 use lib.Seq.{sets, sets-eq, length-sets}
 use lib.Dec.{ltb, eqb}
 use borrow.Author.Tests.{lt-ltb, le-ltb, eq-eqb, ne-eqb, ltb-false}
+use Rattle.feature.proofs.Lists.{drop-zeros}
 use Rattle.feature.specs.Pick.{pick}
 use Rattle.graph.specs.Limits.{atomLimit, bondLimit, lesserOf}
 use Rattle.build.specs.Build.{startsOf}
@@ -22,7 +23,7 @@ use Rattle.ways.specs.Graph.{Graph, graph}
 use Rattle.walk.specs.declared.walker.Walker.{Walker}
 use Rattle.walk.specs.Walk.{Walk, walk, startWalker, walkTo, eventsOf, turnsOf}
 use Rattle.trek.specs.Trek.{fresh}
-use Rattle.trek.proofs.Moves.{by-test}
+use Rattle.feature.proofs.Cases.{by-test}
 use Rattle.write.specs.declared.answer.Written.{Written}
 use Rattle.write.specs.declared.answer.Written.the-variants.{Done, OutRoom}
 use Rattle.write.specs.Write.{zeros, pairWords, startIn, walkIn, refusalOf, Left, left, refusing, putLine, ended, concluded, graphWritten}
@@ -57,11 +58,6 @@ few n m h i = omega (arith, h, i)
 pub zeros-self : {o : List ℕ} (n : ℕ) → o ≡ zeros n → o ≡ zeros (length o)
 zeros-self {o} n e =
     e ∙ ap zeros (sym (length-replicate {A = ℕ} n 0) ∙ ap length (sym e))
-
-drop-zeros : (k n : ℕ) → drop k (zeros n) ≡ zeros (n - k)
-drop-zeros zero n = let e : n ≡ n - 0 = omega arith in ap zeros e
-drop-zeros (suc k) zero = let e : 0 ≡ 0 - suc k = omega arith in ap zeros e
-drop-zeros (suc k) (suc n) = let e : n - k ≡ suc n - suc k = omega arith in drop-zeros k n ∙ ap zeros e
 
 laid-out : (room : ℕ) (line : List ℕ) → length line ≤ room → sets (zeros room) 0 line ≡ line ++ zeros (room - length line)
 laid-out room line h =

@@ -20,7 +20,7 @@ use Rattle.walk.specs.declared.walker.Walker.{Walker}
 use Rattle.walk.specs.Walk.{Walk, walkTo, eventsOf, turnsOf, unknownTarget, loop}
 use Rattle.trek.specs.Trek.{Room, fresh}
 use Rattle.trek.specs.Longer.{longer, longerGraph, longerWalk, Lengths, leastWalk, leastSaid, ExactWalk}
-use Rattle.trek.proofs.Moves.{by-test}
+use Rattle.feature.proofs.Cases.{by-test}
 use Rattle.trek.proofs.Accepted.{accepted}
 use Rattle.trek.proofs.Longer.{getD-longer, set-longer, longer-zeros, least-exact, any-length, pieces-alike}
 use Rattle.write.specs.declared.answer.Written.{Written}

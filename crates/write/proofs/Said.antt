@@ -19,7 +19,7 @@ use Rattle.walk.specs.declared.walker.Walker.{Walker}
 use Rattle.ways.specs.Ways.{halfBond, duplicateBond, incompatibleBond, inversion}
 use Rattle.walk.specs.Walk.{turnsOf, unknownTarget, loop}
 use Rattle.trek.specs.Trek.{Room, AllAccepted, degrees, Finished}
-use Rattle.trek.proofs.Moves.{by-test}
+use Rattle.feature.proofs.Cases.{by-test}
 use Rattle.trek.proofs.Accepted.{accepted}
 use Rattle.trek.proofs.Bound.{line-bound}
 use Rattle.trek.proofs.Ended as trek

@@ -1,4 +1,5 @@
-use Rattle.spell.proofs.Laws.{first-small, second-small, laid-then, laid-as}
+use Rattle.feature.proofs.Names.{first-small, second-small}
+use Rattle.spell.proofs.Laws.{laid-then, laid-as}
 use Rattle.spell.specs.Spell.{nameText}
 use borrow.Author.Tests.{eq-eqb, ne-eqb}
 use native.Mathlib.Omega.{arith}
