@@ -171,7 +171,8 @@ pub fn name(symbol: u32) -> u32
     }
 }
 
-// A place in the table that no name with the byte as its first one stands before: the first of them, where there are any.
+// A place in the table before which each name begins with a lower byte. It is where the names with this byte begin, if there
+// are any; a search from any such place finds them.
 fn first_of(byte: u32) -> u32
     ensures { λ r. ⌜ Begun byte r ⌝ }
 {

@@ -76,6 +76,25 @@ impl Builder {
         }
     }
 
+    // The same, field by field: a copy of the whole carries the bytes between the fields along too, and through memory.
+    pub fn afresh(self) -> Builder
+        ensures { λ r. ⌜ r ≡ self ⌝ }
+    {
+        Builder {
+            refusal: self.refusal,
+            carried: self.carried,
+            places: self.places,
+            slots: self.slots,
+            atoms: self.atoms,
+            entries: self.entries,
+            top: self.top,
+            joins: self.joins,
+            failed: self.failed,
+            closing: self.closing,
+            opening: self.opening,
+        }
+    }
+
     pub fn refused(mut self, number: u32, carried: usize) -> Builder
         ensures { λ r. ⌜ r ≡ refusedSt self number carried ⌝ }
     {
@@ -91,10 +110,10 @@ impl Builder {
         let top = self.top;
         if n <= top {
             self.top = top - n;
-        } else {
-            self.top = 0;
+            return self.afresh();
         }
-        self
+        self.top = 0;
+        self.afresh()
     }
 
     // One join more, and one entry.
@@ -137,9 +156,15 @@ fn put_entry(entries: &mut [u32], e: usize, source: u32, kind: u32, target: u32)
     ensures { λ r. ⌜ now (entries .exit) ≡ sets (now (entries .entry)) (e * entryWords) (entryList source kind target) ⌝ }
 {
     let at = e * ENTRY_WORDS;
-    poke(entries, at, source);
-    poke(entries, at + 1, kind);
-    poke(entries, at + 2, target);
+    if at + 2 < entries.len() {
+        entries[at] = source;
+        entries[at + 1] = kind;
+        entries[at + 2] = target;
+    } else {
+        // No room for the last word.
+        poke(entries, at, source);
+        poke(entries, at + 1, kind);
+    }
 }
 
 // A new atom on the path; `held` is how many entries there are then.

@@ -6,7 +6,7 @@ ghost use lib.ListN.{length};
 ghost use Rattle.feature.specs.Text.{byte};
 ghost use Rattle.scan.specs.Scan.{peekAt};
 ghost use Rattle.graph.specs.State.{bld};
-ghost use Rattle.reader.specs.Post.{cameMissing, Ready, AtomRead, RingRead, UnionRead, UnitRead, LineRead, BranchRead};
+ghost use Rattle.reader.specs.Post.{came, cameMissing, Ready, AtomRead, RingRead, UnionRead, UnitRead, LineRead, BranchRead};
 use crate::event::put_atom;
 use crate::event::put_missing;
 use crate::event::put_ring;
@@ -32,12 +32,23 @@ pub struct Came {
     pub b: Builder,
 }
 
+// The builder goes on field by field, so that a line's loop keeps it in registers.
+fn arrive(at: usize, n: usize, b: Builder) -> Came
+    ensures { λ r. ⌜ r ≡ came at n b ⌝ }
+{
+    Came {
+        at,
+        n,
+        b: b.afresh(),
+    }
+}
+
 fn stopped(text: &[u8], at: usize, n: usize, b: Builder) -> Came
     ensures { λ r. ⌜ r ≡ cameMissing (now (text .entry)) at n b ⌝ }
 {
     let m = missing_character(text, at);
     let b = put_missing(b, m);
-    Came { at, n, b }
+    arrive(at, n, b)
 }
 
 // An atom at a place, which is its line's atom n.
@@ -59,15 +70,11 @@ fn line_atom(
         Found::Nothing => stopped(text, at, n, b),
         Found::Lacks(m) => {
             let b = put_missing(b, m);
-            Came { at, n, b }
+            arrive(at, n, b)
         }
         Found::Atom(k, next) => {
             let b = put_atom(atoms, entries, path, b, lead, k, at);
-            Came {
-                at: next,
-                n: n + 1,
-                b,
-            }
+            arrive(next, n + 1, b)
         }
     }
 }
@@ -91,11 +98,11 @@ fn line_ring(
         Ring::Nothing => stopped(text, at, n, b),
         Ring::Lacks(m) => {
             let b = put_missing(b, m);
-            Came { at, n, b }
+            arrive(at, n, b)
         }
         Ring::Number(number, next) => {
             let b = put_ring(entries, path, rings, b, bond, number as usize, at);
-            Came { at: next, n, b }
+            arrive(next, n, b)
         }
     }
 }
@@ -120,15 +127,11 @@ fn line_union(
         Found::Nothing => line_ring(text, at, bond, n, entries, path, rings, b),
         Found::Lacks(m) => {
             let b = put_missing(b, m);
-            Came { at, n, b }
+            arrive(at, n, b)
         }
         Found::Atom(k, next) => {
             let b = put_atom(atoms, entries, path, b, Lead::Bond(bond), k, at);
-            Came {
-                at: next,
-                n: n + 1,
-                b,
-            }
+            arrive(next, n + 1, b)
         }
     }
 }

@@ -16,7 +16,6 @@ use Rattle.writer.specs.declared.Writer.{Writer}
 use Rattle.writer.specs.Line.{Event, Join, Pop}
 use Rattle.writer.specs.Tables as writer
 use Rattle.writer.specs.Tables.{Spoken, sayT, sayAll}
-use Rattle.ways.specs.declared.table.Bond.{Bond}
 use Rattle.ways.specs.Graph.{bondIn}
 use Rattle.walk.specs.declared.walker.Walker.{Walker}
 use Rattle.pool.specs.Strokes.{strokeOf}
@@ -106,10 +105,10 @@ unfolding leftIn
 left-end bonds first back z r a b e d h =
     (h ∙ simp (eq-eqb _ _ (sym e ∙ d)), onward-as h (onward-end z))
 
-pub left-back : (bonds first back : List ℕ) (z r : Walker) (a b : ℕ) (o : Bond) → b ≡ getD back a 0 → b ≢ 0 → o ≡ bondIn bonds first a (b - 1) → r ≡ backAt z (o .to) → (r ≡ leftIn bonds first back z a) × Onward z r
+pub left-back : (bonds first back : List ℕ) (z r : Walker) (a b t : ℕ) → b ≡ getD back a 0 → b ≢ 0 → t ≡ bondIn bonds first a (b - 1) .to → r ≡ backAt z t → (r ≡ leftIn bonds first back z a) × Onward z r
 unfolding leftIn
-left-back bonds first back z r a b o e d f h =
-    (h ∙ ap (λ (x : Bond). backAt z (x .to)) f ∙ ap (λ (x : ℕ). backAt z (bondIn bonds first a (x - 1) .to)) e ∙ simp (ne-eqb _ _ (λ (q : getD back a 0 ≡ 0). d (e ∙ q))), onward-as h (onward-back z _))
+left-back bonds first back z r a b t e d f h =
+    (h ∙ ap (backAt z) f ∙ ap (λ (x : ℕ). backAt z (bondIn bonds first a (x - 1) .to)) e ∙ simp (ne-eqb _ _ (λ (q : getD back a 0 ≡ 0). d (e ∙ q))), onward-as h (onward-back z _))
 
 -- ---- a bond to an atom met before
 told-full : (p : Pool) (g : Given) → strokeOf p g .told ≡ told.Full → g ≡ Full

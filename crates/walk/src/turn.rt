@@ -23,6 +23,7 @@ use ways::table::Bond;
 use ways::table::bond_at;
 use ways::table::degree_at;
 use ways::table::kind_at;
+use ways::table::target_at;
 use writer::Writer;
 use writer::say::say_extend;
 use writer::say::say_join;
@@ -104,7 +105,7 @@ fn leave(bonds: &[u32], first: &[u32], back: &[u32], z: Walker, a: u32) -> Walke
     if b == 0 {
         return z.end();
     }
-    z.leave(bond_at(bonds, first, a, b - 1).to)
+    z.leave(target_at(bonds, first, a, b - 1))
 }
 
 // A bond to an atom met before: a ring number.

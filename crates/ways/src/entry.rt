@@ -5,10 +5,11 @@ ghost use Rattle.feature.specs.Pick.{both};
 ghost use Rattle.feature.specs.Kinds.{invertOf};
 ghost use Rattle.ways.specs.Graph.{graph};
 ghost use Rattle.ways.specs.Ways.{isFixed, even, turnedOr, saidAs, scanIn, wayOf};
-use crate::table::bond_at;
+use crate::table::bond_kind_at;
 use crate::table::degree_at;
 use crate::table::kind_at;
 use crate::table::same_kind;
+use crate::table::target_at;
 use feature::atom_kind::AtomKind;
 use feature::atom_kind::Inverted;
 use feature::atom_kind::invert;
@@ -96,7 +97,7 @@ fn scan_back(bonds: &[u32], first: &[u32], t: u32, s: u32, fixed: bool, n: u32) 
     while left > 0 {
         let place = left;
         left -= 1;
-        if bond_at(bonds, first, t, left).to == s {
+        if target_at(bonds, first, t, left) == s {
             if is_stuck(fixed, left) {
                 return Back::Fixed;
             }
@@ -121,8 +122,7 @@ pub fn find_way(atoms: &[u32], bonds: &[u32], first: &[u32], k: BondKind, s: u32
             if b == 0 {
                 return Way::Refuses(HALF_BOND, s, t);
             }
-            let entry = bond_at(bonds, first, t, b - 1);
-            let kind = entry.kind;
+            let kind = bond_kind_at(bonds, first, t, b - 1);
             if same_kind(kind, reverse(k)) {
                 return Way::Enters(b);
             }

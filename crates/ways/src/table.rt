@@ -1,18 +1,21 @@
 // Atoms and bonds as a walk asks for them. Words that stand for none were refused before; here they are a star, and an
 // elided bond to atom 0, so that no call asks anything of its caller.
 ghost use mathlib.Core.Path.{_≡_};
+ghost use Prim.Native.Nat.{_+_, _*_, _^_, _<_};
+ghost use lib.ListN.{getD};
+ghost use Rattle.record.specs.Words.{bondWords};
 ghost use Rattle.feature.specs.Bonds.{same};
 ghost use Rattle.ways.specs.Graph.{kindIn, degreeIn, bondIn};
 use feature::atom_kind::AtomKind;
 use feature::bond_kind::BondKind;
+use feature::bond_kind::Coded;
 use feature::bond_kind::code;
+use feature::bond_kind::decode;
 use record::ATOM_WORDS;
 use record::BOND_WORDS;
 use record::DEGREE;
-use record::Entry;
 use record::Loaded;
 use record::load;
-use record::load_bond;
 use record::look;
 
 // A bond entry: its kind and its target.
@@ -37,18 +40,41 @@ pub fn degree_at(atoms: &[u32], a: u32) -> u32
     look(atoms, a as usize * ATOM_WORDS + DEGREE)
 }
 
-// The entry i of an atom.
+// Where the entry i of an atom stands.
+fn entry_at(first: &[u32], a: u32, i: u32) -> usize
+    ensures { λ r. ⌜ (r ≡ (getD (now (first .entry)) a 0 + i) * bondWords) × (r < 2 ^ 34) ⌝ }
+{
+    (look(first, a as usize) as usize + i as usize) * BOND_WORDS
+}
+
+// The kind of the entry i of an atom.
+pub fn bond_kind_at(bonds: &[u32], first: &[u32], a: u32, i: u32) -> BondKind
+    ensures { λ r. ⌜ r ≡ bondIn (now (bonds .entry)) (now (first .entry)) a i .kind ⌝ }
+{
+    match decode(look(bonds, entry_at(first, a, i))) {
+        Coded::Kind(k) => k,
+        Coded::Bad => BondKind::Elided,
+    }
+}
+
+// Its target. Kind and target apart: most of the walk asks for one of them.
+pub fn target_at(bonds: &[u32], first: &[u32], a: u32, i: u32) -> u32
+    ensures { λ r. ⌜ r ≡ bondIn (now (bonds .entry)) (now (first .entry)) a i .to ⌝ }
+{
+    let at = entry_at(first, a, i);
+    match decode(look(bonds, at)) {
+        Coded::Kind(_) => look(bonds, at + 1),
+        Coded::Bad => 0,
+    }
+}
+
+// The entry whole.
 pub fn bond_at(bonds: &[u32], first: &[u32], a: u32, i: u32) -> Bond
     ensures { λ r. ⌜ r ≡ bondIn (now (bonds .entry)) (now (first .entry)) a i ⌝ }
 {
-    let at = (look(first, a as usize) as usize + i as usize) * BOND_WORDS;
-    match load_bond(bonds, at) {
-        Entry::Bond(kind, to) => Bond { kind, to },
-        Entry::Bad => Bond {
-            kind: BondKind::Elided,
-            to: 0,
-        },
-    }
+    let kind = bond_kind_at(bonds, first, a, i);
+    let to = target_at(bonds, first, a, i);
+    Bond { kind, to }
 }
 
 pub fn same_kind(j: BondKind, k: BondKind) -> bool

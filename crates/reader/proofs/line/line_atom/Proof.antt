@@ -4,69 +4,55 @@ use Rattle.reader.proofs.Turn.{atom-none, atom-lacks, atom-made}
 use borrow.Author.Needs.{needs}
 use Rattle.reader.proofs.line.line_atom.Statement.{statement}
 use Rattle.reader.proofs.line.line_atom.Tie as tie
-use Rattle.reader.proofs.line.line_atom.Reads as reads
-use Rattle.reader.proofs.line.line_atom.Lts as lts
-use Rattle.reader.proofs.event.put_atom.Reads as put-atom-reads
-use Rattle.reader.proofs.event.put_missing.Reads as put-missing-reads
-use Rattle.reader.proofs.line.stopped.Reads as stopped-reads
-use Rattle.scan.proofs.held.first_atom.Reads as first-atom-reads
 
--- src/line.rt:51:11
 first-atom-requires : tie.Need-first-atom-requires
 first-atom-requires c κs = search needs
 
--- src/line.rt:52:27
 enum-told : tie.Need-enum-told
 enum-told c = search needs
 
--- src/line.rt:52:27
 stopped-requires : tie.Need-stopped-requires
 stopped-requires c κs = search needs
 
--- src/line.rt:53:22
 enum-known-m : tie.Need-enum-known-m
 enum-known-m c = search needs
 
--- src/line.rt:54:17
 put-missing-requires : tie.Need-put-missing-requires
 put-missing-requires c κs = search needs
 
--- src/line.rt:57:21
+arrive-requires : tie.Need-arrive-requires
+arrive-requires c κs = search needs
+
 enum-known-k : tie.Need-enum-known-k
 enum-known-k c = search needs
 
--- src/line.rt:58:17
 put-atom-requires : tie.Need-put-atom-requires
 put-atom-requires c κs = search needs
 
--- src/line.rt:61:20
-add-t22 : tie.Need-add-t22
-add-t22 c = search needs
+add-arrive : tie.Need-add-arrive
+add-arrive c = search needs
 
--- src/line.rt:37:1
+arrive-requires-2 : tie.Need-arrive-requires-2
+arrive-requires-2 c κs = search needs
+
 returns : tie.Need-returns
 unfolding cameMissing
 returns c = λ s. simp (c .stopped .ensures) (atom-none _ _ _ _ (c .before .before .before .before .before .before .before .before .pre .0) (c .before .before .before .before .before .before .before .before .pre .1) _ (sym (c .before .before .before .first-atom .ensures) ∙ c .before .enum-told .given .1))
 
--- src/line.rt:37:1
 returns-2 : tie.Need-returns-2
-returns-2 c = λ s. simp (c .put-missing .ensures) (atom-lacks _ _ _ _ (c .before .before .before .before .before .before .before .before .before .pre .0) (c .before .before .before .before .before .before .before .before .before .pre .1) _ _ (sym (c .before .before .before .before .first-atom .ensures) ∙ c .before .before .m .given .1))
+returns-2 c = λ s. simp (c .arrive .ensures, c .before .put-missing .ensures) (atom-lacks _ _ _ _ (c .before .before .before .before .before .before .before .before .before .before .pre .0) (c .before .before .before .before .before .before .before .before .before .before .pre .1) _ _ (sym (c .before .before .before .before .before .first-atom .ensures) ∙ c .before .before .before .m .given .1))
 
--- src/line.rt:37:1
 same-length : tie.Need-same-length
 same-length c = search needs
 
--- src/line.rt:37:1
 same-length-2 : tie.Need-same-length-2
 same-length-2 c = search needs
 
--- src/line.rt:37:1
 same-length-3 : tie.Need-same-length-3
 same-length-3 c = search needs
 
--- src/line.rt:37:1
 returns-3 : tie.Need-returns-3
-returns-3 c = λ s. atom-made _ _ _ _ (c .before .before .before .before .before .before .before .before .before .before .before .before .before .before .before .before .before .before .pre .0) (c .before .before .before .before .before .before .before .before .before .before .before .before .before .before .before .before .before .before .pre .1) _ _ _ (sym (c .before .before .before .before .before .before .before .before .before .before .before .before .before .first-atom .ensures) ∙ c .before .before .before .before .before .before .before .before .before .before .before .k .given .1) _ (c .before .before .before .before .before .before .put-atom .ensures s)
+returns-3 c = λ s. simp (c .arrive2 .ensures) (atom-made _ _ _ _ (c .before .before .before .before .before .before .before .before .before .before .before .before .before .before .before .before .before .before .before .pre .0) (c .before .before .before .before .before .before .before .before .before .before .before .before .before .before .before .before .before .before .before .pre .1) _ _ _ (sym (c .before .before .before .before .before .before .before .before .before .before .before .before .before .before .first-atom .ensures) ∙ c .before .before .before .before .before .before .before .before .before .before .before .before .k .given .1) _ (c .before .before .before .before .before .before .before .put-atom .ensures s))
 
 pub line-atom-spec : {M : Type 1} → statement M
 line-atom-spec =
@@ -77,9 +63,11 @@ line-atom-spec =
     stopped-requires
     enum-known-m
     put-missing-requires
+    arrive-requires
     enum-known-k
     put-atom-requires
-    add-t22
+    add-arrive
+    arrive-requires-2
     returns
     returns-2
     same-length

@@ -13,17 +13,17 @@ end-requires c κs = search needs
 returns : tie.Need-returns
 returns c = left-end _ _ _ _ _ _ _ (c .before .before .look .ensures) (c .before .if1 .taken) (c .end .ensures)
 
-sub-bond-at : tie.Need-sub-bond-at
-sub-bond-at c = search needs
+sub-target-at : tie.Need-sub-target-at
+sub-target-at c = search needs
 
-bond-at-requires : tie.Need-bond-at-requires
-bond-at-requires c κs = search needs
+target-at-requires : tie.Need-target-at-requires
+target-at-requires c κs = search needs
 
 leave-requires : tie.Need-leave-requires
 leave-requires c κs = search needs
 
 returns-2 : tie.Need-returns-2
-returns-2 c = left-back _ _ _ _ _ _ _ _ (c .before .before .before .look .ensures) (c .before .before .if1 .left) (c .before .bond-at .ensures) (c .leave .ensures)
+returns-2 c = left-back _ _ _ _ _ _ _ _ (c .before .before .before .look .ensures) (c .before .before .if1 .left) (c .before .target-at .ensures) (c .leave .ensures)
 
 pub leave-spec : {M : Type 1} → statement M
 leave-spec =
@@ -32,7 +32,7 @@ leave-spec =
     look-requires
     end-requires
     returns
-    sub-bond-at
-    bond-at-requires
+    sub-target-at
+    target-at-requires
     leave-requires
     returns-2)

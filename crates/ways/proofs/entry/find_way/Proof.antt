@@ -30,11 +30,11 @@ returns : tie.Need-returns
 unfolding wayOf judgedBack
 returns c = λ n. simp (← c .before .before .before .before .before .before .before .kind-at .ensures, ← c .before .before .before .before .before .before .is-fixed .ensures, ← c .before .before .before .before .before .degree-at .ensures, ← c .before .before .before .before .scan-back .ensures, c .before .before .b .given .1, eq-eqb _ _ (c .if1 .taken))
 
-sub-bond-at : tie.Need-sub-bond-at
-sub-bond-at c = search needs
+sub-bond-kind-at : tie.Need-sub-bond-kind-at
+sub-bond-kind-at c = search needs
 
-bond-at-requires : tie.Need-bond-at-requires
-bond-at-requires c κs = search needs
+bond-kind-at-requires : tie.Need-bond-kind-at-requires
+bond-kind-at-requires c κs = search needs
 
 reverse-requires : tie.Need-reverse-requires
 reverse-requires c κs = search needs
@@ -44,7 +44,7 @@ same-kind-requires c κs = search needs
 
 returns-2 : tie.Need-returns-2
 unfolding wayOf judgedBack
-returns-2 c = λ n. simp (← c .before .before .before .before .before .before .before .before .before .before .before .kind-at .ensures, ← c .before .before .before .before .before .before .before .before .before .before .is-fixed .ensures, ← c .before .before .before .before .before .before .before .before .before .degree-at .ensures, ← c .before .before .before .before .before .before .before .before .scan-back .ensures, c .before .before .before .before .before .before .b .given .1, ne-eqb _ _ (c .before .before .before .before .if1 .left), ← c .before .before .before .bond-at .ensures, ← c .before .before .reverse .ensures, ← c .before .same-kind .ensures, c .if2 .taken)
+returns-2 c = λ n. simp (← c .before .before .before .before .before .before .before .before .before .before .before .kind-at .ensures, ← c .before .before .before .before .before .before .before .before .before .before .is-fixed .ensures, ← c .before .before .before .before .before .before .before .before .before .degree-at .ensures, ← c .before .before .before .before .before .before .before .before .scan-back .ensures, c .before .before .before .before .before .before .b .given .1, ne-eqb _ _ (c .before .before .before .before .if1 .left), ← c .before .before .before .bond-kind-at .ensures, ← c .before .before .reverse .ensures, ← c .before .same-kind .ensures, c .if2 .taken)
 
 returns-3 : tie.Need-returns-3
 unfolding wayOf judgedBack
@@ -56,7 +56,7 @@ returns-4 c = λ n. simp (← c .before .before .before .before .before .kind-at
 
 returns-5 : tie.Need-returns-5
 unfolding wayOf judgedBack
-returns-5 c = λ n. simp (← c .before .before .before .before .before .before .before .before .before .before .before .kind-at .ensures, ← c .before .before .before .before .before .before .before .before .before .before .is-fixed .ensures, ← c .before .before .before .before .before .before .before .before .before .degree-at .ensures, ← c .before .before .before .before .before .before .before .before .scan-back .ensures, c .before .before .before .before .before .before .b .given .1, ne-eqb _ _ (c .before .before .before .before .if1 .left), ← c .before .before .before .bond-at .ensures, ← c .before .before .reverse .ensures, ← c .before .same-kind .ensures, c .if2 .left)
+returns-5 c = λ n. simp (← c .before .before .before .before .before .before .before .before .before .before .before .kind-at .ensures, ← c .before .before .before .before .before .before .before .before .before .before .is-fixed .ensures, ← c .before .before .before .before .before .before .before .before .before .degree-at .ensures, ← c .before .before .before .before .before .before .before .before .scan-back .ensures, c .before .before .before .before .before .before .b .given .1, ne-eqb _ _ (c .before .before .before .before .if1 .left), ← c .before .before .before .bond-kind-at .ensures, ← c .before .before .reverse .ensures, ← c .before .same-kind .ensures, c .if2 .left)
 
 pub find-way-spec : {M : Type 1} → statement M
 find-way-spec =
@@ -70,8 +70,8 @@ find-way-spec =
     enum-told-2
     enum-known-b
     returns
-    sub-bond-at
-    bond-at-requires
+    sub-bond-kind-at
+    bond-kind-at-requires
     reverse-requires
     same-kind-requires
     returns-2

@@ -19,29 +19,29 @@ loop-holds c = refl
 sub-left : tie.Need-sub-left Inv-loop μ-loop
 sub-left c = search needs
 
-bond-at-requires : tie.Need-bond-at-requires Inv-loop μ-loop
-bond-at-requires c κs = search needs
+target-at-requires : tie.Need-target-at-requires Inv-loop μ-loop
+target-at-requires c κs = search needs
 
 is-stuck-requires : tie.Need-is-stuck-requires Inv-loop μ-loop
 is-stuck-requires c κs = search needs
 
 returns : tie.Need-returns Inv-loop μ-loop
-returns c = sym (fixed-here _ _ _ _ _ _ _ _ _ (c .before .before .before .before .before .loop-test .taken) (c .before .before .before .before .bond-at .ensures) (c .before .before .if1 .taken) (c .before .is-stuck .ensures) (c .if2 .taken)) ∙ c .before .before .before .before .before .before .loop .inv
+returns c = sym (fixed-here _ _ _ _ _ _ _ _ _ (c .before .before .before .before .loop-test .taken) (c .before .before .before .target-at .ensures) (c .before .before .if1 .taken) (c .before .is-stuck .ensures) (c .if2 .taken)) ∙ c .before .before .before .before .before .loop .inv
 
 returns-2 : tie.Need-returns-2 Inv-loop μ-loop
-returns-2 c = sym (twice-here _ _ _ _ _ _ _ _ _ (c .before .before .before .before .before .before .loop-test .taken) (c .before .before .before .before .before .bond-at .ensures) (c .before .before .before .if1 .taken) (c .before .before .is-stuck .ensures) (c .before .if2 .left) (c .if3 .taken)) ∙ c .before .before .before .before .before .before .before .loop .inv
+returns-2 c = sym (twice-here _ _ _ _ _ _ _ _ _ (c .before .before .before .before .before .loop-test .taken) (c .before .before .before .before .target-at .ensures) (c .before .before .before .if1 .taken) (c .before .before .is-stuck .ensures) (c .before .if2 .left) (c .if3 .taken)) ∙ c .before .before .before .before .before .before .loop .inv
 
 loop-less : tie.Need-loop-less Inv-loop μ-loop
 loop-less c = search needs
 
 loop-again : tie.Need-loop-again Inv-loop μ-loop
-loop-again c = sym (found-here _ _ _ _ _ _ _ _ _ (c .before .before .before .before .before .before .loop-test .taken) (c .before .before .before .before .before .bond-at .ensures) (c .before .before .before .if1 .taken) (c .before .before .is-stuck .ensures) (c .before .if2 .left) (c .if3 .left)) ∙ c .before .before .before .before .before .before .before .loop .inv
+loop-again c = sym (found-here _ _ _ _ _ _ _ _ _ (c .before .before .before .before .before .loop-test .taken) (c .before .before .before .before .target-at .ensures) (c .before .before .before .if1 .taken) (c .before .before .is-stuck .ensures) (c .before .if2 .left) (c .if3 .left)) ∙ c .before .before .before .before .before .before .loop .inv
 
 loop-less-2 : tie.Need-loop-less-2 Inv-loop μ-loop
 loop-less-2 c = search needs
 
 loop-again-2 : tie.Need-loop-again-2 Inv-loop μ-loop
-loop-again-2 c = sym (later _ _ _ _ _ _ _ _ (c .before .before .before .loop-test .taken) (c .before .before .bond-at .ensures) (c .if1 .left)) ∙ c .before .before .before .before .loop .inv
+loop-again-2 c = sym (later _ _ _ _ _ _ _ _ (c .before .before .loop-test .taken) (c .before .target-at .ensures) (c .if1 .left)) ∙ c .before .before .before .loop .inv
 
 returns-3 : tie.Need-returns-3 Inv-loop μ-loop
 returns-3 c = at-end _ _ _ _ _ _ _ (search needs) ∙ c .before .loop .inv
@@ -54,7 +54,7 @@ scan-back-spec =
     μ-loop
     loop-holds
     sub-left
-    bond-at-requires
+    target-at-requires
     is-stuck-requires
     returns
     returns-2
