@@ -156,14 +156,27 @@ fn put_entry(entries: &mut [u32], e: usize, source: u32, kind: u32, target: u32)
     ensures { λ r. ⌜ now (entries .exit) ≡ sets (now (entries .entry)) (e * entryWords) (entryList source kind target) ⌝ }
 {
     let at = e * ENTRY_WORDS;
-    if at + 2 < entries.len() {
+    poke(entries, at, source);
+    poke(entries, at + 1, kind);
+    poke(entries, at + 2, target);
+}
+
+// The two entries of a bond, one after the other: where there is room for both, as always, one test does.
+fn put_bond(entries: &mut [u32], e: usize, source: u32, kind: u32, target: u32, reversed: u32)
+    requires { ⌜ e < 2 ^ 32 ⌝ }
+    ensures { λ r. ⌜ now (entries .exit) ≡ sets (sets (now (entries .entry)) (e * entryWords) (entryList source kind target)) ((e + 1) * entryWords) (entryList target reversed source) ⌝ }
+{
+    let at = e * ENTRY_WORDS;
+    if at + 5 < entries.len() {
         entries[at] = source;
         entries[at + 1] = kind;
         entries[at + 2] = target;
+        entries[at + 3] = target;
+        entries[at + 4] = reversed;
+        entries[at + 5] = source;
     } else {
-        // No room for the last word.
-        poke(entries, at, source);
-        poke(entries, at + 1, kind);
+        put_entry(entries, e, source, kind, target);
+        put_entry(entries, e + 1, target, reversed, source);
     }
 }
 
@@ -211,8 +224,7 @@ fn attach(
     let e = b.entries;
     let n = b.atoms as u32;
     let source = look(path, b.top - 1);
-    put_entry(entries, e, source, code(k), n);
-    put_entry(entries, e + 1, n, code(reverse(k)), source);
+    put_bond(entries, e, source, code(k), n, code(reverse(k)));
     enter(atoms, path, b, t, e + 2)
 }
 

@@ -11,8 +11,7 @@ use borrow.Author.Tests.{eq-eqb, ne-eqb}
 use Rattle.feature.specs.Pick.{pick}
 use Rattle.feature.specs.declared.atom_kind.AtomKind.{AtomKind}
 use Rattle.feature.specs.declared.bond_kind.BondKind.{BondKind}
-use Rattle.ways.specs.declared.table.Bond.{Bond}
-use Rattle.ways.specs.Graph.{Graph, degreeAt}
+use Rattle.ways.specs.Graph.{Bond, Graph, degreeAt}
 use Rattle.trek.specs.Trek.{degrees}
 use Rattle.sketch.specs.Sketch.{Edge, Node, countOf, upd, addEdge, waits, fillEdges, fill}
 use Rattle.renumber.specs.Opened.{Pair}

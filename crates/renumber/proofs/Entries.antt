@@ -9,8 +9,7 @@ use lib.ListN.{length, length-append}
 use lib.Dec.{leb}
 use borrow.Author.Tests.{eq-eqb, ne-eqb, leb-true, leb-false}
 use Rattle.feature.specs.Bonds.{reverseOf}
-use Rattle.ways.specs.declared.table.Bond.{Bond}
-use Rattle.ways.specs.Graph.{Graph, degreeAt, bondOf}
+use Rattle.ways.specs.Graph.{Bond, Graph, degreeAt, bondOf}
 use Rattle.renumber.specs.Renumber.{Backed, Simple, othersOf, parentEntry, doneOf, entriesOf}
 use Rattle.renumber.proofs.Lists.{same-refl, same-eq, same-ne, true≢false, by-eq, by-bool, or-true, or-true-left}
 use Rattle.renumber.proofs.View.{hasT, kindT, NodupB, bnil, bcons}

@@ -22,8 +22,7 @@ use Rattle.reader.specs.Events.{Event, Enter, Join, Pop}
 use Rattle.writer.specs.Line as writer
 use Rattle.graph.specs.State.{atomRoom, bondRoom}
 use Rattle.sketch.specs.Sketch.{To, Open, Node, Held, None, Sketch, edge, node, held, refused, grown, joined, numberOf, countOf, upd, edgesAt, addEdge, openKind, fill, lookup, without, rootS, bondedS, extendS, openedS, closedS, ringS, joinS, enterS, numberS, stepS, runS}
-use Rattle.ways.specs.declared.table.Bond.{Bond}
-use Rattle.ways.specs.Graph.{Graph, bond}
+use Rattle.ways.specs.Graph.{Bond, Graph, bond}
 use Rattle.walk.specs.Walk.{popsOf}
 use Rattle.trek.specs.Trek.{degrees}
 use Rattle.renumber.specs.Opened.{same, Pair, pair, look, del, numIn, joinIn, Distinct}

@@ -7,7 +7,7 @@ use mathlib.Core.Option.{Option, none, some}
 use mathlib.Core.Bool.{Bool, true, false, not, _&&_, _||_}
 use Prim.Native.Nat.{ℕ}
 use borrow.Author.Tests.{eq-eqb, ne-eqb}
-use Rattle.ways.specs.declared.table.Bond.{Bond}
+use Rattle.ways.specs.Graph.{Bond}
 use Rattle.sketch.specs.Sketch.{Held, held, lookup, without}
 use Rattle.renumber.specs.Opened.{same, Pair, pair, pairIs, look, del, numIn, joinIn, Distinct, dnil, dcons}
 use Rattle.renumber.proofs.Lists.{memb, idx, same-refl, same-eq, same-ne, eq-of-same, true≢false, by-eq, by-bool, and-false, and-left, idx-app, or-true, or-true-left, or-false, memb-left}

@@ -11,9 +11,8 @@ use borrow.Author.Tests.{eqb-true, leb-true, leb-false}
 use Rattle.feature.specs.Pick.{both}
 use Rattle.pool.specs.declared.Given.{Given}
 use Rattle.pool.specs.declared.Given.the-variants.{Number, Full}
-use Rattle.ways.specs.declared.table.Bond.{Bond}
 use Rattle.ways.specs.declared.entry.Way.{Way}
-use Rattle.ways.specs.Graph.{Graph, kindAt, degreeAt, bondOf}
+use Rattle.ways.specs.Graph.{Bond, Graph, kindAt, degreeAt, bondOf}
 use Rattle.ways.specs.Ways.{isFixed, even, inversion}
 use Rattle.walk.specs.declared.walker.Walker.{Walker}
 use Rattle.walk.specs.Walk.{Walk, Turn, quiet, moved, tookAt, leftIn, rootOf, leaveOf, numberedOf, ringOf, enteredOf, enterOf, bondTurn, entryOf, atomOf, turnOf, stepOf, walkTo, ringNumbers}

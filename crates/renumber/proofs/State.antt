@@ -13,8 +13,7 @@ use Rattle.feature.specs.Pick.{pick}
 use Rattle.feature.specs.Bonds.{reverseOf}
 use Rattle.feature.specs.declared.atom_kind.AtomKind.{AtomKind}
 use Rattle.pool.specs.declared.Pool.{Pool}
-use Rattle.ways.specs.declared.table.Bond.{Bond}
-use Rattle.ways.specs.Graph.{Graph, kindAt, degreeAt, bondIn, bondOf, bond}
+use Rattle.ways.specs.Graph.{Bond, Graph, kindAt, degreeAt, bondIn, bondOf, bond}
 use Rattle.walk.specs.declared.walker.Walker.{Walker}
 use Rattle.walk.specs.Walk.{Walk, passed, backAt, atEnd, ringed, moved, pooled, metAt, tookAt}
 use Rattle.trek.proofs.Moves.{parentOf}

@@ -22,8 +22,7 @@ use Rattle.graph.specs.Limits.{atomLimit}
 use Rattle.build.specs.Build as build
 use Rattle.build.proofs.Degrees.{startsOf-length}
 use Rattle.sketch.specs.Sketch.{To, Edge, Node, edge, node, countOf, atomTable, targetOf, edgeTable, bondTable, padded}
-use Rattle.ways.specs.declared.table.Bond.{Bond}
-use Rattle.ways.specs.Graph.{Graph, kindAt, degreeAt, bondOf, bond, kindOr, bondOr, kindIn, degreeIn, bondIn}
+use Rattle.ways.specs.Graph.{Bond, Graph, kindAt, degreeAt, bondOf, bond, kindOr, bondOr, kindIn, degreeIn, bondIn}
 use Rattle.walk.specs.Walk.{Walk}
 use Rattle.write.specs.Write.{zeros, graphOf}
 use Rattle.trek.specs.Trek.{degrees}

@@ -12,8 +12,7 @@ use borrow.Author.Tests.{eq-eqb, ne-eqb}
 use Rattle.feature.specs.Pick.{pick, both}
 use Rattle.pool.specs.declared.Pool.{Pool}
 use Rattle.sketch.specs.Sketch.{To, Edge, Sketch, node, startS, runS, countOf, openHere, openIn, firstOpenS, ringsSay, saysS, finishS}
-use Rattle.ways.specs.declared.table.Bond.{Bond}
-use Rattle.ways.specs.Graph.{Graph, kindAt, degreeAt, bondOf}
+use Rattle.ways.specs.Graph.{Bond, Graph, kindAt, degreeAt, bondOf}
 use Rattle.walk.specs.Walk.{Walk, Turn, stepOf, turnOf, walkTo, eventsOf, turnsOf, ringNumbers}
 use Rattle.write.specs.Write.{pairWords}
 use Rattle.trek.specs.Trek.{Room, fresh, degrees, Finished}

@@ -21,9 +21,8 @@ use Rattle.reader.specs.declared.lead.Lead.the-variants as lead
 use Rattle.reader.specs.Events as reader
 use Rattle.writer.specs.Line.{Event, Root, Extend, Join}
 use Rattle.sketch.specs.Sketch.{Sketch, countOf, stepS, runS}
-use Rattle.ways.specs.declared.table.Bond.{Bond}
 use Rattle.ways.specs.declared.entry.Way.{Way}
-use Rattle.ways.specs.Graph.{Graph, kindAt, degreeAt, bondOf, bond}
+use Rattle.ways.specs.Graph.{Bond, Graph, kindAt, degreeAt, bondOf, bond}
 use Rattle.ways.specs.Ways.{saidAs}
 use Rattle.walk.specs.declared.walker.Walker.{Walker}
 use Rattle.walk.specs.Walk.{Walk, Turn, turn, quiet, passed, ringed, moved, pooled, metAt, tookAt, popsOf, popsThen, leftIn, rootOf, leaveOf, numberedOf, ringOf, enteredOf, enterOf, bondTurn, entryOf, atomOf, turnOf, ringNumbers}

@@ -13,8 +13,7 @@ use Rattle.feature.specs.declared.atom_kind.AtomKind.{AtomKind}
 use Rattle.feature.specs.declared.bond_kind.BondKind.{BondKind}
 use Rattle.feature.specs.declared.bond_kind.BondKind.the-variants.{Elided}
 use Rattle.sketch.specs.Sketch.{Target, To, Open, Edge, Node, edge, node, upd, edgesAt, addEdge, waits, openKind, fillEdges, fill}
-use Rattle.ways.specs.declared.table.Bond.{Bond}
-use Rattle.ways.specs.Graph.{bond}
+use Rattle.ways.specs.Graph.{Bond, bond}
 use Rattle.renumber.specs.Opened.{same, Pair, pair, pairIs, look, del}
 use Rattle.renumber.proofs.Lists.{memb, idx, Nodup, same-refl, same-eq, same-ne, eq-of-same, true≢false, by-eq, by-bool, and-false, and-left, and-right, idx-app, idx-new, map-same, map-upd, map-app, or-true}
 

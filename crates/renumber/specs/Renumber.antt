@@ -16,8 +16,7 @@ use Rattle.writer.specs.Line as writer
 use Rattle.build.specs.declared.Built.the-variants.{Done}
 use Rattle.sketch.specs.Sketch.{To, Edge, Node, None, Sketch, edge, node, numberOf, countOf, finishS, atomTable, bondTable, leftS}
 use Rattle.write.specs.Write.{graphOf}
-use Rattle.ways.specs.declared.table.Bond.{Bond}
-use Rattle.ways.specs.Graph.{Graph, kindAt, degreeAt, bondOf, bond}
+use Rattle.ways.specs.Graph.{Bond, Graph, kindAt, degreeAt, bondOf, bond}
 use Rattle.ways.specs.Ways.{saidAs, turnedOr}
 use Rattle.walk.specs.Walk.{Walk}
 

@@ -14,12 +14,11 @@ use Rattle.pool.specs.declared.Given.{Given}
 use Rattle.pool.specs.declared.Given.the-variants.{Number, Full}
 use Rattle.pool.specs.Pairs.{hitOf}
 use Rattle.writer.specs.Line.{Event, Root, Extend, Join, Pop, addPiece, writeEvent, writeEvents}
-use Rattle.ways.specs.declared.table.Bond.{Bond}
 use Rattle.ways.specs.declared.entry.Back.{Back}
 use Rattle.ways.specs.declared.entry.Back.the-variants.{Found, Twice, Fixed}
 use Rattle.ways.specs.declared.entry.Way.{Way}
 use Rattle.ways.specs.declared.entry.Way.the-variants.{Enters, Refuses}
-use Rattle.ways.specs.Graph.{Graph, bondIn, bondOf, bondOr, kindAt, degreeAt}
+use Rattle.ways.specs.Graph.{Bond, Graph, bondIn, bondOf, bondOr, kindAt, degreeAt}
 use Rattle.record.specs.Words.{bondAt, bondWords}
 use Rattle.ways.specs.Ways.{saidAs, scanIn, scanOf, judgedBack, wayOf}
 use Rattle.walk.specs.declared.walker.Walker.{Walker}

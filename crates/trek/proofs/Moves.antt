@@ -17,12 +17,11 @@ use Rattle.pool.specs.declared.Pool.{Pool}
 use Rattle.pool.specs.declared.Given.{Given}
 use Rattle.pool.specs.declared.Given.the-variants.{Number, Full}
 use Rattle.writer.specs.Line.{Root, Extend, Join}
-use Rattle.ways.specs.declared.table.Bond.{Bond}
 use Rattle.ways.specs.declared.entry.Back.{Back}
 use Rattle.ways.specs.declared.entry.Back.the-variants.{Found, Twice, Fixed}
 use Rattle.ways.specs.declared.entry.Way.{Way}
 use Rattle.ways.specs.declared.entry.Way.the-variants.{Enters, Refuses}
-use Rattle.ways.specs.Graph.{Graph, degreeAt, bondIn, bondOf}
+use Rattle.ways.specs.Graph.{Bond, Graph, degreeAt, bondIn, bondOf}
 use Rattle.ways.specs.Ways.{even, scanIn, scanOf, judgedBack, wayOf}
 use Rattle.walk.specs.declared.walker.Walker.{Walker}
 use Rattle.walk.specs.Walk.{Walk, Turn, turn, quiet, refuse, passed, backAt, atEnd, ringed, moved, pooled, metAt, tookAt, popsThen, leftIn, rootOf, leaveOf, numberedOf, ringOf, enteredOf, enterOf, bondTurn, entryOf, atomOf, turnOf}

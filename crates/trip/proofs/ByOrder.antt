@@ -5,8 +5,7 @@ use mathlib.Core.List.{List}
 use native.Mathlib.Omega.{arith}
 use lib.ListN.{getD, take}
 use Rattle.read.specs.Line.{lineOf}
-use Rattle.ways.specs.declared.table.Bond.{Bond}
-use Rattle.ways.specs.Graph.{Graph, bond}
+use Rattle.ways.specs.Graph.{Bond, Graph, bond}
 use Rattle.walk.specs.Walk.{Walk}
 use Rattle.write.specs.declared.answer.Written.the-variants.{Done}
 use Rattle.write.specs.Write.{graphOf, walkOf, Left, left, writeOf}

@@ -20,10 +20,9 @@ use Rattle.pool.specs.declared.Given.{Given}
 use Rattle.pool.specs.declared.Given.the-variants.{Number, Full}
 use Rattle.pool.specs.Pairs.{Hits, highest, slotWords, opens, numberOf, slot, grown, counterOf, nextOf, openOf, closeOf, calledOf, pairOf, hitOf}
 use Rattle.writer.specs.Line.{Event, Root, Extend, Join, Pop}
-use Rattle.ways.specs.declared.table.Bond.{Bond}
 use Rattle.ways.specs.declared.entry.Way.{Way}
 use Rattle.ways.specs.declared.entry.Way.the-variants.{Enters, Refuses}
-use Rattle.ways.specs.Graph.{Graph, kindAt, degreeAt, bondOf}
+use Rattle.ways.specs.Graph.{Bond, Graph, kindAt, degreeAt, bondOf}
 use Rattle.ways.specs.Ways.{turnedOr, even, saidAs, wayOf}
 use Rattle.walk.specs.declared.walker.Walker.{Walker}
 use Rattle.walk.specs.Walk.{Walk, Turn, quiet, moved, tookAt, popsOf, popsThen, leftIn, rootOf, leaveOf, numberedOf, ringOf, enteredOf, enterOf, bondTurn, entryOf, atomOf, turnOf, stepOf, eventsOf}

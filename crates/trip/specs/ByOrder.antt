@@ -8,8 +8,7 @@ use Rattle.feature.specs.declared.bond_kind.BondKind.the-variants.{Elided}
 use Rattle.read.specs.declared.Answer.the-variants as answer
 use Rattle.read.specs.Read.{Said}
 use Rattle.read.specs.Line.{lineOf}
-use Rattle.ways.specs.declared.table.Bond.{Bond}
-use Rattle.ways.specs.Graph.{Graph, kindAt, degreeAt, bondOf, bond}
+use Rattle.ways.specs.Graph.{Bond, Graph, kindAt, degreeAt, bondOf, bond}
 use Rattle.write.specs.declared.answer.Written.the-variants.{Done}
 use Rattle.write.specs.Write.{graphOf, left, writeOf}
 use Rattle.write.specs.Order.{Order, orderOf}

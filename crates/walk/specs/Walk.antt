@@ -18,10 +18,9 @@ use Rattle.pool.specs.declared.Given.the-variants.{Number, Full}
 use Rattle.pool.specs.Pairs.{hitOf, emptyOf}
 use Rattle.pool.specs.declared.lent.Stroke.{Stroke}
 use Rattle.writer.specs.Line.{Event, Root, Extend, Join, Pop}
-use Rattle.ways.specs.declared.table.Bond.{Bond}
 use Rattle.ways.specs.declared.entry.Way.{Way}
 use Rattle.ways.specs.declared.entry.Way.the-variants.{Enters, Refuses}
-use Rattle.ways.specs.Graph.{Graph, kindAt, degreeAt, bondIn, bondOf}
+use Rattle.ways.specs.Graph.{Bond, Graph, kindAt, degreeAt, bondIn, bondOf}
 use Rattle.ways.specs.Ways.{saidAs, wayOf}
 use Rattle.walk.specs.declared.walker.Walker.{Walker}
 use Rattle.walk.specs.declared.walker.Numbered.{Numbered}

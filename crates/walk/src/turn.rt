@@ -5,7 +5,7 @@ ghost use mathlib.Core.List.{List};
 ghost use Prim.Native.Nat.{ℕ, _+_, _<_};
 ghost use lib.ListN.{set};
 ghost use Rattle.writer.specs.Tables.{spoken, sayAll};
-ghost use Rattle.ways.specs.Graph.{graph};
+ghost use Rattle.ways.specs.Graph.{graph, bond};
 ghost use Rattle.writer.specs.Tables as writer;
 ghost use Rattle.walk.specs.Walk.{walk, standingAt, popsOf, rootOf, leftIn, ringOf, enterOf, bondTurn, atomOf, turnOf, Did, far, Near, Onward, Grows};
 use crate::walker::LOOP;
@@ -19,10 +19,11 @@ use record::poke;
 use ways::entry::Way;
 use ways::entry::find_way;
 use ways::entry::said_as;
-use ways::table::Bond;
-use ways::table::bond_at;
 use ways::table::degree_at;
+use ways::table::entry_at;
 use ways::table::kind_at;
+use ways::table::sure_kind;
+use ways::table::sure_target;
 use ways::table::target_at;
 use writer::Writer;
 use writer::say::say_extend;
@@ -179,7 +180,7 @@ fn enter(
     }
 }
 
-// A bond of the atom s.
+// A bond of the atom s, of kind k to t.
 fn take_bond(
     size: usize,
     atoms: &[u32],
@@ -194,14 +195,13 @@ fn take_bond(
     z: Walker,
     line: Writer,
     s: u32,
-    b: Bond,
+    k: BondKind,
+    t: u32,
 ) -> Turned
     requires { ⌜ Near z line ⌝ }
-    ensures { λ r. ⌜ ((taken : List ℕ) → Did (bondTurn (graph size (now (atoms .entry)) (now (bonds .entry)) (now (first .entry))) (walk z (now (met .entry)) (now (walked .entry)) (now (back .entry)) taken (now (pairs .entry))) s b) (walk (r .walker) (now (met .exit)) (now (walked .exit)) (now (back .exit)) taken (now (pairs .exit))) (spoken line (now (out .entry)) (now (starts .entry))) (spoken (r .line) (now (out .exit)) (now (starts .exit)))) ⌝ }
+    ensures { λ r. ⌜ ((taken : List ℕ) → Did (bondTurn (graph size (now (atoms .entry)) (now (bonds .entry)) (now (first .entry))) (walk z (now (met .entry)) (now (walked .entry)) (now (back .entry)) taken (now (pairs .entry))) s (bond k t)) (walk (r .walker) (now (met .exit)) (now (walked .exit)) (now (back .exit)) taken (now (pairs .exit))) (spoken line (now (out .entry)) (now (starts .entry))) (spoken (r .line) (now (out .exit)) (now (starts .exit)))) ⌝ }
     ensures { λ r. ⌜ Grows z (r .walker) line (r .line) ⌝ }
 {
-    let t = b.to;
-    let k = b.kind;
     if size <= t as usize {
         return Turned {
             walker: z.refused(UNKNOWN_TARGET, s, t),
@@ -267,7 +267,10 @@ fn take_atom(
     if look(back, at) == i + 1 {
         return Turned { walker: z, line };
     }
-    let b = bond_at(bonds, first, a, i);
+    let e = entry_at(first, a, i);
+    let code = look(bonds, e);
+    let k = sure_kind(code);
+    let t = sure_target(bonds, e, code);
     take_bond(
         size,
         atoms,
@@ -282,7 +285,8 @@ fn take_atom(
         z,
         line,
         a,
-        b,
+        k,
+        t,
     )
 }
 

@@ -12,7 +12,11 @@ use Rattle.record.specs.declared.Loaded.the-variants as loaded
 use Rattle.record.specs.declared.Entry.{Entry}
 use Rattle.record.specs.declared.Entry.the-variants as entry
 use Rattle.record.specs.Words.{atomWords, bondWords, loadAt, bondAt}
-use Rattle.ways.specs.declared.table.Bond.{Bond}
+
+-- a bond entry: its kind and its target
+pub record Bond : Type 0 where
+  pub kind : BondKind
+  pub to : ℕ
 
 -- how many atoms, their records, all bond entries, and where each atom's entries begin among these
 pub record Graph : Type 0 where

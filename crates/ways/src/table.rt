@@ -3,9 +3,9 @@
 ghost use mathlib.Core.Path.{_≡_};
 ghost use Prim.Native.Nat.{_+_, _*_, _^_, _<_};
 ghost use lib.ListN.{getD};
-ghost use Rattle.record.specs.Words.{bondWords};
+ghost use Rattle.record.specs.Words.{bondWords, bondOf};
 ghost use Rattle.feature.specs.Bonds.{same};
-ghost use Rattle.ways.specs.Graph.{kindIn, degreeIn, bondIn};
+ghost use Rattle.ways.specs.Graph.{kindIn, degreeIn, bondOr, bondIn};
 use feature::atom_kind::AtomKind;
 use feature::bond_kind::BondKind;
 use feature::bond_kind::Coded;
@@ -17,12 +17,6 @@ use record::DEGREE;
 use record::Loaded;
 use record::load;
 use record::look;
-
-// A bond entry: its kind and its target.
-pub struct Bond {
-    pub kind: BondKind,
-    pub to: u32,
-}
 
 pub fn kind_at(atoms: &[u32], a: u32) -> AtomKind
     ensures { λ r. ⌜ r ≡ kindIn (now (atoms .entry)) a ⌝ }
@@ -41,40 +35,45 @@ pub fn degree_at(atoms: &[u32], a: u32) -> u32
 }
 
 // Where the entry i of an atom stands.
-fn entry_at(first: &[u32], a: u32, i: u32) -> usize
+pub fn entry_at(first: &[u32], a: u32, i: u32) -> usize
     ensures { λ r. ⌜ (r ≡ (getD (now (first .entry)) a 0 + i) * bondWords) × (r < 2 ^ 34) ⌝ }
 {
     (look(first, a as usize) as usize + i as usize) * BOND_WORDS
 }
 
-// The kind of the entry i of an atom.
-pub fn bond_kind_at(bonds: &[u32], first: &[u32], a: u32, i: u32) -> BondKind
-    ensures { λ r. ⌜ r ≡ bondIn (now (bonds .entry)) (now (first .entry)) a i .kind ⌝ }
+// The kind of an entry by its number.
+pub fn sure_kind(code: u32) -> BondKind
+    ensures { λ r. ⌜ r ≡ bondOr (bondOf code 0) .kind ⌝ }
 {
-    match decode(look(bonds, entry_at(first, a, i))) {
+    match decode(code) {
         Coded::Kind(k) => k,
         Coded::Bad => BondKind::Elided,
     }
 }
 
-// Its target. Kind and target apart: most of the walk asks for one of them.
-pub fn target_at(bonds: &[u32], first: &[u32], a: u32, i: u32) -> u32
-    ensures { λ r. ⌜ r ≡ bondIn (now (bonds .entry)) (now (first .entry)) a i .to ⌝ }
+// The target of the entry that stands at a place, by the number of its kind.
+pub fn sure_target(bonds: &[u32], at: usize, code: u32) -> u32
+    requires { ⌜ at < 2 ^ 34 ⌝ }
+    ensures { λ r. ⌜ r ≡ bondOr (bondOf code (getD (now (bonds .entry)) (at + 1) 0)) .to ⌝ }
 {
-    let at = entry_at(first, a, i);
-    match decode(look(bonds, at)) {
+    match decode(code) {
         Coded::Kind(_) => look(bonds, at + 1),
         Coded::Bad => 0,
     }
 }
 
-// The entry whole.
-pub fn bond_at(bonds: &[u32], first: &[u32], a: u32, i: u32) -> Bond
-    ensures { λ r. ⌜ r ≡ bondIn (now (bonds .entry)) (now (first .entry)) a i ⌝ }
+// The kind of the entry i of an atom, and its target: most of a walk asks for one of them.
+pub fn bond_kind_at(bonds: &[u32], first: &[u32], a: u32, i: u32) -> BondKind
+    ensures { λ r. ⌜ r ≡ bondIn (now (bonds .entry)) (now (first .entry)) a i .kind ⌝ }
 {
-    let kind = bond_kind_at(bonds, first, a, i);
-    let to = target_at(bonds, first, a, i);
-    Bond { kind, to }
+    sure_kind(look(bonds, entry_at(first, a, i)))
+}
+
+pub fn target_at(bonds: &[u32], first: &[u32], a: u32, i: u32) -> u32
+    ensures { λ r. ⌜ r ≡ bondIn (now (bonds .entry)) (now (first .entry)) a i .to ⌝ }
+{
+    let at = entry_at(first, a, i);
+    sure_target(bonds, at, look(bonds, at))
 }
 
 pub fn same_kind(j: BondKind, k: BondKind) -> bool

@@ -1,4 +1,5 @@
 -- No entry left, the entry back, or a bond.
+use Rattle.ways.proofs.Told.{entry-told}
 use Rattle.walk.proofs.Moves.{grows-quiet, onward-same}
 use Rattle.walk.proofs.Onto.{atom-left, atom-past, atom-bond}
 use borrow.Author.Needs.{needs}
@@ -47,8 +48,17 @@ same-length-4 c = search needs
 returns-2 : tie.Need-returns-2
 returns-2 c = (atom-past _ _ _ _ _ _ _ _ _ (c .before .before .before .before .before .before .before .before .before .look .ensures) _ _ _ _ (c .before .before .before .before .before .before .before .before .degree-at .ensures) (c .before .before .before .before .before .before .before .if1 .left) (c .before .before .before .before .before .poke .ensures) (c .before .look2 .ensures) (c .if2 .taken), grows-quiet _ (onward-same _))
 
-bond-at-requires : tie.Need-bond-at-requires
-bond-at-requires c κs = search needs
+entry-at-requires : tie.Need-entry-at-requires
+entry-at-requires c κs = search needs
+
+look-requires-3 : tie.Need-look-requires-3
+look-requires-3 c κs = search needs
+
+sure-kind-requires : tie.Need-sure-kind-requires
+sure-kind-requires c κs = search needs
+
+sure-target-requires : tie.Need-sure-target-requires
+sure-target-requires c κs = search needs
 
 take-bond-requires : tie.Need-take-bond-requires
 take-bond-requires c κs = search needs
@@ -63,7 +73,7 @@ same-length-7 : tie.Need-same-length-7
 same-length-7 c = search needs
 
 same-length-8 : tie.Need-same-length-8
-same-length-8 c = c .before .before .before .before .before .before .before .before .before .before .before .before .before .before .before .before .before .before .before .before .before .before .before .before .before .poke .kept .0
+same-length-8 c = c .before .before .before .before .before .before .before .before .before .before .before .before .before .before .before .before .before .before .before .before .before .before .before .before .before .before .before .before .poke .kept .0
 
 same-length-9 : tie.Need-same-length-9
 same-length-9 c = search needs
@@ -75,7 +85,7 @@ same-length-11 : tie.Need-same-length-11
 same-length-11 c = search needs
 
 returns-3 : tie.Need-returns-3
-returns-3 c = (atom-bond _ _ _ _ _ _ _ _ _ (c .before .before .before .before .before .before .before .before .before .before .before .before .before .before .before .before .before .before .before .before .before .before .before .before .before .before .before .before .before .look .ensures) _ _ _ _ _ _ _ (c .before .before .before .before .before .before .before .before .before .before .before .before .before .before .before .before .before .before .before .before .before .before .before .before .before .before .before .before .degree-at .ensures) (c .before .before .before .before .before .before .before .before .before .before .before .before .before .before .before .before .before .before .before .before .before .before .before .before .before .before .before .if1 .left) (c .before .before .before .before .before .before .before .before .before .before .before .before .before .before .before .before .before .before .before .before .before .before .before .before .before .poke .ensures) (c .before .before .before .before .before .before .before .before .before .before .before .before .before .before .before .before .before .before .before .before .before .look2 .ensures) (c .before .before .before .before .before .before .before .before .before .before .before .before .before .before .before .before .before .before .before .before .if2 .left) (c .before .before .before .before .before .before .before .before .before .before .before .before .before .before .before .before .before .before .before .bond-at .ensures) (c .before .before .before .before .before .before .before .before .before .before .before .before .take-bond .ensures .0 _), c .before .before .before .before .before .before .before .before .before .before .before .before .take-bond .ensures .1)
+returns-3 c = (atom-bond _ _ _ _ _ _ _ _ _ (c .before .before .before .before .before .before .before .before .before .before .before .before .before .before .before .before .before .before .before .before .before .before .before .before .before .before .before .before .before .before .before .before .look .ensures) _ _ _ _ _ _ _ (c .before .before .before .before .before .before .before .before .before .before .before .before .before .before .before .before .before .before .before .before .before .before .before .before .before .before .before .before .before .before .before .degree-at .ensures) (c .before .before .before .before .before .before .before .before .before .before .before .before .before .before .before .before .before .before .before .before .before .before .before .before .before .before .before .before .before .before .if1 .left) (c .before .before .before .before .before .before .before .before .before .before .before .before .before .before .before .before .before .before .before .before .before .before .before .before .before .before .before .before .poke .ensures) (c .before .before .before .before .before .before .before .before .before .before .before .before .before .before .before .before .before .before .before .before .before .before .before .before .look2 .ensures) (c .before .before .before .before .before .before .before .before .before .before .before .before .before .before .before .before .before .before .before .before .before .before .before .if2 .left) (entry-told _ _ _ _ _ _ (c .before .before .before .before .before .before .before .before .before .before .before .before .before .before .before .before .before .before .before .before .before .before .entry-at .ensures .0) (c .before .before .before .before .before .before .before .before .before .before .before .before .before .before .before .before .before .before .before .before .before .look3 .ensures) _ _ (c .before .before .before .before .before .before .before .before .before .before .before .before .before .before .before .before .before .before .before .before .sure-kind .ensures) (c .before .before .before .before .before .before .before .before .before .before .before .before .before .before .before .before .before .before .before .sure-target .ensures)) (c .before .before .before .before .before .before .before .before .before .before .before .before .take-bond .ensures .0 _), c .before .before .before .before .before .before .before .before .before .before .before .before .take-bond .ensures .1)
 
 pub take-atom-spec : {M : Type 1} → statement M
 take-atom-spec =
@@ -95,7 +105,10 @@ take-atom-spec =
     same-length-3
     same-length-4
     returns-2
-    bond-at-requires
+    entry-at-requires
+    look-requires-3
+    sure-kind-requires
+    sure-target-requires
     take-bond-requires
     same-length-5
     same-length-6

@@ -1,12 +1,9 @@
 -- The tests of a bond in their order; the rest is entering or a ring number.
-use borrow.Author.Needs.{needs}
 use Rattle.walk.proofs.Moves.{onward-as, onward-refused, grows-quiet}
 use Rattle.walk.proofs.Onto.{bond-unknown, bond-loop, bond-new, bond-met}
+use borrow.Author.Needs.{needs}
 use Rattle.walk.proofs.turn.take_bond.Statement.{statement}
 use Rattle.walk.proofs.turn.take_bond.Tie as tie
-
-cast-if1 : tie.Need-cast-if1
-cast-if1 c = search needs
 
 refused-requires : tie.Need-refused-requires
 refused-requires c κs = search needs
@@ -19,9 +16,6 @@ refused-requires-2 c κs = search needs
 
 returns-2 : tie.Need-returns-2
 returns-2 c = (λ taken. bond-loop _ _ _ _ _ _ _ _ _ _ _ (c .before .before .if1 .left) (c .before .if2 .taken) (c .refused2 .ensures), grows-quiet _ (onward-as (c .refused2 .ensures) (onward-refused _ _ _ _)))
-
-cast-look : tie.Need-cast-look
-cast-look c = search needs
 
 look-requires : tie.Need-look-requires
 look-requires c κs = search needs
@@ -69,12 +63,10 @@ pub take-bond-spec : {M : Type 1} → statement M
 take-bond-spec =
     tie.close
     (tie.spec
-    cast-if1
     refused-requires
     returns
     refused-requires-2
     returns-2
-    cast-look
     look-requires
     enter-requires
     same-length

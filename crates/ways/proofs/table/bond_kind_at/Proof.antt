@@ -1,6 +1,5 @@
--- The entry that stands there, by its parts.
-use Rattle.record.specs.Words.{entryOf, bondOf, bondAt}
-use Rattle.ways.specs.Graph.{bondIn, bondOr}
+-- The kind at its place.
+use Rattle.ways.proofs.Told.{kind-told}
 use borrow.Author.Needs.{needs}
 use Rattle.ways.proofs.table.bond_kind_at.Statement.{statement}
 use Rattle.ways.proofs.table.bond_kind_at.Tie as tie
@@ -11,31 +10,11 @@ entry-at-requires c κs = search needs
 look-requires : tie.Need-look-requires
 look-requires c κs = search needs
 
-decode-requires : tie.Need-decode-requires
-decode-requires c κs = search needs
-
-enum-known-k : tie.Need-enum-known-k
-enum-known-k c = search needs
-
-enum-told : tie.Need-enum-told
-enum-told c = search needs
+sure-kind-requires : tie.Need-sure-kind-requires
+sure-kind-requires c κs = search needs
 
 returns : tie.Need-returns
-unfolding bondIn bondOr bondAt bondOf entryOf
-returns c = simp (← c .before .before .before .before .before .entry-at .ensures .0, ← c .before .before .before .before .look .ensures, ← c .before .before .before .decode .ensures, c .before .k .given .1)
-
-returns-2 : tie.Need-returns-2
-unfolding bondIn bondOr bondAt bondOf entryOf
-returns-2 c = simp (← c .before .before .before .before .entry-at .ensures .0, ← c .before .before .before .look .ensures, ← c .before .before .decode .ensures, c .enum-told .given .1)
+returns c = kind-told _ _ _ _ _ _ (c .before .before .entry-at .ensures .0) (c .before .look .ensures) _ (c .sure-kind .ensures)
 
 pub bond-kind-at-spec : {M : Type 1} → statement M
-bond-kind-at-spec =
-    tie.close
-    (tie.spec
-    entry-at-requires
-    look-requires
-    decode-requires
-    enum-known-k
-    enum-told
-    returns
-    returns-2)
+bond-kind-at-spec = tie.close (tie.spec entry-at-requires look-requires sure-kind-requires returns)
