@@ -18,17 +18,15 @@ use Rattle.graph.specs.Rings.{numbers}
 use Rattle.graph.specs.State.{Bld, bld, state, startOf, entryWords, failedSt, refuse, lastOf, entered, rootOf, bonded, extendedBy, extendOf, openedOf, openedAt, openingOf, sureKind, openingKind, closedBy, joinOf, popOf}
 use Rattle.graph.specs.declared.builder.Builder.{Builder}
 use Rattle.build.specs.Build.{blanked, counted, sumOf, startsOf, placed, moved, firstOpen, gathered, atomsOf, entriesOf, bondsOf, closedOf, buildOf}
-use Rattle.builder.specs.Events.{below, isHeld, isKind, isAtom, isTarget, isEntry, isBond, bondsFrom, turnedOf, isPaired, isStep, isRing, countsStand, failureStands, isState, anew, judged, rootD, extendD, joinD, popD}
+use Rattle.feature.specs.Every.{every}
+use Rattle.feature.proofs.Every.{every-all}
+use Rattle.record.specs.Words.{isHeld, isAtom}
+use Rattle.builder.specs.Events.{isKind, isTarget, isEntry, isBond, bondsFrom, turnedOf, isPaired, isStep, isRing, countsStand, failureStands, isState, anew, judged, rootD, extendD, joinD, popD}
 use Rattle.builder.specs.Build.{left, leftBy, calledOf, leftOf, trimmed, roomy, buildD}
 
 -- ---- no event yet
-all-below : (f : ℕ → Bool) (n : ℕ) → ((i : ℕ) → i < n → f i ≡ true) → below f n ≡ true
-unfolding below
-all-below f zero h = refl
-all-below f (suc n) h = rw (h n (omega arith)) (all-below f n (λ i l. h i (omega arith)))
-
-none-below : (f : ℕ → Bool) → below f 0 ≡ true
-unfolding below
+none-below : (f : ℕ → Bool) → every f 0 ≡ true
+unfolding every
 none-below f = refl
 
 free-ring : (s : Builder) (e r : List ℕ) (i : ℕ) → getD r i 0 ≡ 0 → isRing s e r i ≡ true
@@ -40,7 +38,7 @@ pub start-stands : (a e p r : List ℕ) (n m : ℕ) → n ≤ atomLimit → m �
 unfolding isState countsStand failureStands
 start-stands a e p r n m hn hm ha he hp hr free =
     simp
-    (le-leb n atomLimit hn, le-leb m bondLimit hm, le-leb (n * atomWords) (length a) ha, le-leb (m * entryWords) (length e) he, le-leb n (length p) hp, le-leb numbers (length r) hr, le-leb 0 n (omega arith), le-leb 0 m (omega arith), none-below, all-below (isRing (startOf n m) e r) numbers (λ i l. free-ring (startOf n m) e r i (free i l)))
+    (le-leb n atomLimit hn, le-leb m bondLimit hm, le-leb (n * atomWords) (length a) ha, le-leb (m * entryWords) (length e) he, le-leb n (length p) hp, le-leb numbers (length r) hr, le-leb 0 n (omega arith), le-leb 0 m (omega arith), none-below, every-all (isRing (startOf n m) e r) numbers (λ i l. free-ring (startOf n m) e r i (free i l)))
 
 -- ---- small graphs
 -- room for three atoms and eight entries
@@ -71,7 +69,7 @@ pub built : map (λ (b : Bld). buildD b (replicate 17 7)) (ring Elided Elided �
     ∷ left 4 (1 ∷ []) (replicate 9 0) (replicate 17 0)
     ∷ left 17 (0 ∷ []) (replicate 9 0) (replicate 17 0)
     ∷ []
-unfolding below isHeld isKind isAtom isTarget isEntry isBond bondsFrom turnedOf isPaired isStep isRing countsStand failureStands isState anew judged rootD extendD joinD popD leftBy calledOf leftOf trimmed roomy buildD blanked counted sumOf startsOf placed moved firstOpen gathered atomsOf entriesOf bondsOf closedOf buildOf lesserOf failedSt refuse lastOf entered rootOf bonded extendedBy extendOf openedOf openedAt openingOf sureKind openingKind closedBy joinOf popOf inRange invertOf codeOf kindOf reverseOf isDirectional reconcileOf pairOf wordsOf listOf plainOf bracketOf loadOf loadAt
+unfolding every isHeld isKind isAtom isTarget isEntry isBond bondsFrom turnedOf isPaired isStep isRing countsStand failureStands isState anew judged rootD extendD joinD popD leftBy calledOf leftOf trimmed roomy buildD blanked counted sumOf startsOf placed moved firstOpen gathered atomsOf entriesOf bondsOf closedOf buildOf lesserOf failedSt refuse lastOf entered rootOf bonded extendedBy extendOf openedOf openedAt openingOf sureKind openingKind closedBy joinOf popOf inRange invertOf codeOf kindOf reverseOf isDirectional reconcileOf pairOf wordsOf listOf plainOf bracketOf loadOf loadAt
 built = refl
 
 -- an event's refusal and what it carries
@@ -81,5 +79,5 @@ said b = b .st .refusal ∷ b .st .carried ∷ []
 -- no atom stands; the fourth atom has no room; ring number 100; a bond that one end holds; a pop beyond the path
 pub refused : map said (extendD start Elided Star ∷ rootD (chain (rootD start Star)) Star ∷ joinD (rootD start Star) Elided 100 ∷ rootD one-sided Star ∷ popD (rootD start Star) 5 ∷ [])
     ≡ (18 ∷ 0 ∷ []) ∷ (13 ∷ 3 ∷ []) ∷ (17 ∷ 0 ∷ []) ∷ (17 ∷ 0 ∷ []) ∷ (0 ∷ 0 ∷ []) ∷ []
-unfolding below isHeld isKind isAtom isTarget isEntry isBond bondsFrom turnedOf isPaired isStep isRing countsStand failureStands isState anew judged rootD extendD joinD popD leftBy calledOf leftOf trimmed roomy buildD blanked counted sumOf startsOf placed moved firstOpen gathered atomsOf entriesOf bondsOf closedOf buildOf lesserOf failedSt refuse lastOf entered rootOf bonded extendedBy extendOf openedOf openedAt openingOf sureKind openingKind closedBy joinOf popOf inRange invertOf codeOf kindOf reverseOf isDirectional reconcileOf pairOf wordsOf listOf plainOf bracketOf loadOf loadAt
+unfolding every isHeld isKind isAtom isTarget isEntry isBond bondsFrom turnedOf isPaired isStep isRing countsStand failureStands isState anew judged rootD extendD joinD popD leftBy calledOf leftOf trimmed roomy buildD blanked counted sumOf startsOf placed moved firstOpen gathered atomsOf entriesOf bondsOf closedOf buildOf lesserOf failedSt refuse lastOf entered rootOf bonded extendedBy extendOf openedOf openedAt openingOf sureKind openingKind closedBy joinOf popOf inRange invertOf codeOf kindOf reverseOf isDirectional reconcileOf pairOf wordsOf listOf plainOf bracketOf loadOf loadAt
 refused = refl

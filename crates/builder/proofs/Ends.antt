@@ -12,7 +12,9 @@ use Rattle.feature.specs.Bonds.{codeOf, kindOf, reverseOf}
 use Rattle.feature.specs.declared.bond_kind.BondKind.{BondKind}
 use Rattle.feature.specs.declared.bond_kind.BondKind.the-variants.{Elided, Single, Double, Triple, Quadruple, Aromatic, Up, Down}
 use Rattle.graph.specs.State.{unclosed}
-use Rattle.builder.specs.Events.{also, below, sourceAt, kindAt, targetAt, isBond, bondsFrom, turnedOf, isPaired}
+use Rattle.feature.specs.Every.{every}
+use Rattle.feature.proofs.Every.{every-at}
+use Rattle.builder.specs.Events.{also, sourceAt, kindAt, targetAt, isBond, bondsFrom, turnedOf, isPaired}
 use Rattle.builder.proofs.Counts.{first, second}
 
 -- ---- one turn of the count
@@ -33,14 +35,6 @@ found e a k t (suc m) h = split (isBond e a k t m) refl h (λ l. found e a k t m
   split : (q : Bool) → isBond e a k t m ≡ q → 0 < bondsFrom e a k t m + pick q 1 0 → (0 < bondsFrom e a k t m → (i : ℕ) × (i < m) × (isBond e a k t i ≡ true)) → (i : ℕ) × (i < suc m) × (isBond e a k t i ≡ true)
   split true is l ih = (m, omega arith, is)
   split false is l ih = let r = ih (omega (arith, l)) in (r .0, omega (arith, r .1), r .2)
-
-pub below-at : (f : ℕ → Bool) (n i : ℕ) → below f n ≡ true → i < n → f i ≡ true
-unfolding below
-below-at f zero i all h = absurd (omega arith)
-below-at f (suc n) i all h = split (eqb i n) refl (λ l. below-at f n i (second (f n) (below f n) all) l) where
-  split : (q : Bool) → eqb i n ≡ q → (i < n → f i ≡ true) → f i ≡ true
-  split true is ih = subst (λ (m : ℕ). f m ≡ true) (sym (eqb-true i n is)) (first (f n) (below f n) all)
-  split false is ih = ih (omega (arith, eqb-false i n is))
 
 paired-at : (e : List ℕ) (m i : ℕ) → isPaired e m i ≡ true → targetAt e i < unclosed → bondsFrom e (sourceAt e i) (kindAt e i) (targetAt e i) m ≡ bondsFrom e (targetAt e i) (turnedOf (kindOf (kindAt e i))) (sourceAt e i) m
 unfolding isPaired
@@ -69,7 +63,7 @@ reverse-twice Aromatic = refl
 reverse-twice Up = refl
 reverse-twice Down = refl
 
-module _ (e : List ℕ) (m : ℕ) (all : below (isPaired e m) m ≡ true) where
+module _ (e : List ℕ) (m : ℕ) (all : every (isPaired e m) m ≡ true) where
   -- where there is such a bond, there are as many reverses of it
   held : (a t : ℕ) (k : BondKind) → t < unclosed → 0 < bondsFrom e a (codeOf k) t m → bondsFrom e a (codeOf k) t m ≡ bondsFrom e t (codeOf (reverseOf k)) a m
   unfolding isBond
@@ -80,7 +74,7 @@ module _ (e : List ℕ) (m : ℕ) (all : below (isPaired e m) m ≡ true) where
       let rest = second (eqb (sourceAt e i) a) _ (f .2) in
       let w : kindAt e i ≡ codeOf k = eqb-true _ _ (first (eqb (kindAt e i) (codeOf k)) _ rest) in
       let g : targetAt e i ≡ t = eqb-true _ _ (second (eqb (kindAt e i) (codeOf k)) _ rest) in
-      let p = paired-at e m i (below-at (isPaired e m) m i all (f .1)) (omega (arith, g, h)) in
+      let p = paired-at e m i (every-at (isPaired e m) m i all (f .1)) (omega (arith, g, h)) in
       let q : bondsFrom e a (codeOf k) t m ≡ bondsFrom e t (turnedOf (kindOf (codeOf k))) a m =
       subst (λ (x : ℕ). bondsFrom e a (codeOf k) x m ≡ bondsFrom e x (turnedOf (kindOf (codeOf k))) a m) g
       (subst (λ (x : ℕ). bondsFrom e a x (targetAt e i) m ≡ bondsFrom e (targetAt e i) (turnedOf (kindOf x)) a m) w

@@ -16,10 +16,13 @@ use Rattle.graph.specs.Limits.{atomLimit}
 use Rattle.graph.specs.State.{Bld, entryWords, unclosed}
 use Rattle.build.specs.Build.{of, upto, Sources, Outcome, Tables, tables, zeros, firstOpen, toldOf, Ready, buildOf}
 use Rattle.build.proofs.Laws.{built-failed, built-done, built-open}
-use Rattle.builder.specs.Events.{also, below, sourceAt, kindAt, targetAt, isAtom, isEntry, isBond, bondsFrom, isPaired, countsStand, isState}
+use Rattle.feature.specs.Every.{every}
+use Rattle.record.specs.Words.{isAtom}
+use Rattle.builder.specs.Events.{also, sourceAt, kindAt, targetAt, isEntry, isBond, bondsFrom, isPaired, countsStand, isState}
 use Rattle.builder.specs.Build.{Left, leftBy, calledOf, leftOf, trimmed, roomy, buildD, heldOf, BothEnds, graphOf}
 use Rattle.builder.proofs.Counts.{Counts, first, second, counts}
-use Rattle.builder.proofs.Ends.{below-at, both-ends}
+use Rattle.feature.proofs.Every.{every-at}
+use Rattle.builder.proofs.Ends.{both-ends}
 
 -- ---- entries after the first
 -- the words of three are passed
@@ -93,27 +96,27 @@ trimmed-length n t h =
 -- what a state's entries keep to
 record Facts (b : Bld) : Type 0 where
   counts : Counts (b .st) (length (b .atoms)) (length (b .entries))
-  entries : below (isEntry (b .st) (b .entries)) (b .st .entries) ≡ true
-  pairs : below (isPaired (b .entries) (b .st .entries)) (b .st .entries) ≡ true
+  entries : every (isEntry (b .st) (b .entries)) (b .st .entries) ≡ true
+  pairs : every (isPaired (b .entries) (b .st .entries)) (b .st .entries) ≡ true
 
 facts : (b : Bld) → isState b ≡ true → Facts b
 unfolding isState
 facts b h =
     let told = countsStand (b .st) (length (b .atoms)) (length (b .entries)) (length (b .path)) (length (b .rings)) in
     let h1 = second told _ h in
-    let h2 = second (below (isAtom (b .atoms)) (b .st .atoms)) _ h1 in
-    let h3 = second (below (isEntry (b .st) (b .entries)) (b .st .entries)) _ h2 in
+    let h2 = second (every (isAtom (b .atoms)) (b .st .atoms)) _ h1 in
+    let h3 = second (every (isEntry (b .st) (b .entries)) (b .st .entries)) _ h2 in
     record {
       counts = counts (b .st) (length (b .atoms)) (length (b .entries)) (length (b .path)) (length (b .rings)) (first told _ h);
-      entries = first (below (isEntry (b .st) (b .entries)) (b .st .entries)) _ h2;
-      pairs = first (below (isPaired (b .entries) (b .st .entries)) (b .st .entries)) _ h3;
+      entries = first (every (isEntry (b .st) (b .entries)) (b .st .entries)) _ h2;
+      pairs = first (every (isPaired (b .entries) (b .st .entries)) (b .st .entries)) _ h3;
     }
 
 source-at : (b : Bld) → Facts b → (i : ℕ) → i < b .st .entries → sourceAt (b .entries) i < b .st .atoms
 unfolding isEntry
 source-at b f i l =
     ltb-true (sourceAt (b .entries) i) (b .st .atoms)
-    (first (ltb (sourceAt (b .entries) i) (b .st .atoms)) _ (below-at (isEntry (b .st) (b .entries)) (b .st .entries) i (f .entries) l))
+    (first (ltb (sourceAt (b .entries) i) (b .st .atoms)) _ (every-at (isEntry (b .st) (b .entries)) (b .st .entries) i (f .entries) l))
 
 -- the entries that a state tells of hold each bond at both ends
 told-ends : (b : Bld) → Facts b → BothEnds (toldOf (b .st) (b .entries))

@@ -1,5 +1,4 @@
 -- Laws that the proofs and the claims cite.
-pub mod Below
 pub mod Counts
 pub mod Ways
 pub mod Builds

@@ -11,6 +11,7 @@ use mathlib.Core.List.{List}
 use mathlib.Core.Bool.{Bool, true, false}
 use lib.ListN.{length, getD}
 use lib.Dec.{ltb, leb, eqb}
+use Rattle.feature.specs.Every.{every}
 use Rattle.feature.specs.Pick.{pick}
 use Rattle.feature.specs.Kinds.{inRange}
 use Rattle.feature.specs.Bonds.{codeOf, kindOf, reverseOf}
@@ -18,9 +19,7 @@ use Rattle.feature.specs.declared.atom_kind.AtomKind.{AtomKind}
 use Rattle.feature.specs.declared.bond_kind.BondKind.{BondKind}
 use Rattle.feature.specs.declared.bond_kind.Coded.{Coded}
 use Rattle.feature.specs.declared.bond_kind.Coded.the-variants as coded
-use Rattle.record.specs.Words.{atomWords, loadAt}
-use Rattle.record.specs.declared.Loaded.{Loaded}
-use Rattle.record.specs.declared.Loaded.the-variants as loaded
+use Rattle.record.specs.Words.{atomWords, isAtom}
 use Rattle.graph.specs.Limits.{atomLimit, bondLimit}
 use Rattle.graph.specs.Rings.{numbers}
 use Rattle.graph.specs.State.{Bld, bld, entryWords, unclosed, enough, refusedSt, refuse, rootOf, extendOf, joinOf, popOf}
@@ -30,25 +29,13 @@ use Rattle.graph.specs.declared.builder.Builder.{Builder}
 abbrev pub badTable : ℕ
 badTable = 17
 
--- a test that each number below n passes
-unfoldable pub below : (ℕ → Bool) → ℕ → Bool
-below f zero = true
-below f (suc n) = pick (f n) (below f n) false
-
 -- both, the second looked at only if the first holds
 abbrev pub also : Bool → Bool → Bool
 also a b = pick a b false
 
-unfoldable pub isHeld : Loaded → Bool
-isHeld (loaded.Held k) = true
-isHeld loaded.Bad = false
-
 unfoldable pub isKind : Coded → Bool
 isKind (coded.Kind k) = true
 isKind coded.Bad = false
-
-unfoldable pub isAtom : List ℕ → ℕ → Bool
-isAtom t i = isHeld (loadAt t (i * atomWords))
 
 -- the words of entry i
 abbrev pub sourceAt : List ℕ → ℕ → ℕ
@@ -126,11 +113,11 @@ failureStands s =
 unfoldable pub isState : Bld → Bool
 isState b =
     also (countsStand (b .st) (length (b .atoms)) (length (b .entries)) (length (b .path)) (length (b .rings)))
-    (also (below (isAtom (b .atoms)) (b .st .atoms))
-    (also (below (isEntry (b .st) (b .entries)) (b .st .entries))
-    (also (below (isPaired (b .entries) (b .st .entries)) (b .st .entries))
-    (also (below (isStep (b .st) (b .path)) (b .st .top))
-    (also (below (isRing (b .st) (b .entries) (b .rings)) numbers)
+    (also (every (isAtom (b .atoms)) (b .st .atoms))
+    (also (every (isEntry (b .st) (b .entries)) (b .st .entries))
+    (also (every (isPaired (b .entries) (b .st .entries)) (b .st .entries))
+    (also (every (isStep (b .st) (b .path)) (b .st .top))
+    (also (every (isRing (b .st) (b .entries) (b .rings)) numbers)
     (failureStands (b .st)))))))
 
 -- no refusal yet: what an earlier event was refused for is over

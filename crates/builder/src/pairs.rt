@@ -6,7 +6,8 @@ ghost use Prim.Native.Nat.{_≤_};
 ghost use Rattle.feature.specs.Pick.{pick};
 ghost use Rattle.feature.specs.Bonds.{kindOf};
 ghost use Rattle.graph.specs.Limits.{bondLimit};
-ghost use Rattle.builder.specs.Events.{below, isBond, bondsFrom, turnedOf, isPaired};
+ghost use Rattle.feature.specs.Every.{every};
+ghost use Rattle.builder.specs.Events.{isBond, bondsFrom, turnedOf, isPaired};
 use crate::state::KIND;
 use crate::state::TARGET;
 use feature::bond_kind::Coded;
@@ -80,7 +81,7 @@ fn is_paired(entries: &[u32], n: usize, i: usize) -> bool
 
 pub fn pairs_stand(entries: &[u32], n: usize) -> bool
     requires { ⌜ n ≤ bondLimit ⌝ }
-    ensures { λ r. ⌜ r ≡ below (isPaired (now (entries .entry)) n) n ⌝ }
+    ensures { λ r. ⌜ r ≡ every (isPaired (now (entries .entry)) n) n ⌝ }
 {
     let mut i = 0;
     while i < n {

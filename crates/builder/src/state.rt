@@ -7,7 +7,9 @@ ghost use Rattle.feature.specs.Bonds.{kindOf};
 ghost use Rattle.graph.specs.Limits.{atomLimit, bondLimit};
 ghost use Rattle.graph.specs.State.{bld};
 ghost use Rattle.graph.specs.Rings.{numbers};
-ghost use Rattle.builder.specs.Events.{below, isAtom, isKind, isTarget, isEntry, isStep, isRing, countsStand, failureStands, isState};
+ghost use Rattle.feature.specs.Every.{every};
+ghost use Rattle.record.specs.Words.{isAtom};
+ghost use Rattle.builder.specs.Events.{isKind, isTarget, isEntry, isStep, isRing, countsStand, failureStands, isState};
 use crate::pairs::pairs_stand;
 use feature::bond_kind::Coded;
 use feature::bond_kind::decode;
@@ -18,8 +20,7 @@ use graph::limits::ATOMS;
 use graph::limits::BONDS;
 use graph::opens::NUMBERS;
 use record::ATOM_WORDS;
-use record::Loaded;
-use record::load;
+use record::is_atom;
 use record::look;
 
 // What no state counts more joins than.
@@ -30,19 +31,9 @@ pub const KIND: usize = 1;
 
 pub const TARGET: usize = 2;
 
-fn is_atom(atoms: &[u32], i: usize) -> bool
-    requires { ⌜ i ≤ atomLimit ⌝ }
-    ensures { λ r. ⌜ r ≡ isAtom (now (atoms .entry)) i ⌝ }
-{
-    match load(atoms, i * ATOM_WORDS) {
-        Loaded::Held(_) => true,
-        Loaded::Bad => false,
-    }
-}
-
 fn atoms_stand(atoms: &[u32], n: usize) -> bool
     requires { ⌜ n ≤ atomLimit ⌝ }
-    ensures { λ r. ⌜ r ≡ below (isAtom (now (atoms .entry))) n ⌝ }
+    ensures { λ r. ⌜ r ≡ every (isAtom (now (atoms .entry))) n ⌝ }
 {
     let mut i = 0;
     while i < n {
@@ -97,7 +88,7 @@ fn is_entry(b: Builder, entries: &[u32], i: usize) -> bool
 
 fn entries_stand(b: Builder, entries: &[u32], n: usize) -> bool
     requires { ⌜ n ≤ bondLimit ⌝ }
-    ensures { λ r. ⌜ r ≡ below (isEntry b (now (entries .entry))) n ⌝ }
+    ensures { λ r. ⌜ r ≡ every (isEntry b (now (entries .entry))) n ⌝ }
 {
     let mut i = 0;
     while i < n {
@@ -110,7 +101,7 @@ fn entries_stand(b: Builder, entries: &[u32], n: usize) -> bool
 }
 
 fn steps_stand(b: Builder, path: &[u32], n: usize) -> bool
-    ensures { λ r. ⌜ r ≡ below (isStep b (now (path .entry))) n ⌝ }
+    ensures { λ r. ⌜ r ≡ every (isStep b (now (path .entry))) n ⌝ }
 {
     let mut i = 0;
     while i < n {
@@ -141,7 +132,7 @@ fn is_ring(b: Builder, entries: &[u32], rings: &[u32], n: usize) -> bool
 
 fn rings_stand(b: Builder, entries: &[u32], rings: &[u32]) -> bool
     requires { ⌜ b .entries ≤ bondLimit ⌝ }
-    ensures { λ r. ⌜ r ≡ below (isRing b (now (entries .entry)) (now (rings .entry))) numbers ⌝ }
+    ensures { λ r. ⌜ r ≡ every (isRing b (now (entries .entry)) (now (rings .entry))) numbers ⌝ }
 {
     let mut n = 0;
     while n < NUMBERS {

@@ -1,4 +1,3 @@
-pub mod Every
 pub mod Zeros
 pub mod Stands
 pub mod PoolKept

@@ -18,7 +18,7 @@ use Rattle.pool.specs.declared.Given.{Given}
 use Rattle.pool.specs.declared.Given.the-variants.{Number, Full}
 use Rattle.pool.specs.Pairs.{highest, slotWords, pool, emptyOf, opens, numberOf, slot, grown, counterOf, nextOf, Hits, hits, openOf, closeOf, calledOf, pairOf, hitOf}
 use Rattle.desk.specs.Slots.{top, isFree, isOpen, keptFree, isSlot, isPool}
-use Rattle.desk.proofs.Every.{every-at, every-all}
+use Rattle.feature.proofs.Every.{every-at, every-all}
 use Rattle.desk.proofs.Stands.{no, first, second, join, by-test}
 
 -- ---- the test of a pool as facts

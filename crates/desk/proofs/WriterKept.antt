@@ -18,9 +18,9 @@ use Rattle.writer.specs.declared.Wrote.{Wrote}
 use Rattle.writer.specs.declared.Wrote.the-variants.{Held, AtomRoom, OutRoom, NoPiece, Overpop}
 use Rattle.writer.specs.Line.{Event, Root, Extend, Join, Pop, dotText, wrapped}
 use Rattle.writer.specs.Tables.{Spoken, spoken, writer, pieceRoom, added, pieceT, longer, joinT, startOf, part, wrapT, popT, sayT, Told, told, refusing, fitting, eventOf, far}
-use Rattle.desk.specs.Every.{every}
+use Rattle.feature.specs.Every.{every}
 use Rattle.desk.specs.Pieces.{endOf, isPiece, piecesStand, isWriter}
-use Rattle.desk.proofs.Every.{every-at, every-all}
+use Rattle.feature.proofs.Every.{every-at, every-all}
 use Rattle.desk.proofs.Stands.{first, second, join, by-test}
 
 above : {n : ℕ} → (n ≡ 0 → ⊥) → 0 < n

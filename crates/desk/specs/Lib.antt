@@ -1,4 +1,3 @@
-pub mod Every
 pub mod Pieces
 pub mod Slots
 pub mod Texts

@@ -18,7 +18,7 @@ use Rattle.writer.specs.Line.{Event}
 use Rattle.writer.specs.Tables.{Spoken, Told, pieceRoom, eventOf, far}
 use Rattle.desk.specs.declared.lines.Said.{Said}
 use Rattle.desk.specs.declared.lines.Said.the-variants.{Held, AtomRoom, OutRoom, NoPiece, Overpop, BadTable}
-use Rattle.desk.specs.Every.{every}
+use Rattle.feature.specs.Every.{every}
 
 -- ---- a writer's state
 -- where piece i ends

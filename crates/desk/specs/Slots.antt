@@ -17,7 +17,7 @@ use Rattle.pool.specs.declared.Given.the-variants as given
 use Rattle.pool.specs.Pairs.{slotWords, Hits, hitOf}
 use Rattle.desk.specs.declared.rings.Handed.{Handed}
 use Rattle.desk.specs.declared.rings.Handed.the-variants.{Number, RingNumbers, BadTable}
-use Rattle.desk.specs.Every.{every}
+use Rattle.feature.specs.Every.{every}
 
 -- what the counter is kept at once there
 abbrev pub top : ℕ

@@ -8,7 +8,7 @@ ghost use Rattle.feature.specs.Kinds.{inRange};
 ghost use Rattle.graph.specs.Rings.{numbers};
 ghost use Rattle.writer.specs.Line.{Event};
 ghost use Rattle.writer.specs.Tables.{spoken};
-ghost use Rattle.desk.specs.Every.{every};
+ghost use Rattle.feature.specs.Every.{every};
 ghost use Rattle.desk.specs.Pieces.{isPiece, piecesStand, isWriter, saidOf, left, eventD};
 use feature::atom_kind::AtomKind;
 use feature::atom_kind::in_range;

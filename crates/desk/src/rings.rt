@@ -2,7 +2,7 @@
 // looked for; a refused call changes nothing.
 ghost use mathlib.Core.Path.{_≡_};
 ghost use Prim.Native.Nat.{_+_};
-ghost use Rattle.desk.specs.Every.{every};
+ghost use Rattle.feature.specs.Every.{every};
 ghost use Rattle.desk.specs.Slots.{top, isFree, isOpen, keptFree, isSlot, isPool, handedOf, gives, hitD};
 use pool::Given;
 use pool::PAIRS;

@@ -4,3 +4,4 @@ pub mod Names
 pub mod Ranges
 pub mod Lists
 pub mod Cases
+pub mod Every

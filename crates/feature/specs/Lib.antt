@@ -1,4 +1,5 @@
 pub mod Pick
+pub mod Every
 pub mod Text
 pub mod Names
 pub mod Kinds

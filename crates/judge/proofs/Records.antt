@@ -8,23 +8,24 @@ use lib.Dec.{ltb, leb}
 use borrow.Author.Tests.{lt-ltb, le-ltb, le-leb, lt-leb}
 use Rattle.feature.specs.Pick.{pick}
 use Rattle.judge.specs.declared.Judged.the-variants.{Bad, Holds}
-use Rattle.judge.specs.Judge.{degreeOf, atomStands, bondStands, atomsFrom, bondsFrom}
+use Rattle.record.specs.Words.{isAtom}
+use Rattle.judge.specs.Judge.{degreeOf, bondStands, atomsFrom, bondsFrom}
 
 -- ---- atoms
-atom-step : (t : List ℕ) (m a held k j : ℕ) (over stands : Bool) → k ≡ suc j → ltb (m - held) (degreeOf t a) ≡ over → atomStands t a ≡ stands → atomsFrom t m k a held ≡ pick over (Bad a) (pick stands (atomsFrom t m j (a + 1) (held + degreeOf t a)) (Bad a))
+atom-step : (t : List ℕ) (m a held k j : ℕ) (over stands : Bool) → k ≡ suc j → ltb (m - held) (degreeOf t a) ≡ over → isAtom t a ≡ stands → atomsFrom t m k a held ≡ pick over (Bad a) (pick stands (atomsFrom t m j (a + 1) (held + degreeOf t a)) (Bad a))
 unfolding atomsFrom
 atom-step t m a held k j over stands e o s = rw e (simp (o, s))
 
 -- its entries go beyond those that there are
 pub beyond : (t : List ℕ) (n m a held d : ℕ) → a < n → d ≡ degreeOf t a → m - held < d → atomsFrom t m (n - a) a held ≡ Bad a
 beyond t n m a held d l e h =
-    atom-step t m a held (n - a) (n - (a + 1)) true (atomStands t a) (omega arith) (lt-ltb (m - held) (degreeOf t a) (omega (arith, e, h))) refl
+    atom-step t m a held (n - a) (n - (a + 1)) true (isAtom t a) (omega arith) (lt-ltb (m - held) (degreeOf t a) (omega (arith, e, h))) refl
 
-pub no-atom : (t : List ℕ) (n m a held d : ℕ) (s : Bool) → a < n → d ≡ degreeOf t a → d ≤ m - held → s ≡ atomStands t a → s ≡ false → atomsFrom t m (n - a) a held ≡ Bad a
+pub no-atom : (t : List ℕ) (n m a held d : ℕ) (s : Bool) → a < n → d ≡ degreeOf t a → d ≤ m - held → s ≡ isAtom t a → s ≡ false → atomsFrom t m (n - a) a held ≡ Bad a
 no-atom t n m a held d s l e h w f =
     atom-step t m a held (n - a) (n - (a + 1)) false false (omega arith) (le-ltb (m - held) (degreeOf t a) (omega (arith, e, h))) (sym w ∙ f)
 
-pub atom-on : (t : List ℕ) (n m a held d : ℕ) (s : Bool) → a < n → d ≡ degreeOf t a → d ≤ m - held → s ≡ atomStands t a → s ≡ true → atomsFrom t m (n - a) a held ≡ atomsFrom t m (n - (a + 1)) (a + 1) (held + d)
+pub atom-on : (t : List ℕ) (n m a held d : ℕ) (s : Bool) → a < n → d ≡ degreeOf t a → d ≤ m - held → s ≡ isAtom t a → s ≡ true → atomsFrom t m (n - a) a held ≡ atomsFrom t m (n - (a + 1)) (a + 1) (held + d)
 atom-on t n m a held d s l e h w f =
     atom-step t m a held (n - a) (n - (a + 1)) false true (omega arith) (le-ltb (m - held) (degreeOf t a) (omega (arith, e, h))) (sym w ∙ f)
     ∙ rw e refl

@@ -7,26 +7,17 @@ use mathlib.Core.Bool.{Bool, true, false}
 use lib.ListN.{getD}
 use lib.Dec.{ltb, leb}
 use Rattle.feature.specs.Pick.{pick}
-use Rattle.record.specs.declared.Loaded.{Loaded}
-use Rattle.record.specs.declared.Loaded.the-variants as loaded
 use Rattle.record.specs.declared.Entry.{Entry}
 use Rattle.record.specs.declared.Entry.the-variants as entry
-use Rattle.record.specs.Words.{atomWords, bondWords, loadAt, bondAt}
+use Rattle.record.specs.Words.{atomWords, bondWords, isAtom, bondAt}
 use Rattle.judge.specs.declared.Judged.{Judged}
 use Rattle.judge.specs.declared.Judged.the-variants.{Bad, Holds}
-
-unfoldable pub isHeld : Loaded → Bool
-isHeld (loaded.Held k) = true
-isHeld loaded.Bad = false
 
 unfoldable pub isEntry : Entry → Bool
 isEntry (entry.Bond k t) = true
 isEntry entry.Bad = false
 
--- whether the record a stands for an atom, and e for a bond
-unfoldable pub atomStands : List ℕ → ℕ → Bool
-atomStands atoms a = isHeld (loadAt atoms (a * atomWords))
-
+-- whether the record e stands for a bond
 unfoldable pub bondStands : List ℕ → ℕ → Bool
 bondStands bonds e = isEntry (bondAt bonds (e * bondWords))
 
@@ -39,7 +30,7 @@ unfoldable pub atomsFrom : List ℕ → ℕ → ℕ → ℕ → ℕ → Judged
 atomsFrom atoms m zero a held = Holds held
 atomsFrom atoms m (suc n) a held =
     pick (ltb (m - held) (degreeOf atoms a)) (Bad a)
-    (pick (atomStands atoms a) (atomsFrom atoms m n (a + 1) (held + degreeOf atoms a))
+    (pick (isAtom atoms a) (atomsFrom atoms m n (a + 1) (held + degreeOf atoms a))
     (Bad a))
 
 -- n entries from e on, of which the atoms hold those below `held`: the first that is bad, or the one after them

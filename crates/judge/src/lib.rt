@@ -1,13 +1,12 @@
 // Whether tables hold a graph: the first record whose numbers stand for no atom or bond.
 ghost use mathlib.Core.Path.{_≡_};
 ghost use Prim.Native.Nat.{_+_, _^_, _≤_, _<_};
-ghost use Rattle.judge.specs.Judge.{atomStands, bondStands, atomsFrom, bondsFrom, badRecord};
+ghost use Rattle.judge.specs.Judge.{bondStands, atomsFrom, bondsFrom, badRecord};
 use record::ATOM_WORDS;
 use record::BOND_WORDS;
 use record::DEGREE;
 use record::Entry;
-use record::Loaded;
-use record::load;
+use record::is_atom;
 use record::load_bond;
 use record::look;
 
@@ -15,16 +14,6 @@ use record::look;
 pub enum Judged {
     Bad(usize),
     Holds(usize),
-}
-
-fn is_atom(atoms: &[u32], a: usize) -> bool
-    requires { ⌜ a < 2 ^ 32 ⌝ }
-    ensures { λ r. ⌜ r ≡ atomStands (now (atoms .entry)) a ⌝ }
-{
-    match load(atoms, a * ATOM_WORDS) {
-        Loaded::Held(_) => true,
-        Loaded::Bad => false,
-    }
 }
 
 fn is_bond(bonds: &[u32], e: usize) -> bool

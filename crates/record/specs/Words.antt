@@ -1,5 +1,6 @@
 -- How atoms and bonds stand in numbers, as docs/PACKING.md tables it, and what numbers stand for. Zeros stand for nothing.
 use Prim.Native.Nat.{ℕ, _+_, _-_, _*_, _/_, _%_}
+use mathlib.Core.Bool.{Bool, true, false}
 use mathlib.Core.List.{List, [], _∷_}
 use lib.ListN.{getD}
 use lib.Dec.{ltb, leb}
@@ -100,6 +101,14 @@ loadOf a b =
 
 unfoldable pub loadAt : List ℕ → ℕ → Loaded
 loadAt t at = loadOf (getD t at 0) (getD t (at + 1) 0)
+
+unfoldable pub isHeld : Loaded → Bool
+isHeld (Held k) = true
+isHeld Bad = false
+
+-- whether the record a of a table of atoms stands for one
+unfoldable pub isAtom : List ℕ → ℕ → Bool
+isAtom t a = isHeld (loadAt t (a * atomWords))
 
 -- a bond entry: the number of its kind, and its target
 unfoldable pub bondList : BondKind → ℕ → List ℕ

@@ -3,10 +3,11 @@
 // A record is a fixed number of words. Reading past a table finds zeros, and a zero stands for no atom and no bond; a
 // store past a table changes nothing. So no call here asks anything of its caller.
 ghost use mathlib.Core.Path.{_≡_};
+ghost use Prim.Native.Nat.{_^_, _<_};
 ghost use lib.ListN.{getD, set};
 ghost use lib.Seq.{sets};
 ghost use Rattle.feature.specs.Kinds.{Good, Within};
-ghost use Rattle.record.specs.Words.{bracketPair, pairOf, wordsOf, listOf, plainOf, bracketOf, loadOf, loadAt, bondList, bondAt, bondOf};
+ghost use Rattle.record.specs.Words.{isAtom, bracketPair, pairOf, wordsOf, listOf, plainOf, bracketOf, loadOf, loadAt, bondList, bondAt, bondOf};
 use feature::atom_kind::AtomKind;
 use feature::atom_kind::BracketAtom;
 use feature::atom_kind::CONFIGURATIONS;
@@ -194,6 +195,17 @@ pub fn load(t: &[u32], at: usize) -> Loaded
         return kind(look(t, at), look(t, at + 1));
     }
     Loaded::Bad
+}
+
+// Whether the record a of a table of atoms stands for one.
+pub fn is_atom(t: &[u32], a: usize) -> bool
+    requires { ⌜ a < 2 ^ 32 ⌝ }
+    ensures { λ r. ⌜ r ≡ isAtom (now (t .entry)) a ⌝ }
+{
+    match load(t, a * ATOM_WORDS) {
+        Loaded::Held(_) => true,
+        Loaded::Bad => false,
+    }
 }
 
 // A bond entry put at the place of its first word.

@@ -8,7 +8,7 @@ use native.Mathlib.Omega.{arith}
 use lib.ListN.{length}
 use lib.Dec.{ltb, leb, eqb}
 use borrow.Author.Tests.{ltb-true, ltb-false, eqb-true}
-use Rattle.record.specs.Words.{atomWords, bondWords}
+use Rattle.record.specs.Words.{atomWords, bondWords, isAtom}
 use Rattle.graph.specs.Limits.{atomLimit, bondLimit, lesserOf}
 use Rattle.reader.specs.Events as reader
 use Rattle.sketch.specs.Sketch.{Sketch, countOf, startS, runS}
@@ -18,7 +18,7 @@ use Rattle.walk.specs.declared.walker.Walker.{Walker}
 use Rattle.walk.specs.Walk.{unknownTarget, loop}
 use Rattle.judge.specs.declared.Judged.{Judged}
 use Rattle.judge.specs.declared.Judged.the-variants.{Bad, Holds}
-use Rattle.judge.specs.Judge.{degreeOf, atomStands, bondStands, atomsFrom, bondsFrom, afterAtoms, badRecord}
+use Rattle.judge.specs.Judge.{degreeOf, bondStands, atomsFrom, bondsFrom, afterAtoms, badRecord}
 use Rattle.write.specs.declared.answer.Written.{Written}
 use Rattle.write.specs.declared.answer.Written.the-variants.{Done, AtomRoom, BondRoom, OutRoom, BadTable}
 use Rattle.write.specs.Write.{zeros, graphOf, walkIn, saidIn, walkOf, saidOf, lineSaid, refusalOf, atomRoom, bondRoom, Left, left, refusing, putLine, concluded, graphWritten, writeOf}
@@ -82,7 +82,7 @@ atoms-most atoms m zero a held = omega arith
 atoms-most atoms m (suc k) a held =
     let z : a + 1 + k ≡ a + suc k = omega arith in
     by-test (Below (a + suc k)) (ltb (m - held) (degreeOf atoms a)) (λ q. omega arith)
-    (λ q. by-test (Below (a + suc k)) (atomStands atoms a) (λ y. rw z at (atoms-most atoms m k (a + 1) (held + degreeOf atoms a))) (λ y. omega arith))
+    (λ q. by-test (Below (a + suc k)) (isAtom atoms a) (λ y. rw z at (atoms-most atoms m k (a + 1) (held + degreeOf atoms a))) (λ y. omega arith))
 
 after-most : (x : Judged) (bonds : List ℕ) (n m : ℕ) → Below n x → afterAtoms x bonds n m ≤ n + m
 unfolding afterAtoms Below

@@ -1,2 +1,3 @@
 -- Laws that several proofs cite, and the theorems about texts.
 pub mod Laws
+pub mod Lengths

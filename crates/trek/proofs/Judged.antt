@@ -8,7 +8,8 @@ use lib.Dec.{ltb, leb}
 use borrow.Author.Tests.{ltb-false, leb-false}
 use Rattle.judge.specs.declared.Judged.{Judged}
 use Rattle.judge.specs.declared.Judged.the-variants.{Bad, Holds}
-use Rattle.judge.specs.Judge.{degreeOf, atomStands, bondStands, atomsFrom, bondsFrom, afterAtoms, badRecord}
+use Rattle.record.specs.Words.{isAtom}
+use Rattle.judge.specs.Judge.{degreeOf, bondStands, atomsFrom, bondsFrom, afterAtoms, badRecord}
 use Rattle.ways.specs.Graph.{Graph, graph, degreeIn}
 use Rattle.trek.specs.Trek.{degrees}
 use Rattle.feature.proofs.Cases.{by-test}
@@ -29,7 +30,7 @@ atoms-say g m (suc k) a held e h =
     let z : a + suc k ≡ a + 1 + k = omega arith in
     let bad : a < a + suc k = omega arith in
     by-test (Says g m (a + suc k)) (ltb (m - held) (degreeOf (g .atoms) a)) (λ q. bad)
-    (λ q. by-test (Says g m (a + suc k)) (atomStands (g .atoms) a)
+    (λ q. by-test (Says g m (a + suc k)) (isAtom (g .atoms) a)
     (λ y. rw z (atoms-say g m k (a + 1) (held + degreeOf (g .atoms) a) (omega (arith, one-more g a)) (omega (arith, ltb-false (m - held) (degreeOf (g .atoms) a) q))))
     (λ y. bad))
 

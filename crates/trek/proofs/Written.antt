@@ -11,7 +11,8 @@ use Rattle.feature.specs.declared.bond_kind.BondKind.{BondKind}
 use Rattle.spell.specs.Spell.{atomText, bondText, rnumText}
 use Rattle.writer.specs.Line.{Event, Root, Extend, Join, Pop, lineOf, dotText, addPiece, onLast, wrapped, popPieces, writeEvent, writeEvents}
 use Rattle.writer.proofs.Pieces.{length-onLast, line-onLast, line-split, long-wrapped}
-use Rattle.writer.proofs.Lengths.{atom-short, bond-short, rnum-short, dot-short}
+use Rattle.spell.proofs.Lengths.{atom-short, bond-short, rnum-short}
+use Rattle.writer.proofs.Lengths.{dot-short}
 use Rattle.walk.specs.Walk.{popsOf, popsThen}
 use Rattle.trek.specs.Trek.{AllAccepted}
 use Rattle.feature.proofs.Cases.{by-test}

@@ -23,7 +23,7 @@ use Rattle.writer.specs.Line as writer
 use Rattle.ways.specs.Graph.{Graph, kindAt, degreeAt, bondOf, kindOr, bondOr, kindIn, degreeIn, bondIn}
 use Rattle.ways.specs.Ways.{isRefused, isFixed, turnedOr, even, saidAs, scanIn, judgedBack, wayOf}
 use Rattle.walk.specs.Walk.{popsOf, rootOf, leftIn, numberedOf, ringOf, enteredOf, enterOf, bondTurn, entryOf, atomOf, turnOf, stepOf, walkTo, eventsOf, turnsOf}
-use Rattle.judge.specs.Judge.{isHeld, isEntry, atomStands, bondStands, atomsFrom, bondsFrom, afterAtoms, badRecord}
+use Rattle.judge.specs.Judge.{isEntry, bondStands, atomsFrom, bondsFrom, afterAtoms, badRecord}
 use Rattle.write.specs.declared.answer.Written.the-variants.{Done}
 use Rattle.write.specs.Write.{graphOf, walkIn, saidIn, atomRoom, bondRoom, left, putLine, concluded, graphWritten, writeOf}
 use Rattle.write.specs.Order.{orderOf}
@@ -53,7 +53,7 @@ abbrev line : List ℕ
 line = bytes "C-[C@H]-C"
 
 written : writeOf 12 atoms 3 bonds 4 ≡ left (Done 9) (line ++ (0 ∷ 0 ∷ 0 ∷ []))
-unfolding words.listOf words.wordsOf words.pairOf words.bracketPair words.loadAt words.loadOf words.plainOf words.bracketOf words.bondAt words.bondOf words.entryOf kindOf codeOf reverseOf bracketInRange inRange invertBracket invertOf kindOr bondOr kindIn degreeIn bondIn isRefused isFixed turnedOr even saidAs scanIn judgedBack wayOf popsOf rootOf leftIn numberedOf ringOf enteredOf enterOf bondTurn entryOf atomOf turnOf stepOf walkTo eventsOf turnsOf isHeld isEntry atomStands bondStands atomsFrom bondsFrom afterAtoms badRecord startsOf sumOf lesserOf walkIn saidIn atomRoom bondRoom putLine concluded graphWritten writeOf writer.lineOf writer.dotText writer.addPiece writer.onLast writer.wrapped writer.popPieces writer.writeEvent writer.writeEvents spell.atomText spell.kindText spell.nameText spell.symbolText spell.organic spell.bracketText spell.numberText spell.configurationText spell.hydrogensText spell.chargeText spell.mapText spell.bondText spell.digits names
+unfolding words.listOf words.wordsOf words.pairOf words.bracketPair words.loadAt words.loadOf words.plainOf words.bracketOf words.bondAt words.bondOf words.entryOf kindOf codeOf reverseOf bracketInRange inRange invertBracket invertOf kindOr bondOr kindIn degreeIn bondIn isRefused isFixed turnedOr even saidAs scanIn judgedBack wayOf popsOf rootOf leftIn numberedOf ringOf enteredOf enterOf bondTurn entryOf atomOf turnOf stepOf walkTo eventsOf turnsOf words.isHeld isEntry words.isAtom bondStands atomsFrom bondsFrom afterAtoms badRecord startsOf sumOf lesserOf walkIn saidIn atomRoom bondRoom putLine concluded graphWritten writeOf writer.lineOf writer.dotText writer.addPiece writer.onLast writer.wrapped writer.popPieces writer.writeEvent writer.writeEvents spell.atomText spell.kindText spell.nameText spell.symbolText spell.organic spell.bracketText spell.numberText spell.configurationText spell.hydrogensText spell.chargeText spell.mapText spell.bondText spell.digits names
 written = refl
 
 -- ---- what is asked

@@ -9,12 +9,12 @@ use native.Mathlib.Omega.{arith}
 use lib.ListN.{length}
 use lib.Dec.{ltb, leb, eqb}
 use borrow.Author.Tests.{ltb-true, ltb-false}
-use Rattle.record.specs.Words.{atomWords}
+use Rattle.record.specs.Words.{atomWords, isAtom}
 use Rattle.graph.specs.Limits.{atomLimit, lesserOf}
 use Rattle.build.specs.Build.{startsOf}
 use Rattle.judge.specs.declared.Judged.{Judged}
 use Rattle.judge.specs.declared.Judged.the-variants.{Bad, Holds}
-use Rattle.judge.specs.Judge.{degreeOf, atomStands, bondStands, atomsFrom, bondsFrom, afterAtoms, badRecord}
+use Rattle.judge.specs.Judge.{degreeOf, bondStands, atomsFrom, bondsFrom, afterAtoms, badRecord}
 use Rattle.walk.specs.declared.walker.Walker.{Walker}
 use Rattle.ways.specs.Ways.{halfBond, duplicateBond, incompatibleBond, inversion}
 use Rattle.walk.specs.Walk.{turnsOf, unknownTarget, loop}
@@ -55,7 +55,7 @@ atoms-most atoms m zero a held = omega arith
 atoms-most atoms m (suc k) a held =
     let z : a + 1 + k ≡ a + suc k = omega arith in
     by-test (Within (a + suc k)) (ltb (m - held) (degreeOf atoms a)) (λ q. omega arith)
-    (λ q. by-test (Within (a + suc k)) (atomStands atoms a) (λ y. rw z at (atoms-most atoms m k (a + 1) (held + degreeOf atoms a))) (λ y. omega arith))
+    (λ q. by-test (Within (a + suc k)) (isAtom atoms a) (λ y. rw z at (atoms-most atoms m k (a + 1) (held + degreeOf atoms a))) (λ y. omega arith))
 
 after-most : (x : Judged) (bonds : List ℕ) (n m : ℕ) → Within n x → afterAtoms x bonds n m ≤ n + m
 unfolding afterAtoms Within

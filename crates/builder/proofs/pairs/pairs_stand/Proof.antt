@@ -5,19 +5,20 @@ use mathlib.Core.Bool.{true}
 use native.Mathlib.Omega.{arith}
 use borrow.Author.Needs.{needs}
 use borrow.Author.Tests.{not-true, not-false}
-use Rattle.builder.specs.Events.{below, isPaired}
-use Rattle.builder.proofs.Below.{below-step, below-fails}
+use Rattle.feature.specs.Every.{every}
+use Rattle.builder.specs.Events.{isPaired}
+use Rattle.feature.proofs.Every.{every-step, every-fails}
 use Rattle.builder.proofs.pairs.pairs_stand.Statement.{statement}
 use Rattle.builder.proofs.pairs.pairs_stand.Tie as tie
 
 abbrev Inv-loop : tie.InvT-loop
-Inv-loop entries n i₀ i = (i ≤ n) × (below (isPaired entries n) i ≡ true)
+Inv-loop entries n i₀ i = (i ≤ n) × (every (isPaired entries n) i ≡ true)
 
 abbrev μ-loop : tie.MeasureT-loop
 μ-loop entries n i₀ i = n - i
 
 loop-holds : tie.Need-loop-holds Inv-loop μ-loop
-unfolding below
+unfolding every
 loop-holds c = (search needs, refl)
 
 is-paired-requires : tie.Need-is-paired-requires Inv-loop μ-loop
@@ -25,7 +26,7 @@ is-paired-requires c κs = search needs
 
 returns : tie.Need-returns Inv-loop μ-loop
 returns c =
-    sym (below-fails (isPaired (c .before .before .before .before .before .args .entries .now) (c .before .before .before .before .before .args .n)) (c .before .before .before .before .before .args .n) (c .before .before .before .loop .i) (c .before .before .loop-test .taken) (sym (c .before .is-paired .ensures) ∙ not-true _ (c .if1 .taken)))
+    sym (every-fails (isPaired (c .before .before .before .before .before .args .entries .now) (c .before .before .before .before .before .args .n)) (c .before .before .before .before .before .args .n) (c .before .before .before .loop .i) (c .before .before .loop-test .taken) (sym (c .before .is-paired .ensures) ∙ not-true _ (c .if1 .taken)))
 
 add-i : tie.Need-add-i Inv-loop μ-loop
 add-i c = search needs
@@ -35,12 +36,12 @@ loop-less c = search needs
 
 loop-again : tie.Need-loop-again Inv-loop μ-loop
 loop-again c =
-    (search needs, below-step (isPaired (c .before .before .before .before .before .args .entries .now) (c .before .before .before .before .before .args .n)) (c .before .before .before .loop .i) (c .before .before .before .loop .inv .1) (sym (c .before .is-paired .ensures) ∙ not-false _ (c .if1 .left)))
+    (search needs, every-step (isPaired (c .before .before .before .before .before .args .entries .now) (c .before .before .before .before .before .args .n)) (c .before .before .before .loop .i) (c .before .before .before .loop .inv .1) (sym (c .before .is-paired .ensures) ∙ not-false _ (c .if1 .left)))
 
 returns-2 : tie.Need-returns-2 Inv-loop μ-loop
 returns-2 c =
     let all : c .before .loop .i ≡ c .before .before .before .args .n = omega (arith, c .before .loop .inv .0, c .loop-test .left) in
-    sym (subst (λ (k : ℕ). below (isPaired (c .before .before .before .args .entries .now) (c .before .before .before .args .n)) k ≡ true) all (c .before .loop .inv .1))
+    sym (subst (λ (k : ℕ). every (isPaired (c .before .before .before .args .entries .now) (c .before .before .before .args .n)) k ≡ true) all (c .before .loop .inv .1))
 
 pub pairs-stand-spec : {M : Type 1} → statement M
 pairs-stand-spec =

@@ -6,19 +6,20 @@ use native.Mathlib.Omega.{arith}
 use borrow.Author.Needs.{needs}
 use borrow.Author.Tests.{not-true, not-false}
 use Rattle.graph.specs.Rings.{numbers}
-use Rattle.builder.specs.Events.{below, isRing}
-use Rattle.builder.proofs.Below.{below-step, below-fails}
+use Rattle.feature.specs.Every.{every}
+use Rattle.builder.specs.Events.{isRing}
+use Rattle.feature.proofs.Every.{every-step, every-fails}
 use Rattle.builder.proofs.state.rings_stand.Statement.{statement}
 use Rattle.builder.proofs.state.rings_stand.Tie as tie
 
 abbrev Inv-loop : tie.InvT-loop
-Inv-loop b entries rings n₀ n = (n ≤ numbers) × (below (isRing b entries rings) n ≡ true)
+Inv-loop b entries rings n₀ n = (n ≤ numbers) × (every (isRing b entries rings) n ≡ true)
 
 abbrev μ-loop : tie.MeasureT-loop
 μ-loop b entries rings n₀ n = numbers - n
 
 loop-holds : tie.Need-loop-holds Inv-loop μ-loop
-unfolding below
+unfolding every
 loop-holds c = (search needs, refl)
 
 is-ring-requires : tie.Need-is-ring-requires Inv-loop μ-loop
@@ -26,7 +27,7 @@ is-ring-requires c κs = search needs
 
 returns : tie.Need-returns Inv-loop μ-loop
 returns c =
-    sym (below-fails (isRing (c .before .before .before .before .before .before .args .b) (c .before .before .before .before .before .before .args .entries .now) (c .before .before .before .before .before .before .args .rings .now)) (numbers) (c .before .before .before .loop .n) (c .before .before .loop-test .taken) (sym (c .before .is-ring .ensures) ∙ not-true _ (c .if1 .taken)))
+    sym (every-fails (isRing (c .before .before .before .before .before .before .args .b) (c .before .before .before .before .before .before .args .entries .now) (c .before .before .before .before .before .before .args .rings .now)) (numbers) (c .before .before .before .loop .n) (c .before .before .loop-test .taken) (sym (c .before .is-ring .ensures) ∙ not-true _ (c .if1 .taken)))
 
 add-n : tie.Need-add-n Inv-loop μ-loop
 add-n c = search needs
@@ -36,12 +37,12 @@ loop-less c = search needs
 
 loop-again : tie.Need-loop-again Inv-loop μ-loop
 loop-again c =
-    (search needs, below-step (isRing (c .before .before .before .before .before .before .args .b) (c .before .before .before .before .before .before .args .entries .now) (c .before .before .before .before .before .before .args .rings .now)) (c .before .before .before .loop .n) (c .before .before .before .loop .inv .1) (sym (c .before .is-ring .ensures) ∙ not-false _ (c .if1 .left)))
+    (search needs, every-step (isRing (c .before .before .before .before .before .before .args .b) (c .before .before .before .before .before .before .args .entries .now) (c .before .before .before .before .before .before .args .rings .now)) (c .before .before .before .loop .n) (c .before .before .before .loop .inv .1) (sym (c .before .is-ring .ensures) ∙ not-false _ (c .if1 .left)))
 
 returns-2 : tie.Need-returns-2 Inv-loop μ-loop
 returns-2 c =
     let all : c .before .loop .n ≡ numbers = omega (arith, c .before .loop .inv .0, c .loop-test .left) in
-    sym (subst (λ (k : ℕ). below (isRing (c .before .before .before .before .args .b) (c .before .before .before .before .args .entries .now) (c .before .before .before .before .args .rings .now)) k ≡ true) all (c .before .loop .inv .1))
+    sym (subst (λ (k : ℕ). every (isRing (c .before .before .before .before .args .b) (c .before .before .before .before .args .entries .now) (c .before .before .before .before .args .rings .now)) k ≡ true) all (c .before .loop .inv .1))
 
 pub rings-stand-spec : {M : Type 1} → statement M
 rings-stand-spec =

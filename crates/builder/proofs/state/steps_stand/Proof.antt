@@ -9,8 +9,9 @@ use Rattle.graph.specs.declared.builder.Builder.{Builder}
 use native.Mathlib.Omega.{arith}
 use borrow.Author.Needs.{needs}
 use borrow.Author.Tests.{not-true, not-false}
-use Rattle.builder.specs.Events.{below, isStep}
-use Rattle.builder.proofs.Below.{below-step, below-fails}
+use Rattle.feature.specs.Every.{every}
+use Rattle.builder.specs.Events.{isStep}
+use Rattle.feature.proofs.Every.{every-step, every-fails}
 use Rattle.builder.proofs.state.steps_stand.Statement.{statement}
 use Rattle.builder.proofs.state.steps_stand.Tie as tie
 
@@ -20,13 +21,13 @@ unfolding isStep
 by-look b p i e d h = sym (ap (λ (m : ℕ). ltb m (b .atoms)) e) ∙ sym d ∙ h
 
 abbrev Inv-loop : tie.InvT-loop
-Inv-loop b path n i₀ i = (i ≤ n) × (below (isStep b path) i ≡ true)
+Inv-loop b path n i₀ i = (i ≤ n) × (every (isStep b path) i ≡ true)
 
 abbrev μ-loop : tie.MeasureT-loop
 μ-loop b path n i₀ i = n - i
 
 loop-holds : tie.Need-loop-holds Inv-loop μ-loop
-unfolding below
+unfolding every
 loop-holds c = (search needs, refl)
 
 look-requires : tie.Need-look-requires Inv-loop μ-loop
@@ -37,7 +38,7 @@ is-below-requires c κs = search needs
 
 returns : tie.Need-returns Inv-loop μ-loop
 returns c =
-    sym (below-fails (isStep (c .before .before .before .before .before .before .args .b) (c .before .before .before .before .before .before .args .path .now)) (c .before .before .before .before .before .before .args .n) (c .before .before .before .before .loop .i) (c .before .before .before .loop-test .taken) (by-look (c .before .before .before .before .before .before .args .b) (c .before .before .before .before .before .before .args .path .now) (c .before .before .before .before .loop .i) (c .before .before .look .ensures) (c .before .is-below .ensures) (not-true _ (c .if1 .taken))))
+    sym (every-fails (isStep (c .before .before .before .before .before .before .args .b) (c .before .before .before .before .before .before .args .path .now)) (c .before .before .before .before .before .before .args .n) (c .before .before .before .before .loop .i) (c .before .before .before .loop-test .taken) (by-look (c .before .before .before .before .before .before .args .b) (c .before .before .before .before .before .before .args .path .now) (c .before .before .before .before .loop .i) (c .before .before .look .ensures) (c .before .is-below .ensures) (not-true _ (c .if1 .taken))))
 
 add-i : tie.Need-add-i Inv-loop μ-loop
 add-i c = search needs
@@ -47,12 +48,12 @@ loop-less c = search needs
 
 loop-again : tie.Need-loop-again Inv-loop μ-loop
 loop-again c =
-    (search needs, below-step (isStep (c .before .before .before .before .before .before .args .b) (c .before .before .before .before .before .before .args .path .now)) (c .before .before .before .before .loop .i) (c .before .before .before .before .loop .inv .1) (by-look (c .before .before .before .before .before .before .args .b) (c .before .before .before .before .before .before .args .path .now) (c .before .before .before .before .loop .i) (c .before .before .look .ensures) (c .before .is-below .ensures) (not-false _ (c .if1 .left))))
+    (search needs, every-step (isStep (c .before .before .before .before .before .before .args .b) (c .before .before .before .before .before .before .args .path .now)) (c .before .before .before .before .loop .i) (c .before .before .before .before .loop .inv .1) (by-look (c .before .before .before .before .before .before .args .b) (c .before .before .before .before .before .before .args .path .now) (c .before .before .before .before .loop .i) (c .before .before .look .ensures) (c .before .is-below .ensures) (not-false _ (c .if1 .left))))
 
 returns-2 : tie.Need-returns-2 Inv-loop μ-loop
 returns-2 c =
     let all : c .before .loop .i ≡ c .before .before .before .args .n = omega (arith, c .before .loop .inv .0, c .loop-test .left) in
-    sym (subst (λ (k : ℕ). below (isStep (c .before .before .before .args .b) (c .before .before .before .args .path .now)) k ≡ true) all (c .before .loop .inv .1))
+    sym (subst (λ (k : ℕ). every (isStep (c .before .before .before .args .b) (c .before .before .before .args .path .now)) k ≡ true) all (c .before .loop .inv .1))
 
 pub steps-stand-spec : {M : Type 1} → statement M
 steps-stand-spec =

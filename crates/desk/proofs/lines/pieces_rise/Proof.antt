@@ -1,12 +1,12 @@
 -- The invariant: the pieces passed end no sooner than they start.
 use borrow.Author.Needs.{needs}
-use Rattle.desk.specs.Every.{every}
+use Rattle.feature.specs.Every.{every}
 use Rattle.desk.specs.Pieces.{isPiece}
 use Prim.Native.Nat.{_-_, _≤_}
 use mathlib.Core.Path.{_≡_, refl, sym, _∙_}
 use mathlib.Core.Bool.{true}
 use borrow.Author.Tests.{not-true, not-false}
-use Rattle.desk.proofs.Every.{every-step, every-fails, every-end}
+use Rattle.feature.proofs.Every.{every-step, every-fails, every-end}
 use Rattle.desk.proofs.lines.pieces_rise.Statement.{statement}
 use Rattle.desk.proofs.lines.pieces_rise.Tie as tie
 use Rattle.desk.proofs.lines.pieces_rise.Reads as reads

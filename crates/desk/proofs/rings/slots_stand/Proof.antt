@@ -1,12 +1,12 @@
 -- The invariant: the slots passed stand.
 use borrow.Author.Needs.{needs}
-use Rattle.desk.specs.Every.{every}
+use Rattle.feature.specs.Every.{every}
 use Rattle.desk.specs.Slots.{top, isSlot}
 use Prim.Native.Nat.{_+_, _-_, _≤_}
 use mathlib.Core.Path.{_≡_, refl, sym, _∙_}
 use mathlib.Core.Bool.{true}
 use borrow.Author.Tests.{not-true, not-false}
-use Rattle.desk.proofs.Every.{every-step, every-fails, every-end}
+use Rattle.feature.proofs.Every.{every-step, every-fails, every-end}
 use Rattle.desk.proofs.rings.slots_stand.Statement.{statement}
 use Rattle.desk.proofs.rings.slots_stand.Tie as tie
 use Rattle.desk.proofs.rings.slots_stand.Reads as reads

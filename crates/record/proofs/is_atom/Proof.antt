@@ -1,8 +1,8 @@
 -- By what the record says.
-use Rattle.judge.specs.Judge.{atomStands, isHeld}
+use Rattle.record.specs.Words.{isAtom, isHeld}
 use borrow.Author.Needs.{needs}
-use Rattle.judge.proofs.is_atom.Statement.{statement}
-use Rattle.judge.proofs.is_atom.Tie as tie
+use Rattle.record.proofs.is_atom.Statement.{statement}
+use Rattle.record.proofs.is_atom.Tie as tie
 
 mul-load : tie.Need-mul-load
 mul-load c = search needs
@@ -17,11 +17,11 @@ enum-told-2 : tie.Need-enum-told-2
 enum-told-2 c = search needs
 
 returns : tie.Need-returns
-unfolding atomStands isHeld
+unfolding isAtom isHeld
 returns c = simp (← c .before .before .load .ensures, c .enum-told .given .1)
 
 returns-2 : tie.Need-returns-2
-unfolding atomStands isHeld
+unfolding isAtom isHeld
 returns-2 c = simp (← c .before .before .load .ensures, c .enum-told2 .given .1)
 
 pub is-atom-spec : {M : Type 1} → statement M

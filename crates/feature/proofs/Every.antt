@@ -6,8 +6,8 @@ use native.Mathlib.Omega.{arith}
 use native.Mathlib.Numerals.{add-one}
 use lib.Dec.{eqb}
 use borrow.Author.Tests.{eqb-true, eqb-false}
 use Rattle.feature.specs.Pick.{pick}
-use Rattle.desk.specs.Every.{every}
+use Rattle.feature.specs.Every.{every}
 
 -- one more number passes
 pub every-step : (f : ℕ → Bool) (i : ℕ) → every f i ≡ true → f i ≡ true → every f (i + 1) ≡ true
