@@ -1,15 +1,6 @@
 //! Our exports, over tables and an output that are lent again for each line.
 
-extern "C" {
-    fn mavisdrok_read(
-        text: *const u8, text_len: usize, atoms: *mut u32, atoms_len: usize, bonds: *mut u32, bonds_len: usize,
-        report: *mut u64, report_len: usize,
-    );
-    fn mavisdrok_write(
-        atoms: *const u32, atoms_len: usize, n: usize, bonds: *const u32, bonds_len: usize, m: usize, out: *mut u8,
-        out_len: usize, report: *mut u64, report_len: usize,
-    );
-}
+use crate::exports::{mavisdrok_read, mavisdrok_write};
 
 const ATOM_WORDS: usize = 3;
 const BOND_WORDS: usize = 2;

@@ -9,6 +9,7 @@ use crate::read::read;
 use crate::walk::walk;
 use crate::write::Writer;
 
+mod exports;
 mod feature;
 mod graph;
 mod lines;

@@ -4,6 +4,9 @@
 
 mod check;
 mod compare;
+// All exports as bindings/rust declares them, of which three are called here.
+#[allow(dead_code)]
+mod declared;
 mod exports;
 mod label;
 mod room;

@@ -2,16 +2,8 @@
 use std::fmt;
 use std::str::FromStr;
 
+use crate::exports::{mavisdrok_read_atom, mavisdrok_spell_atom, mavisdrok_spell_bond, mavisdrok_spell_rnum};
 use crate::{told, Error};
-
-extern "C" {
-    fn mavisdrok_read_atom(
-        text: *const u8, text_len: usize, kind: *mut u32, kind_len: usize, report: *mut u64, report_len: usize,
-    );
-    fn mavisdrok_spell_atom(out: *mut u8, out_len: usize, first: u32, second: u32, report: *mut u64, report_len: usize);
-    fn mavisdrok_spell_bond(out: *mut u8, out_len: usize, bond: u32, report: *mut u64, report_len: usize);
-    fn mavisdrok_spell_rnum(out: *mut u8, out_len: usize, number: u32, report: *mut u64, report_len: usize);
-}
 
 /// No text of an atom, a bond or a ring number is longer.
 const LONGEST: usize = 21;

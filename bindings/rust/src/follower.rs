@@ -1,58 +1,11 @@
 //! A builder, a writer and a pool, told event by event, under purr's names. Where purr panics, these answer a refusal, and a
 //! refused event changes nothing.
+use crate::exports::{
+    mavisdrok_builder_build, mavisdrok_builder_extend, mavisdrok_builder_join, mavisdrok_builder_pop,
+    mavisdrok_builder_root, mavisdrok_builder_start, mavisdrok_pool_hit, mavisdrok_writer_extend,
+    mavisdrok_writer_join, mavisdrok_writer_pop, mavisdrok_writer_root,
+};
 use crate::{told, AtomKind, BondKind, Error, Graph, Rnum, ATOMS, ATOM_WORDS, BONDS, BOND_WORDS};
-
-extern "C" {
-    fn mavisdrok_builder_start(
-        places: usize, slots: usize, rings: *mut u32, rings_len: usize, state: *mut u64, state_len: usize,
-        report: *mut u64, report_len: usize,
-    );
-    fn mavisdrok_builder_root(
-        atoms: *mut u32, atoms_len: usize, entries: *const u32, entries_len: usize, path: *mut u32, path_len: usize,
-        rings: *const u32, rings_len: usize, state: *mut u64, state_len: usize, first: u32, second: u32,
-        report: *mut u64, report_len: usize,
-    );
-    fn mavisdrok_builder_extend(
-        atoms: *mut u32, atoms_len: usize, entries: *mut u32, entries_len: usize, path: *mut u32, path_len: usize,
-        rings: *const u32, rings_len: usize, state: *mut u64, state_len: usize, bond: u32, first: u32, second: u32,
-        report: *mut u64, report_len: usize,
-    );
-    fn mavisdrok_builder_join(
-        atoms: *const u32, atoms_len: usize, entries: *mut u32, entries_len: usize, path: *const u32, path_len: usize,
-        rings: *mut u32, rings_len: usize, state: *mut u64, state_len: usize, bond: u32, number: usize,
-        report: *mut u64, report_len: usize,
-    );
-    fn mavisdrok_builder_pop(
-        atoms: *const u32, atoms_len: usize, entries: *const u32, entries_len: usize, path: *const u32,
-        path_len: usize, rings: *const u32, rings_len: usize, state: *mut u64, state_len: usize, n: usize,
-        report: *mut u64, report_len: usize,
-    );
-    fn mavisdrok_builder_build(
-        atoms: *mut u32, atoms_len: usize, bonds: *mut u32, bonds_len: usize, entries: *const u32, entries_len: usize,
-        path: *const u32, path_len: usize, rings: *const u32, rings_len: usize, state: *const u64, state_len: usize,
-        report: *mut u64, report_len: usize,
-    );
-    fn mavisdrok_writer_root(
-        out: *mut u8, out_len: usize, starts: *mut u32, starts_len: usize, state: *mut u64, state_len: usize,
-        first: u32, second: u32, report: *mut u64, report_len: usize,
-    );
-    fn mavisdrok_writer_extend(
-        out: *mut u8, out_len: usize, starts: *mut u32, starts_len: usize, state: *mut u64, state_len: usize,
-        bond: u32, first: u32, second: u32, report: *mut u64, report_len: usize,
-    );
-    fn mavisdrok_writer_join(
-        out: *mut u8, out_len: usize, starts: *mut u32, starts_len: usize, state: *mut u64, state_len: usize,
-        bond: u32, number: u32, report: *mut u64, report_len: usize,
-    );
-    fn mavisdrok_writer_pop(
-        out: *mut u8, out_len: usize, starts: *mut u32, starts_len: usize, state: *mut u64, state_len: usize,
-        n: usize, report: *mut u64, report_len: usize,
-    );
-    fn mavisdrok_pool_hit(
-        pairs: *mut u32, pairs_len: usize, state: *mut u64, state_len: usize, a: u32, b: u32, report: *mut u64,
-        report_len: usize,
-    );
-}
 
 /// The words of an entry in the making, of the open ring numbers and of a pool's table.
 const ENTRY_WORDS: usize = 3;

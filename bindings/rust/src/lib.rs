@@ -8,8 +8,11 @@
 //! assert_eq!(mavisdrok::read(b"C)"), Err(mavisdrok::Error::Character(1)));
 //! ```
 
+mod exports;
 mod feature;
 mod follower;
+
+use exports::{mavisdrok_order, mavisdrok_read, mavisdrok_write};
 
 pub use feature::{AtomKind, BondKind, Rnum};
 pub use follower::{Builder, Follower, JoinPool, Writer};
@@ -19,22 +22,6 @@ pub const ATOMS: usize = 1024;
 pub const BONDS: usize = 2304;
 pub const ATOM_WORDS: usize = 3;
 pub const BOND_WORDS: usize = 2;
-
-extern "C" {
-    fn mavisdrok_read(
-        text: *const u8, text_len: usize, atoms: *mut u32, atoms_len: usize, bonds: *mut u32, bonds_len: usize,
-        report: *mut u64, report_len: usize,
-    );
-    fn mavisdrok_write(
-        atoms: *const u32, atoms_len: usize, n: usize, bonds: *const u32, bonds_len: usize, m: usize, out: *mut u8,
-        out_len: usize, report: *mut u64, report_len: usize,
-    );
-    fn mavisdrok_order(
-        atoms: *const u32, atoms_len: usize, n: usize, bonds: *const u32, bonds_len: usize, m: usize, walked: *mut u32,
-        walked_len: usize, number: *mut u32, number_len: usize, back: *mut u32, back_len: usize, report: *mut u64,
-        report_len: usize,
-    );
-}
 
 /// A refusal, by the desk's name, with what it carries. The names are purr's where it has one.
 #[derive(Clone, Copy, Debug, PartialEq, Eq)]

@@ -8,14 +8,14 @@ use native.Mathlib.Omega.{arith}
 use lib.ListN.{length, getD, replicate}
 use borrow.Author.Tests.{le-leb}
 use Rattle.feature.specs.Kinds.{inRange, invertOf}
-use Rattle.feature.specs.Bonds.{codeOf, kindOf, reverseOf, isDirectional, reconcileOf}
+use Rattle.feature.specs.Bonds.{codeOf, kindOf, reverseOf, isDirectional, reconcileOf, sureKind}
 use Rattle.feature.specs.declared.atom_kind.AtomKind.the-variants.{Star}
 use Rattle.feature.specs.declared.bond_kind.BondKind.{BondKind}
 use Rattle.feature.specs.declared.bond_kind.BondKind.the-variants.{Elided, Double, Triple}
 use Rattle.record.specs.Words.{atomWords, pairOf, wordsOf, listOf, plainOf, bracketOf, loadOf, loadAt}
 use Rattle.graph.specs.Limits.{atomLimit, bondLimit, lesserOf}
 use Rattle.graph.specs.Rings.{numbers}
-use Rattle.graph.specs.State.{Bld, bld, state, startOf, entryWords, failedSt, refuse, lastOf, entered, rootOf, bonded, extendedBy, extendOf, openedOf, openedAt, openingOf, sureKind, openingKind, closedBy, joinOf, popOf}
+use Rattle.graph.specs.State.{Bld, bld, state, startOf, entryWords, failedSt, refuse, lastOf, entered, rootOf, bonded, extendedBy, extendOf, openedOf, openedAt, openingOf, openingKind, closedBy, joinOf, popOf}
 use Rattle.graph.specs.declared.builder.Builder.{Builder}
 use Rattle.build.specs.Build.{blanked, counted, sumOf, startsOf, placed, moved, firstOpen, gathered, atomsOf, entriesOf, bondsOf, closedOf, buildOf}
 use Rattle.feature.specs.Every.{every}

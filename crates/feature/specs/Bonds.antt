@@ -62,6 +62,11 @@ kindOf n =
     (pick (eqb n 8) (Kind Down)
     Bad)))))))
 
+-- the kind, and an elided bond for none
+unfoldable pub sureKind : Coded → BondKind
+sureKind (Kind k) = k
+sureKind Bad = Elided
+
 abbrev pub same : BondKind → BondKind → Bool
 same j k = eqb (codeOf j) (codeOf k)
 

@@ -1,7 +1,7 @@
 // A bond's kind: its reverse, its number, and what the two ends of a ring bond agree on.
 ghost use mathlib.Core.Path.{_≡_};
 ghost use Prim.Native.Nat.{_<_, _≤_};
-ghost use Rattle.feature.specs.Bonds.{reverseOf, isDirectional, codeOf, NumberOf, kindOf, reconcileOf};
+ghost use Rattle.feature.specs.Bonds.{reverseOf, isDirectional, codeOf, NumberOf, kindOf, reconcileOf, sureKind};
 
 pub enum BondKind {
     Elided,
@@ -86,6 +86,16 @@ pub fn decode(n: u32) -> Coded
         return Coded::Kind(BondKind::Down);
     }
     Coded::Bad
+}
+
+// The kind, and an elided bond for none.
+pub fn sure_kind(n: u32) -> BondKind
+    ensures { λ r. ⌜ r ≡ sureKind (kindOf n) ⌝ }
+{
+    match decode(n) {
+        Coded::Kind(k) => k,
+        Coded::Bad => BondKind::Elided,
+    }
 }
 
 fn is_directional(k: BondKind) -> bool

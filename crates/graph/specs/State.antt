@@ -10,14 +10,12 @@ use lib.Seq.{sets}
 use lib.Dec.{ltb, leb, eqb}
 use Rattle.feature.specs.Pick.{pick}
 use Rattle.feature.specs.Kinds.{invertOf}
-use Rattle.feature.specs.Bonds.{codeOf, kindOf, reverseOf, reconcileOf}
+use Rattle.feature.specs.Bonds.{codeOf, kindOf, sureKind, reverseOf, reconcileOf}
 use Rattle.feature.specs.declared.atom_kind.AtomKind.{AtomKind}
 use Rattle.feature.specs.declared.atom_kind.Inverted.{Inverted}
 use Rattle.feature.specs.declared.atom_kind.Inverted.the-variants.{Turned, Refused}
 use Rattle.feature.specs.declared.bond_kind.BondKind.{BondKind}
 use Rattle.feature.specs.declared.bond_kind.BondKind.the-variants as kind
-use Rattle.feature.specs.declared.bond_kind.Coded.{Coded}
-use Rattle.feature.specs.declared.bond_kind.Coded.the-variants as coded
 use Rattle.feature.specs.declared.bond_kind.Reconciled.{Reconciled}
 use Rattle.feature.specs.declared.bond_kind.Reconciled.the-variants.{Both, Fails}
 use Rattle.record.specs.Words.{atomWords, listOf}
@@ -153,11 +151,6 @@ openedAt b n = (getD (b .rings) n 0 - 1) * entryWords
 
 unfoldable pub openingOf : Bld → ℕ → ℕ
 openingOf b n = getD (b .entries) (openedAt b n) 0
-
--- every number that a builder writes stands for a kind
-unfoldable pub sureKind : Coded → BondKind
-sureKind (coded.Kind k) = k
-sureKind coded.Bad = kind.Elided
 
 unfoldable pub openingKind : Bld → ℕ → BondKind
 openingKind b n = sureKind (kindOf (getD (b .entries) (openedAt b n + 1) 0))

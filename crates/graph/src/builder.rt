@@ -7,20 +7,19 @@ ghost use mathlib.Core.List.{List, [], _∷_};
 ghost use Prim.Native.Nat.{ℕ, _+_, _*_, _-_, _^_, _<_, _≤_};
 ghost use lib.ListN.{length, getD, set};
 ghost use lib.Seq.{sets};
-ghost use Rattle.feature.specs.Bonds.{codeOf, kindOf, reconcileOf};
+ghost use Rattle.feature.specs.Bonds.{codeOf, reconcileOf};
 ghost use Rattle.graph.specs.Rings.{numbers};
-ghost use Rattle.graph.specs.State.{bld, Small, startOf, refusedSt, poppedSt, failedSt, joinedSt, entryWords, entryList, lastOf, entered, rootOf, bonded, extendOf, openedOf, openingOf, openedAt, openingKind, sureKind, closedBy, joinOf};
+ghost use Rattle.graph.specs.State.{bld, Small, startOf, refusedSt, poppedSt, failedSt, joinedSt, entryWords, entryList, lastOf, entered, rootOf, bonded, extendOf, openedOf, openingOf, openedAt, openingKind, closedBy, joinOf};
 use crate::opens::rejoin;
 use feature::atom_kind::AtomKind;
 use feature::atom_kind::Inverted;
 use feature::atom_kind::invert;
 use feature::bond_kind::BondKind;
-use feature::bond_kind::Coded;
 use feature::bond_kind::Reconciled;
 use feature::bond_kind::code;
-use feature::bond_kind::decode;
 use feature::bond_kind::reconcile;
 use feature::bond_kind::reverse;
+use feature::bond_kind::sure_kind;
 use record::ATOM_WORDS;
 use record::look;
 use record::poke;
@@ -139,15 +138,6 @@ impl Builder {
         self.closing = closing;
         self.opening = opening;
         self
-    }
-}
-
-fn sure_kind(n: u32) -> BondKind
-    ensures { λ r. ⌜ r ≡ sureKind (kindOf n) ⌝ }
-{
-    match decode(n) {
-        Coded::Kind(k) => k,
-        Coded::Bad => BondKind::Elided,
     }
 }
 

@@ -10,12 +10,12 @@ use lib.Seq.{sets, length-sets, getD-at, getD-take}
 use lib.Dec.{ltb, eqb}
 use borrow.Author.Tests.{ltb-false, eq-eqb, ne-eqb}
 use Rattle.feature.specs.Pick.{pick}
-use Rattle.feature.specs.Bonds.{codeOf, kindOf, reconcileOf}
+use Rattle.feature.specs.Bonds.{codeOf, kindOf, reconcileOf, sureKind}
 use Rattle.feature.specs.declared.bond_kind.BondKind.{BondKind}
 use Rattle.feature.specs.declared.bond_kind.Reconciled.{Reconciled}
 use Rattle.feature.specs.declared.bond_kind.Reconciled.the-variants.{Both, Fails}
 use Rattle.graph.specs.Rings.{numbers}
-use Rattle.graph.specs.State.{Bld, bld, state, unclosed, entryWords, entryList, bondRoom, noAtom, refuse, joinedSt, failedSt, lastOf, openedOf, openedAt, openingOf, sureKind, openingKind, closedBy, joinOf}
+use Rattle.graph.specs.State.{Bld, bld, state, unclosed, entryWords, entryList, bondRoom, noAtom, refuse, joinedSt, failedSt, lastOf, openedOf, openedAt, openingOf, openingKind, closedBy, joinOf}
 use Rattle.graph.specs.declared.builder.Builder.{Builder}
 use Rattle.graph.proofs.Joins.{first-failed, again-failed}
 use Rattle.sketch.specs.Sketch.{To, Open, Node, Held, Failure, None, Failed, Sketch, edge, held, joined, firstOf, broken, countOf, upd, edgesAt, addEdge, openKind, fill, lookup, without, openedS, closedS, ringS, joinS, targetOf}

@@ -8,13 +8,12 @@ use lib.ListN.{length, getD, set}
 use lib.Dec.{ltb, eqb}
 use borrow.Author.Tests.{ltb-true, ltb-false, eqb-true, eq-eqb, ne-eqb}
 use Rattle.feature.specs.Pick.{pick, both}
-use Rattle.feature.specs.Bonds.{codeOf, kindOf, same, isDirectional, reverseOf, reconcileOf}
+use Rattle.feature.specs.Bonds.{codeOf, kindOf, same, isDirectional, reverseOf, reconcileOf, sureKind}
 use Rattle.feature.specs.declared.atom_kind.AtomKind.{AtomKind}
 use Rattle.feature.specs.declared.bond_kind.BondKind.{BondKind}
 use Rattle.feature.specs.declared.bond_kind.BondKind.the-variants as bonds
 use Rattle.feature.specs.declared.bond_kind.Reconciled.{Reconciled}
 use Rattle.feature.specs.declared.bond_kind.Reconciled.the-variants.{Both, Fails}
-use Rattle.graph.specs.State.{sureKind}
 use Rattle.sketch.specs.Sketch.{To, Open, Edge, edge, edgesAt, leads, isBond, bondsTo, BothEnds}
 use Rattle.sketch.proofs.Rows.{by-eq, Row, row, noRow, edgesOf, nodesOf, edges-at, edges-none, Opened}
 

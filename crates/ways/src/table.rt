@@ -1,5 +1,5 @@
 // Atoms and bonds as a walk asks for them. Words that stand for none were refused before; here they are a star, and an
-// elided bond to atom 0, so that no call asks anything of its caller.
+// elided bond to atom 0, so that no call asks what the tables hold.
 ghost use mathlib.Core.Path.{_≡_};
 ghost use Prim.Native.Nat.{_+_, _*_, _^_, _<_};
 ghost use lib.ListN.{getD};
@@ -11,6 +11,7 @@ use feature::bond_kind::BondKind;
 use feature::bond_kind::Coded;
 use feature::bond_kind::code;
 use feature::bond_kind::decode;
+use feature::bond_kind::sure_kind;
 use record::ATOM_WORDS;
 use record::BOND_WORDS;
 use record::DEGREE;
@@ -39,16 +40,6 @@ pub fn entry_at(first: &[u32], a: u32, i: u32) -> usize
     ensures { λ r. ⌜ (r ≡ (getD (now (first .entry)) a 0 + i) * bondWords) × (r < 2 ^ 34) ⌝ }
 {
     (look(first, a as usize) as usize + i as usize) * BOND_WORDS
-}
-
-// The kind of an entry by its number.
-pub fn sure_kind(code: u32) -> BondKind
-    ensures { λ r. ⌜ r ≡ bondOr (bondOf code 0) .kind ⌝ }
-{
-    match decode(code) {
-        Coded::Kind(k) => k,
-        Coded::Bad => BondKind::Elided,
-    }
 }
 
 // The target of the entry that stands at a place, by the number of its kind.

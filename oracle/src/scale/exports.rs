@@ -2,46 +2,7 @@
 //! filled with something else first, and has cells behind it that no call may
 //! touch.
 
-extern "C" {
-    fn mavisdrok_read(
-        text: *const u8,
-        text_len: usize,
-        atoms: *mut u32,
-        atoms_len: usize,
-        bonds: *mut u32,
-        bonds_len: usize,
-        report: *mut u64,
-        report_len: usize,
-    );
-    fn mavisdrok_write(
-        atoms: *const u32,
-        atoms_len: usize,
-        n: usize,
-        bonds: *const u32,
-        bonds_len: usize,
-        m: usize,
-        out: *mut u8,
-        out_len: usize,
-        report: *mut u64,
-        report_len: usize,
-    );
-    fn mavisdrok_order(
-        atoms: *const u32,
-        atoms_len: usize,
-        n: usize,
-        bonds: *const u32,
-        bonds_len: usize,
-        m: usize,
-        walked: *mut u32,
-        walked_len: usize,
-        number: *mut u32,
-        number_len: usize,
-        back: *mut u32,
-        back_len: usize,
-        report: *mut u64,
-        report_len: usize,
-    );
-}
+use crate::scale::declared::{mavisdrok_order, mavisdrok_read, mavisdrok_write};
 
 /// The desk's number and the two values that it carries.
 pub const REPORT_WORDS: usize = 3;

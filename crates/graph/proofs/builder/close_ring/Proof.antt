@@ -1,6 +1,6 @@
-use Rattle.graph.specs.State.{bld, sureKind}
+use Rattle.graph.specs.State.{bld}
 use Rattle.graph.proofs.Joins.{closed-fails, closed-full, closed-both}
-use Rattle.feature.specs.Bonds.{kindOf}
+use Rattle.feature.specs.Bonds.{kindOf, sureKind}
 use Prim.Native.Nat.{ℕ}
 use mathlib.Core.Path.{ap, sym, _∙_}
 use borrow.Author.Needs.{needs}
@@ -13,7 +13,6 @@ use Rattle.graph.proofs.builder.Builder.fail.Reads as fail-reads
 use Rattle.graph.proofs.builder.Builder.joined.Reads as joined-reads
 use Rattle.graph.proofs.builder.Builder.refused.Reads as refused-reads
 use Rattle.graph.proofs.builder.settle.Reads as settle-reads
-use Rattle.graph.proofs.builder.sure_kind.Reads as sure-kind-reads
 use Rattle.graph.proofs.opens.rejoin.Reads as rejoin-reads
 use Rattle.record.proofs.look.Reads as look-reads
 
