@@ -171,8 +171,7 @@ pub fn name(symbol: u32) -> u32
     }
 }
 
-// A place in the table before which each name begins with a lower byte. It is where the names with this byte begin, if there
-// are any; a search from any such place finds them.
+// A place in the table before which each name begins with a lower byte, so that a search for a name may begin there.
 fn first_of(byte: u32) -> u32
     ensures { λ r. ⌜ Begun byte r ⌝ }
 {

@@ -151,7 +151,7 @@ fn put_entry(entries: &mut [u32], e: usize, source: u32, kind: u32, target: u32)
     poke(entries, at + 2, target);
 }
 
-// The two entries of a bond, one after the other: where there is room for both, as always, one test does.
+// The two entries of a bond, one after the other. Where there is room for both, one test does.
 fn put_bond(entries: &mut [u32], e: usize, source: u32, kind: u32, target: u32, reversed: u32)
     requires { ⌜ e < 2 ^ 32 ⌝ }
     ensures { λ r. ⌜ now (entries .exit) ≡ sets (sets (now (entries .entry)) (e * entryWords) (entryList source kind target)) ((e + 1) * entryWords) (entryList target reversed source) ⌝ }

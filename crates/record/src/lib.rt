@@ -1,7 +1,7 @@
 // How atoms and bonds stand in lent numbers: docs/PACKING.md has the table.
 //
 // A record is a fixed number of words. Reading past a table finds zeros, and a zero stands for no atom and no bond; a
-// store past a table changes nothing. So no call here asks anything of its caller.
+// store past a table changes nothing. So no call here asks what a table holds.
 ghost use mathlib.Core.Path.{_≡_};
 ghost use Prim.Native.Nat.{_^_, _<_};
 ghost use lib.ListN.{getD, set};
