@@ -6,8 +6,6 @@ use feature::atom_kind::AtomKind;
 use feature::atom_kind::Inverted;
 use feature::atom_kind::invert;
 use feature::element;
-use feature::targets::Valences;
-use feature::targets::targets;
 use form::byte::put;
 use form::byte::put_word;
 use form::kind;
@@ -15,6 +13,8 @@ use form::kind::Kind;
 use form::number;
 use form::text;
 use spell::spell_atom;
+use targets::Valences;
+use targets::targets;
 
 // No atom's text is longer.
 const LONGEST: usize = 21;

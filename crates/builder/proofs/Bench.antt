@@ -21,7 +21,8 @@ use Rattle.build.specs.Build.{blanked, counted, sumOf, startsOf, placed, moved,
 use Rattle.feature.specs.Every.{every}
 use Rattle.feature.proofs.Every.{every-all}
 use Rattle.record.specs.Words.{isHeld, isAtom}
-use Rattle.builder.specs.Events.{isKind, isTarget, isEntry, isBond, bondsFrom, turnedOf, isPaired, isStep, isRing, countsStand, failureStands, isState, anew, judged, rootD, extendD, joinD, popD}
+use Rattle.builder.specs.Events.{anew, judged, rootD, extendD, joinD, popD}
+use Rattle.standing.specs.Standing.{isKind, isTarget, isEntry, isBond, bondsFrom, turnedOf, isPaired, isStep, isRing, countsStand, failureStands, isState}
 use Rattle.builder.specs.Build.{left, leftBy, calledOf, leftOf, trimmed, roomy, buildD}
 
 -- ---- no event yet

@@ -15,7 +15,7 @@ use Rattle.graph.specs.State.{Bld}
 use Rattle.graph.specs.declared.builder.Builder.{Builder}
 use Rattle.build.specs.Build.{Outcome, outcome, tables, zeros, buildOf}
 use Rattle.build.specs.declared.Built.{Built}
-use Rattle.builder.specs.Events.{isState}
+use Rattle.standing.specs.Standing.{isState}
 use Rattle.builder.specs.Build.{leftBy, calledOf, leftOf, trimmed, roomy, buildD}
 use Rattle.builder.specs.declared.calls.Answer.{Answer}
 use Rattle.builder.specs.declared.calls.Answer.the-variants.{BadTable}

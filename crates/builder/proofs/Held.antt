@@ -18,11 +18,11 @@ use Rattle.build.specs.Build.{of, upto, Sources, Outcome, Tables, tables, zeros
 use Rattle.build.proofs.Laws.{built-failed, built-done, built-open}
 use Rattle.feature.specs.Every.{every}
 use Rattle.record.specs.Words.{isAtom}
-use Rattle.builder.specs.Events.{also, sourceAt, kindAt, targetAt, isEntry, isBond, bondsFrom, isPaired, countsStand, isState}
+use Rattle.standing.specs.Standing.{also, sourceAt, kindAt, targetAt, isEntry, isBond, bondsFrom, isPaired, countsStand, isState}
 use Rattle.builder.specs.Build.{Left, leftBy, calledOf, leftOf, trimmed, roomy, buildD, heldOf, BothEnds, graphOf}
-use Rattle.builder.proofs.Counts.{Counts, first, second, counts}
+use Rattle.standing.proofs.Counts.{Counts, first, second, counts}
 use Rattle.feature.proofs.Every.{every-at}
-use Rattle.builder.proofs.Ends.{both-ends}
+use Rattle.standing.proofs.Ends.{both-ends}
 
 -- ---- entries after the first
 -- the words of three are passed

@@ -8,8 +8,9 @@ use borrow.Author.Tests.{not-true, not-false}
 use Rattle.feature.specs.Pick.{pick}
 use Rattle.graph.specs.State.{Bld, bld, refusedSt, refuse, Small}
 use Rattle.graph.specs.declared.builder.Builder.{Builder}
-use Rattle.builder.specs.Events.{badTable, also, countsStand, isState, anew, judged}
-use Rattle.builder.proofs.Counts.{Counts, first, counts, small}
+use Rattle.builder.specs.Events.{badTable, anew, judged}
+use Rattle.standing.specs.Standing.{also, countsStand, isState}
+use Rattle.standing.proofs.Counts.{Counts, first, counts, small}
 
 -- a number handed in stands for nothing
 pub unfit : (ok : Bool) (b done : Bld) (s : Builder) → ok ≡ false → s ≡ refusedSt (b .st) badTable 0 → bld (b .atoms) (b .entries) (b .path) (b .rings) s ≡ judged ok b done

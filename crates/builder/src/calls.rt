@@ -4,7 +4,6 @@ ghost use mathlib.Core.Path.{_≡_};
 ghost use Rattle.graph.specs.State.{bld};
 ghost use Rattle.builder.specs.Events.{rootD, extendD, joinD, popD};
 ghost use Rattle.builder.specs.Build.{leftBy, calledOf, buildD};
-use crate::state::is_state;
 use build::Built;
 use build::clear;
 use feature::atom_kind::AtomKind;
@@ -16,6 +15,7 @@ use graph::limits::ATOMS;
 use graph::opens::NUMBERS;
 use record::ATOM_WORDS;
 use record::BOND_WORDS;
+use standing::state::is_state;
 
 // The desk's number for tables that stand for nothing.
 pub const BAD_TABLE: u32 = 17;

@@ -4,4 +4,3 @@ pub mod Text
 pub mod Names
 pub mod Kinds
 pub mod Bonds
-pub mod Targets

@@ -2,9 +2,7 @@
 //
 // element: the ordered table of the names that stand in a bracket atom.
 // atom_kind: an atom's kind, and its mark turned.
-// targets: its valence targets.
 // bond_kind: a bond's kind, its reverse, and what two ends of a ring bond agree on.
 pub mod atom_kind;
 pub mod bond_kind;
 pub mod element;
-pub mod targets;

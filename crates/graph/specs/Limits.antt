@@ -16,6 +16,10 @@ bondLimit = 2304
 abbrev pub branchLimit : ℕ
 branchLimit = 128
 
+-- so many atoms are few: a line or a graph with no more gets work room for so many
+abbrev pub fewAtoms : ℕ
+fewAtoms = 128
+
 -- the lesser of a limit and what was lent
 unfoldable pub lesserOf : ℕ → ℕ → ℕ
 lesserOf limit lent = pick (ltb lent limit) lent limit

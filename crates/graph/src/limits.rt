@@ -15,6 +15,9 @@ pub const BONDS: usize = 2304;
 
 pub const BRANCHES: usize = 128;
 
+// So many atoms are few: a line or a graph with no more gets work room for so many.
+pub const FEW_ATOMS: usize = 128;
+
 pub fn lesser(limit: usize, lent: usize) -> usize
     ensures { λ r. ⌜ RoomOf limit lent r ⌝ }
 {

@@ -6,7 +6,7 @@ use native.Mathlib.Omega.{arith}
 use lib.ListN.{length, getD, replicate, length-replicate}
 use lib.Dec.{ltb, eqb}
 use Rattle.feature.specs.Pick.{pick}
-use Rattle.graph.specs.Limits.{textLimit, atomLimit, bondLimit, lesserOf}
+use Rattle.graph.specs.Limits.{textLimit, atomLimit, bondLimit, fewAtoms, lesserOf}
 use Rattle.record.specs.Words.{atomWords, bondWords}
 use Rattle.graph.specs.Rings.{numbers}
 use Rattle.graph.specs.State.{Bld, entryWords, inversion, atomRoom, bondRoom}
@@ -20,7 +20,7 @@ use Rattle.sketch.proofs.Text.{Reads, text-reads, lesser-most, lesser-held}
 use Rattle.read.specs.declared.Answer.{Answer}
 use Rattle.read.specs.declared.Answer.the-variants.{Done, TextTooLong}
 use Rattle.read.specs.Read.{Said, said, refusalOf, builtAnswer, builtSaid, stateOf, saidOf, within, readOf}
-use Rattle.read.specs.Rooms.{Few, fewAtoms, fewBonds}
+use Rattle.read.specs.Rooms.{Few, fewBonds}
 use Rattle.read.specs.Line.{refusing, wholeOf, graphOf, lineOf}
 
 -- a state and a sketch that agree are answered alike

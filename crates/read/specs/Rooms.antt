@@ -5,10 +5,7 @@ use mathlib.Core.Path.{_≡_}
 use mathlib.Core.List.{List}
 use lib.ListN.{length, replicate}
 use Rattle.record.specs.Words.{atomWords, bondWords}
-use Rattle.graph.specs.Limits.{textLimit}
-
-abbrev pub fewAtoms : ℕ
-fewAtoms = 128
+use Rattle.graph.specs.Limits.{textLimit, fewAtoms}
 
 abbrev pub fewBonds : ℕ
 fewBonds = 256

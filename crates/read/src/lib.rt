@@ -21,6 +21,7 @@ use graph::builder::INVERSION;
 use graph::limits::ATOMS;
 use graph::limits::BONDS;
 use graph::limits::BRANCHES;
+use graph::limits::FEW_ATOMS;
 use graph::limits::TEXT;
 use graph::limits::atom_room;
 use graph::limits::bond_room;
@@ -140,9 +141,7 @@ fn read_within(
     built(r, b)
 }
 
-// The work room of a line whose tables have room for few atoms and bond entries, and so the line's graph no more.
-const FEW_ATOMS: usize = 128;
-
+// The bond entries of a line whose tables have room for few atoms and bond entries, and so the line's graph no more.
 const FEW_BONDS: usize = 256;
 
 fn read_few(text: &[u8], atoms: &mut [u32], bonds: &mut [u32]) -> Answer

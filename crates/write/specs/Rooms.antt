@@ -7,9 +7,6 @@ use lib.ListN.{length}
 use Rattle.graph.specs.Limits.{atomLimit, bondLimit}
 use Rattle.write.specs.Write.{zeros, pairWords}
 
-abbrev pub fewAtoms : ℕ
-fewAtoms = 128
-
 -- counts within the limits, and an output of zeros
 pub record Writable (n m : ℕ) (out : List ℕ) : Type 0 where
   pub atoms : n ≤ atomLimit

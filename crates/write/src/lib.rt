@@ -5,13 +5,14 @@
 ghost use mathlib.Core.Path.{_≡_};
 ghost use Prim.Native.Nat.{_≤_};
 ghost use lib.ListN.{length, replicate};
-ghost use Rattle.graph.specs.Limits.{atomLimit, bondLimit};
+ghost use Rattle.graph.specs.Limits.{atomLimit, bondLimit, fewAtoms};
 ghost use Rattle.write.specs.Write.{zeros, left, ended, graphWritten, writeOf};
-ghost use Rattle.write.specs.Rooms.{fewAtoms, Writable, Blank};
+ghost use Rattle.write.specs.Rooms.{Writable, Blank};
 use answer::Written;
 use answer::refusal;
 use build::lay_starts;
 use graph::limits::ATOMS;
+use graph::limits::FEW_ATOMS;
 use graph::limits::atom_room;
 use graph::limits::bond_room;
 use judge::judge;
@@ -85,9 +86,7 @@ fn write_in(
     conclude(out, end)
 }
 
-// So many atoms are few, and need little work room.
-const FEW_ATOMS: usize = 128;
-
+// A graph of few atoms, with little work room.
 fn write_few(atoms: &[u32], n: usize, bonds: &[u32], m: usize, out: &mut [u8]) -> Written
     requires { ⌜ Writable n m (now out) × (n ≤ fewAtoms) ⌝ }
     ensures { λ r. ⌜ left r (now (out .exit)) ≡ graphWritten (length (now (out .entry))) (now (atoms .entry)) n (now (bonds .entry)) m ⌝ }

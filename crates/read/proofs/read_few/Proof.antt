@@ -5,7 +5,8 @@ use mathlib.Core.List.{List}
 use lib.ListN.{length, replicate}
 use Rattle.graph.specs.Rings.{numbers}
 use Rattle.graph.specs.State.{entryWords}
-use Rattle.read.specs.Rooms.{fewAtoms, fewBonds}
+use Rattle.graph.specs.Limits.{fewAtoms}
+use Rattle.read.specs.Rooms.{fewBonds}
 use Rattle.read.specs.Read.{within}
 use Rattle.read.proofs.Lines.{within-few}
 use borrow.Author.Needs.{needs}

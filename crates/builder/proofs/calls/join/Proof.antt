@@ -8,7 +8,7 @@ use Rattle.builder.proofs.calls.join.Statement.{statement}
 use Rattle.builder.proofs.calls.join.Tie as tie
 use Rattle.builder.proofs.calls.join.Reads as reads
 use Rattle.builder.proofs.calls.join.Lts as lts
-use Rattle.builder.proofs.state.is_state.Reads as is-state-reads
+use Rattle.standing.proofs.state.is_state.Reads as is-state-reads
 use Rattle.graph.proofs.builder.Builder.refused.Reads as refused-reads
 use Rattle.graph.proofs.builder.join.Reads as join-reads
 

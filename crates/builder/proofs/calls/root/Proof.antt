@@ -9,7 +9,7 @@ use Rattle.builder.proofs.calls.root.Statement.{statement}
 use Rattle.builder.proofs.calls.root.Tie as tie
 use Rattle.builder.proofs.calls.root.Reads as reads
 use Rattle.builder.proofs.calls.root.Lts as lts
-use Rattle.builder.proofs.state.is_state.Reads as is-state-reads
+use Rattle.standing.proofs.state.is_state.Reads as is-state-reads
 use Rattle.feature.proofs.atom_kind.in_range.Reads as in-range-reads
 use Rattle.graph.proofs.builder.Builder.refused.Reads as refused-reads
 use Rattle.graph.proofs.builder.root.Reads as root-reads

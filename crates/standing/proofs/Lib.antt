@@ -1,0 +1,3 @@
+-- Laws that the proofs and the crates above cite.
+pub mod Counts
+pub mod Ends

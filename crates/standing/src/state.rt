@@ -1,0 +1,218 @@
+// Whether tables and the numbers beside them stand for a builder's state.
+ghost use mathlib.Core.Path.{_≡_};
+ghost use Prim.Native.Nat.{_≤_};
+ghost use lib.ListN.{length};
+ghost use lib.Dec.{ltb};
+ghost use Rattle.feature.specs.Bonds.{kindOf};
+ghost use Rattle.graph.specs.Limits.{atomLimit, bondLimit};
+ghost use Rattle.graph.specs.State.{bld};
+ghost use Rattle.graph.specs.Rings.{numbers};
+ghost use Rattle.feature.specs.Every.{every};
+ghost use Rattle.record.specs.Words.{isAtom};
+ghost use Rattle.standing.specs.Standing.{isKind, isTarget, isEntry, isStep, isRing, countsStand, failureStands, isState};
+use crate::pairs::pairs_stand;
+use feature::bond_kind::Coded;
+use feature::bond_kind::decode;
+use graph::builder::Builder;
+use graph::builder::ENTRY_WORDS;
+use graph::builder::OPEN;
+use graph::limits::ATOMS;
+use graph::limits::BONDS;
+use graph::opens::NUMBERS;
+use record::ATOM_WORDS;
+use record::is_atom;
+use record::look;
+
+// What no state counts more joins than.
+const JOINS: usize = 1_000_000;
+
+// Where the words of an entry stand.
+pub const KIND: usize = 1;
+
+pub const TARGET: usize = 2;
+
+fn atoms_stand(atoms: &[u32], n: usize) -> bool
+    requires { ⌜ n ≤ atomLimit ⌝ }
+    ensures { λ r. ⌜ r ≡ every (isAtom (now (atoms .entry))) n ⌝ }
+{
+    let mut i = 0;
+    while i < n {
+        if !is_atom(atoms, i) {
+            return false;
+        }
+        i += 1;
+    }
+    true
+}
+
+fn is_kind(n: u32) -> bool
+    ensures { λ r. ⌜ r ≡ isKind (kindOf n) ⌝ }
+{
+    match decode(n) {
+        Coded::Kind(_) => true,
+        Coded::Bad => false,
+    }
+}
+
+fn is_below(n: u32, most: usize) -> bool
+    ensures { λ r. ⌜ r ≡ ltb n most ⌝ }
+{
+    if (n as usize) < most {
+        return true;
+    }
+    false
+}
+
+fn is_target(b: Builder, target: u32) -> bool
+    ensures { λ r. ⌜ r ≡ isTarget b target ⌝ }
+{
+    if target < OPEN {
+        return is_below(target, b.atoms);
+    }
+    is_below(target - OPEN, b.joins)
+}
+
+fn is_entry(b: Builder, entries: &[u32], i: usize) -> bool
+    requires { ⌜ i ≤ bondLimit ⌝ }
+    ensures { λ r. ⌜ r ≡ isEntry b (now (entries .entry)) i ⌝ }
+{
+    let at = i * ENTRY_WORDS;
+    if !is_below(look(entries, at), b.atoms) {
+        return false;
+    }
+    if !is_kind(look(entries, at + KIND)) {
+        return false;
+    }
+    is_target(b, look(entries, at + TARGET))
+}
+
+fn entries_stand(b: Builder, entries: &[u32], n: usize) -> bool
+    requires { ⌜ n ≤ bondLimit ⌝ }
+    ensures { λ r. ⌜ r ≡ every (isEntry b (now (entries .entry))) n ⌝ }
+{
+    let mut i = 0;
+    while i < n {
+        if !is_entry(b, entries, i) {
+            return false;
+        }
+        i += 1;
+    }
+    true
+}
+
+fn steps_stand(b: Builder, path: &[u32], n: usize) -> bool
+    ensures { λ r. ⌜ r ≡ every (isStep b (now (path .entry))) n ⌝ }
+{
+    let mut i = 0;
+    while i < n {
+        if !is_below(look(path, i), b.atoms) {
+            return false;
+        }
+        i += 1;
+    }
+    true
+}
+
+fn is_ring(b: Builder, entries: &[u32], rings: &[u32], n: usize) -> bool
+    requires { ⌜ b .entries ≤ bondLimit ⌝ }
+    ensures { λ r. ⌜ r ≡ isRing b (now (entries .entry)) (now (rings .entry)) n ⌝ }
+{
+    let held = look(rings, n) as usize;
+    if held == 0 {
+        return true;
+    }
+    if b.entries < held {
+        return false;
+    }
+    if look(entries, (held - 1) * ENTRY_WORDS + TARGET) < OPEN {
+        return false;
+    }
+    true
+}
+
+fn rings_stand(b: Builder, entries: &[u32], rings: &[u32]) -> bool
+    requires { ⌜ b .entries ≤ bondLimit ⌝ }
+    ensures { λ r. ⌜ r ≡ every (isRing b (now (entries .entry)) (now (rings .entry))) numbers ⌝ }
+{
+    let mut n = 0;
+    while n < NUMBERS {
+        if !is_ring(b, entries, rings, n) {
+            return false;
+        }
+        n += 1;
+    }
+    true
+}
+
+// The counts and the rooms, for tables of so many words.
+fn counts_stand(b: Builder, atoms: usize, entries: usize, path: usize, rings: usize) -> bool
+    ensures { λ r. ⌜ r ≡ countsStand b atoms entries path rings ⌝ }
+{
+    if ATOMS < b.places {
+        return false;
+    }
+    if BONDS < b.slots {
+        return false;
+    }
+    if atoms < b.places * ATOM_WORDS {
+        return false;
+    }
+    if entries < b.slots * ENTRY_WORDS {
+        return false;
+    }
+    if path < b.places {
+        return false;
+    }
+    if rings < NUMBERS {
+        return false;
+    }
+    if b.places < b.atoms {
+        return false;
+    }
+    if b.slots < b.entries {
+        return false;
+    }
+    if b.atoms < b.top {
+        return false;
+    }
+    if JOINS < b.joins {
+        return false;
+    }
+    true
+}
+
+fn failure_stands(b: Builder) -> bool
+    ensures { λ r. ⌜ r ≡ failureStands b ⌝ }
+{
+    if !b.failed {
+        return true;
+    }
+    if !is_below(b.closing, b.atoms) {
+        return false;
+    }
+    is_below(b.opening, b.atoms)
+}
+
+pub fn is_state(atoms: &[u32], entries: &[u32], path: &[u32], rings: &[u32], b: Builder) -> bool
+    ensures { λ r. ⌜ r ≡ isState (bld (now (atoms .entry)) (now (entries .entry)) (now (path .entry)) (now (rings .entry)) b) ⌝ }
+{
+    if !counts_stand(b, atoms.len(), entries.len(), path.len(), rings.len()) {
+        return false;
+    }
+    if !atoms_stand(atoms, b.atoms) {
+        return false;
+    }
+    if !entries_stand(b, entries, b.entries) {
+        return false;
+    }
+    if !pairs_stand(entries, b.entries) {
+        return false;
+    }
+    if !steps_stand(b, path, b.top) {
+        return false;
+    }
+    if !rings_stand(b, entries, rings) {
+        return false;
+    }
+    failure_stands(b)
+}
