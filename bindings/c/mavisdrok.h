@@ -6,7 +6,7 @@
  * of stack: a line of 128 nested branches is read in 192.
  *
  * report: three words, as far as there is room: the desk's number, and the two values that it carries, 0 where it carries
- * fewer: crates/export/specs/Report.antt has them for each answer. docs/PACKING.md says how atoms, bonds and states stand in
+ * fewer: crates/report/specs/Report.antt has them for each answer. docs/PACKING.md says how atoms, bonds and states stand in
  * words. */
 #ifndef MAVISDROK_H
 #define MAVISDROK_H

@@ -26,7 +26,7 @@ use Rattle.judge.specs.Judge as judge
 use Rattle.write.specs.Write as write
 use Rattle.read.specs.Read.{refusalOf, builtAnswer}
 use Rattle.read.specs.Line as line
-use Rattle.export.specs.Report.{report, ofRead, ofWritten}
+use Rattle.report.specs.Report.{report, ofRead, ofWritten}
 use Rattle.bench.specs.Asked.{Asked, Reads, Rewrites, Calls, Says, says, writtenAs, rewriteOf, numberGiven, poolGiven, callsFrom, answerOf}
 use Rattle.feature.specs.Text.{bytes}
 

@@ -13,8 +13,8 @@ use Rattle.pool.specs.declared.Pool.{Pool}
 use Rattle.pool.specs.declared.Given.{Given}
 use Rattle.pool.specs.declared.Given.the-variants.{Number, Full}
 use Rattle.pool.specs.Pairs.{hitOf, emptyOf}
-use Rattle.export.specs.declared.report.Report.{Report}
-use Rattle.export.specs.Report.{report, ofRead, ofWritten}
+use Rattle.report.specs.declared.answer.Report.{Report}
+use Rattle.report.specs.Report.{report, ofRead, ofWritten}
 
 -- a line to be read, a line to be read and written, the calls of an empty pool
 pub data Asked : Type 0 where

@@ -1,4 +1,2 @@
 -- Laws that the proofs cite.
-pub mod Again
 pub mod Reports
-pub mod States

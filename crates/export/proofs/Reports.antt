@@ -1,8 +1,7 @@
 -- What a call leaves, taken apart, and the words of its report. Assumes nothing.
-use Prim.Native.Nat.{ℕ, suc, _+_}
+use Prim.Native.Nat.{ℕ}
 use mathlib.Core.Path.{_≡_, _∙_, refl, sym, ap}
 use mathlib.Core.List.{List}
-use native.Mathlib.Omega.{arith}
 use lib.Seq.{sets}
 use Rattle.read.specs.declared.Answer.{Answer}
 use Rattle.read.specs.Read.{Said, said}
@@ -15,17 +14,14 @@ use Rattle.builder.specs.declared.calls.Answer as calls
 use Rattle.builder.specs.declared.calls.Answer.the-variants as built
 use Rattle.record.specs.Words.{listed}
 use Rattle.record.specs.declared.Pair.{Pair}
-use Rattle.desk.specs.declared.atom.Begins.{Begins}
-use Rattle.export.specs.declared.report.Report.{Report}
-use Rattle.export.specs.declared.state.AsBuilder.{AsBuilder}
-use Rattle.export.specs.declared.state.AsBuilder.the-variants as state
+use Rattle.desk_atom.specs.declared.Begins.{Begins}
+use Rattle.report.specs.declared.answer.Report.{Report}
+use Rattle.report.specs.declared.state.AsBuilder.{AsBuilder}
+use Rattle.report.specs.declared.state.AsBuilder.the-variants as state
 use Rattle.export.specs.Atom.{kindIn}
 use Rattle.export.specs.Given.{onBuilder}
 use Rattle.export.specs.Events.{Made, made, told}
-use Rattle.export.specs.Report.{ofRead, ofWritten, ofBuilt, ofBegins, laidInto}
-
-pub add-two : (n : ℕ) → n + 2 ≡ suc (suc n)
-add-two n = omega arith
+use Rattle.report.specs.Report.{ofRead, ofWritten, ofBuilt, ofBegins, laidInto}
 
 pub read-parts : (s : Said) (r : Answer) (atoms bonds lent left : List ℕ) (p : Report) → said r atoms bonds ≡ s → p ≡ ofRead r → left ≡ laidInto lent p → ((atoms ≡ s .atoms) × (bonds ≡ s .bonds)) × (left ≡ laidInto lent (ofRead (s .answer)))
 read-parts s r atoms bonds lent left p e f g =

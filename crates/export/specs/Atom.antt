@@ -7,11 +7,11 @@ use Rattle.feature.specs.Bonds.{kindOf}
 use Rattle.record.specs.Words.{pair, wordsOf, loadOf}
 use Rattle.record.specs.declared.Pair.{Pair}
 use Rattle.spell.specs.Spell.{bondText}
-use Rattle.desk.specs.Texts.{Spells, zeros, texted, atomD}
-use Rattle.desk.specs.declared.atom.Begins.{Begins}
-use Rattle.desk.specs.declared.atom.Begins.the-variants.{Atom, EndOfLine, Character}
+use Rattle.desk_atom.specs.Texts.{Spells, zeros, texted, atomD}
+use Rattle.desk_atom.specs.declared.Begins.{Begins}
+use Rattle.desk_atom.specs.declared.Begins.the-variants.{Atom, EndOfLine, Character}
 use Rattle.export.specs.Given.{onAtom, onBond}
-use Rattle.export.specs.Report.{bad, ofSpelt, laidInto}
+use Rattle.report.specs.Report.{bad, ofSpelt, laidInto}
 
 -- ---- reading
 -- the words of the kind that was read, or zeros

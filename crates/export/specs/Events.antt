@@ -15,8 +15,8 @@ use Rattle.build.specs.Build.{zeros}
 use Rattle.builder.specs.Events.{rootD, extendD, joinD, popD}
 use Rattle.builder.specs.Build.{Left, buildD}
 use Rattle.export.specs.Given.{onAtom, onBond, onBuilder}
-use Rattle.export.specs.Report.{report, bad, ofEvent, ofLeft, laidInto}
-use Rattle.export.specs.State.{builderSize, builderIn, wordsOf}
+use Rattle.report.specs.Report.{report, bad, ofEvent, ofLeft, laidInto}
+use Rattle.report.specs.State.{builderSize, builderIn, wordsOf}
 
 -- every cell that is lent to an event
 pub record Cells : Type 0 where

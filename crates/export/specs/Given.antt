@@ -8,12 +8,12 @@ use Rattle.record.specs.declared.Loaded.the-variants as loaded
 use Rattle.graph.specs.declared.builder.Builder.{Builder}
 use Rattle.writer.specs.declared.Writer.{Writer}
 use Rattle.pool.specs.declared.Pool.{Pool}
-use Rattle.export.specs.declared.state.AsBuilder.{AsBuilder}
-use Rattle.export.specs.declared.state.AsBuilder.the-variants as builder
-use Rattle.export.specs.declared.state.AsWriter.{AsWriter}
-use Rattle.export.specs.declared.state.AsWriter.the-variants as writer
-use Rattle.export.specs.declared.state.AsPool.{AsPool}
-use Rattle.export.specs.declared.state.AsPool.the-variants as pool
+use Rattle.report.specs.declared.state.AsBuilder.{AsBuilder}
+use Rattle.report.specs.declared.state.AsBuilder.the-variants as builder
+use Rattle.report.specs.declared.state.AsWriter.{AsWriter}
+use Rattle.report.specs.declared.state.AsWriter.the-variants as writer
+use Rattle.report.specs.declared.state.AsPool.{AsPool}
+use Rattle.report.specs.declared.state.AsPool.the-variants as pool
 
 unfoldable pub onAtom : {A : Type 0} → Loaded → A → (AtomKind → A) → A
 onAtom (loaded.Held k) none some = some k

@@ -12,14 +12,14 @@ use Rattle.record.specs.Words.{loadOf}
 use Rattle.graph.specs.Rings.{numbers}
 use Rattle.writer.specs.Line.{Event}
 use Rattle.writer.specs.Tables.{spoken}
-use Rattle.desk.specs.Pieces.{Left, eventD}
-use Rattle.desk.specs.declared.lines.Said.{Said}
-use Rattle.desk.specs.declared.lines.Said.the-variants.{Held, AtomRoom, OutRoom, NoPiece, Overpop, BadTable}
-use Rattle.export.specs.declared.state.AsWriter.{AsWriter}
-use Rattle.export.specs.declared.state.AsWriter.the-variants as writer
+use Rattle.desk_lines.specs.Pieces.{Left, eventD}
+use Rattle.desk_lines.specs.declared.Said.{Said}
+use Rattle.desk_lines.specs.declared.Said.the-variants.{Held, AtomRoom, OutRoom, NoPiece, Overpop, BadTable}
+use Rattle.report.specs.declared.state.AsWriter.{AsWriter}
+use Rattle.report.specs.declared.state.AsWriter.the-variants as writer
 use Rattle.export.specs.Given.{onAtom, onBond, onWriter}
-use Rattle.export.specs.Report.{bad, ofSaid, laidInto}
-use Rattle.export.specs.State.{writerIn, writerList}
+use Rattle.report.specs.Report.{bad, ofSaid, laidInto}
+use Rattle.report.specs.State.{writerIn, writerList}
 
 -- every cell that is lent to an event
 pub record Cells : Type 0 where

@@ -3,14 +3,14 @@
 use Prim.Native.Nat.{ℕ}
 use mathlib.Core.List.{List}
 use lib.Seq.{sets}
-use Rattle.desk.specs.Slots.{Gives, hitD}
-use Rattle.desk.specs.declared.rings.Handed.{Handed}
-use Rattle.desk.specs.declared.rings.Handed.the-variants.{Number, RingNumbers, BadTable}
-use Rattle.export.specs.declared.state.AsPool.{AsPool}
-use Rattle.export.specs.declared.state.AsPool.the-variants as pool
+use Rattle.desk_rings.specs.Slots.{Gives, hitD}
+use Rattle.desk_rings.specs.declared.Handed.{Handed}
+use Rattle.desk_rings.specs.declared.Handed.the-variants.{Number, RingNumbers, BadTable}
+use Rattle.report.specs.declared.state.AsPool.{AsPool}
+use Rattle.report.specs.declared.state.AsPool.the-variants as pool
 use Rattle.export.specs.Given.{onPool}
-use Rattle.export.specs.Report.{bad, ofHanded, laidInto}
-use Rattle.export.specs.State.{poolIn, poolList}
+use Rattle.report.specs.Report.{bad, ofHanded, laidInto}
+use Rattle.report.specs.State.{poolIn, poolList}
 
 -- every cell that is lent to a call
 pub record Cells : Type 0 where

@@ -4,16 +4,11 @@ ghost use mathlib.Core.Path.{_≡_};
 ghost use lib.ListN.{length};
 ghost use lib.Seq.{sets};
 ghost use Rattle.record.specs.Words.{listed};
-ghost use Rattle.desk.specs.Texts.{firstAtom, rnumD};
-ghost use Rattle.export.specs.Report.{ofBegins, laidInto};
+ghost use Rattle.desk_atom.specs.Texts.{firstAtom, rnumD};
+ghost use Rattle.report.specs.Report.{ofBegins, laidInto};
 ghost use Rattle.export.specs.Atom.{kindIn, spelling, told, atomX, bondX};
-use crate::report::lay;
-use crate::report::of_begins;
-use crate::report::of_spelt;
-use crate::report::refuse;
-use desk::atom;
-use desk::atom::Begins;
-use desk::atom::wipe;
+use desk_atom::Begins;
+use desk_atom::wipe;
 use feature::bond_kind::Coded;
 use feature::bond_kind::decode;
 use record::Loaded;
@@ -21,6 +16,10 @@ use record::Pair;
 use record::kind;
 use record::poke;
 use record::words;
+use report::answer::lay;
+use report::answer::of_begins;
+use report::answer::of_spelt;
+use report::answer::refuse;
 
 // The words of the kind that was read, or zeros.
 fn kind_in(b: Begins) -> Pair
@@ -52,7 +51,7 @@ pub extern "C" fn mavisdrok_read_atom(text: &[u8], kind: &mut [u32], report: &mu
     ensures { λ _. ⌜ now (kind .exit) ≡ sets (now (kind .entry)) 0 (listed (kindIn (firstAtom (now (text .entry))))) ⌝ }
     ensures { λ _. ⌜ now (report .exit) ≡ laidInto (now (report .entry)) (ofBegins (firstAtom (now (text .entry)))) ⌝ }
 {
-    let found = atom::read_atom(text);
+    let found = desk_atom::read_atom(text);
     lay_kind(kind, kind_in(found));
     lay(report, of_begins(found));
 }
@@ -68,7 +67,7 @@ pub extern "C" fn mavisdrok_spell_atom(out: &mut [u8], first: u32, second: u32, 
         refuse(report);
         return;
     };
-    lay(report, of_spelt(atom::spell_atom(out, k)));
+    lay(report, of_spelt(desk_atom::spell_atom(out, k)));
 }
 
 // A bond's text: none where it is elided.
@@ -82,7 +81,7 @@ pub extern "C" fn mavisdrok_spell_bond(out: &mut [u8], bond: u32, report: &mut [
         refuse(report);
         return;
     };
-    lay(report, of_spelt(atom::spell_bond(out, k)));
+    lay(report, of_spelt(desk_atom::spell_bond(out, k)));
 }
 
 // A ring number's text.
@@ -90,5 +89,5 @@ pub extern "C" fn mavisdrok_spell_bond(out: &mut [u8], bond: u32, report: &mut [
 pub extern "C" fn mavisdrok_spell_rnum(out: &mut [u8], number: u32, report: &mut [u64])
     ensures { λ _. ⌜ spelling (now (out .exit)) (now (report .exit)) ≡ told (now (report .entry)) (rnumD number (length (now (out .entry)))) ⌝ }
 {
-    lay(report, of_spelt(atom::spell_rnum(out, number)));
+    lay(report, of_spelt(desk_atom::spell_rnum(out, number)));
 }

@@ -1,16 +1,8 @@
 // The builder's events and its build, over tables, the words of a state and a report. Words that stand for no state, no atom
 // or no bond are answered 17. An event that is refused changes nothing but the report.
 ghost use mathlib.Core.Path.{_≡_};
-ghost use Rattle.export.specs.Report.{ofEvent, laidInto};
+ghost use Rattle.report.specs.Report.{ofEvent, laidInto};
 ghost use Rattle.export.specs.Events.{cells, keptIn, startX, started, rootX, extendX, joinX, popX, made, buildX};
-use crate::report::lay;
-use crate::report::of_built;
-use crate::report::of_event;
-use crate::report::refuse;
-use crate::state::AsBuilder;
-use crate::state::BUILDER_WORDS;
-use crate::state::builder_in;
-use crate::state::lay_builder;
 use build::clear;
 use builder::calls;
 use feature::bond_kind::Coded;
@@ -18,6 +10,14 @@ use feature::bond_kind::decode;
 use graph::builder::Builder;
 use record::Loaded;
 use record::kind;
+use report::answer::lay;
+use report::answer::of_built;
+use report::answer::of_event;
+use report::answer::refuse;
+use report::state::AsBuilder;
+use report::state::BUILDER_WORDS;
+use report::state::builder_in;
+use report::state::lay_builder;
 
 // The new state, where an event was accepted.
 fn keep_state(state: &mut [u64], b: Builder)

@@ -3,25 +3,21 @@
 // atom: one atom read, and the text of an atom, a bond or a ring number.
 // events: the builder's events and its build.
 // lines: the writer's events.
-// report: an answer as a number and what it carries.
 // rings: a ring number from the pool.
-// state: a state as words.
 pub mod atom;
 pub mod events;
 pub mod lines;
-mod report;
 pub mod rings;
-mod state;
 
 ghost use mathlib.Core.Path.{_≡_};
 ghost use lib.ListN.{length};
 ghost use Rattle.read.specs.Line.{lineOf};
 ghost use Rattle.write.specs.Write.{writeOf};
 ghost use Rattle.write.specs.Order.{orderOf};
-ghost use Rattle.export.specs.Report.{ofRead, ofWritten, laidInto};
-use report::lay;
-use report::of_read;
-use report::of_written;
+ghost use Rattle.report.specs.Report.{ofRead, ofWritten, laidInto};
+use report::answer::lay;
+use report::answer::of_read;
+use report::answer::of_written;
 
 // Reads a line. The report: the desk's number, and the values that it carries.
 #[no_mangle]

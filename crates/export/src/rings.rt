@@ -2,14 +2,13 @@
 // 17. A call that is refused changes nothing but the report.
 ghost use mathlib.Core.Path.{_≡_};
 ghost use Rattle.export.specs.Rings.{cells, heldBy, keptIn, hitX};
-use crate::report::lay;
-use crate::report::of_handed;
-use crate::report::refuse;
-use crate::state::AsPool;
-use crate::state::lay_pool;
-use crate::state::pool_in;
-use desk::rings;
-use desk::rings::Handed;
+use desk_rings::Handed;
+use report::answer::lay;
+use report::answer::of_handed;
+use report::answer::refuse;
+use report::state::AsPool;
+use report::state::lay_pool;
+use report::state::pool_in;
 
 // The new state, where a number was handed out or closed.
 fn held_by(handed: Handed) -> AsPool
@@ -49,7 +48,7 @@ pub extern "C" fn mavisdrok_pool_hit(
         refuse(report);
         return;
     };
-    let handed = rings::hit(pairs, p, a, b);
+    let handed = desk_rings::hit(pairs, p, a, b);
     keep_state(state, handed);
     lay(report, of_handed(handed, a, b));
 }

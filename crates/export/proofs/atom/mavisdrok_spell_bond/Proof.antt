@@ -6,11 +6,11 @@ use Rattle.export.proofs.atom.mavisdrok_spell_bond.Statement.{statement
 use Rattle.export.proofs.atom.mavisdrok_spell_bond.Tie as tie
 use Rattle.export.proofs.atom.mavisdrok_spell_bond.Reads as reads
 use Rattle.export.proofs.atom.mavisdrok_spell_bond.Lts as lts
-use Rattle.desk.proofs.atom.spell_bond.Reads as spell-bond-reads
-use Rattle.desk.proofs.atom.wipe.Reads as wipe-reads
-use Rattle.export.proofs.report.lay.Reads as lay-reads
-use Rattle.export.proofs.report.of_spelt.Reads as of-spelt-reads
-use Rattle.export.proofs.report.refuse.Reads as refuse-reads
+use Rattle.desk_atom.proofs.spell_bond.Reads as spell-bond-reads
+use Rattle.desk_atom.proofs.wipe.Reads as wipe-reads
+use Rattle.report.proofs.answer.lay.Reads as lay-reads
+use Rattle.report.proofs.answer.of_spelt.Reads as of-spelt-reads
+use Rattle.report.proofs.answer.refuse.Reads as refuse-reads
 use Rattle.feature.proofs.bond_kind.decode.Reads as decode-reads
 
 decode-requires : tie.Need-decode-requires

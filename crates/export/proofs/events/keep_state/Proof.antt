@@ -6,7 +6,7 @@ use Rattle.export.proofs.events.keep_state.Statement.{statement}
 use Rattle.export.proofs.events.keep_state.Tie as tie
 use Rattle.export.proofs.events.keep_state.Reads as reads
 use Rattle.export.proofs.events.keep_state.Lts as lts
-use Rattle.export.proofs.state.lay_builder.Reads as lay-builder-reads
+use Rattle.report.proofs.state.lay_builder.Reads as lay-builder-reads
 
 returns : tie.Need-returns
 unfolding keptIn

@@ -11,10 +11,10 @@ use Rattle.export.proofs.events.mavisdrok_builder_build.Reads as reads
 use Rattle.export.proofs.events.mavisdrok_builder_build.Lts as lts
 use Rattle.build.proofs.clear.Reads as clear-reads
 use Rattle.builder.proofs.calls.build.Reads as build-reads
-use Rattle.export.proofs.report.lay.Reads as lay-reads
-use Rattle.export.proofs.report.of_built.Reads as of-built-reads
-use Rattle.export.proofs.report.refuse.Reads as refuse-reads
-use Rattle.export.proofs.state.builder_in.Reads as builder-in-reads
+use Rattle.report.proofs.answer.lay.Reads as lay-reads
+use Rattle.report.proofs.answer.of_built.Reads as of-built-reads
+use Rattle.report.proofs.answer.refuse.Reads as refuse-reads
+use Rattle.report.proofs.state.builder_in.Reads as builder-in-reads
 
 builder-in-requires : tie.Need-builder-in-requires
 builder-in-requires c κs = search needs

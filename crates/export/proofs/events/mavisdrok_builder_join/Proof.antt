@@ -8,8 +8,8 @@ use Rattle.export.proofs.events.mavisdrok_builder_join.Reads as reads
 use Rattle.export.proofs.events.mavisdrok_builder_join.Lts as lts
 use Rattle.builder.proofs.calls.join.Reads as join-reads
 use Rattle.export.proofs.events.keep.Reads as keep-reads
-use Rattle.export.proofs.report.refuse.Reads as refuse-reads
-use Rattle.export.proofs.state.builder_in.Reads as builder-in-reads
+use Rattle.report.proofs.answer.refuse.Reads as refuse-reads
+use Rattle.report.proofs.state.builder_in.Reads as builder-in-reads
 use Rattle.feature.proofs.bond_kind.decode.Reads as decode-reads
 
 decode-requires : tie.Need-decode-requires

@@ -8,8 +8,8 @@ use Rattle.export.proofs.events.mavisdrok_builder_pop.Reads as reads
 use Rattle.export.proofs.events.mavisdrok_builder_pop.Lts as lts
 use Rattle.builder.proofs.calls.pop.Reads as pop-reads
 use Rattle.export.proofs.events.keep.Reads as keep-reads
-use Rattle.export.proofs.report.refuse.Reads as refuse-reads
-use Rattle.export.proofs.state.builder_in.Reads as builder-in-reads
+use Rattle.report.proofs.answer.refuse.Reads as refuse-reads
+use Rattle.report.proofs.state.builder_in.Reads as builder-in-reads
 
 builder-in-requires : tie.Need-builder-in-requires
 builder-in-requires c κs = search needs

@@ -1,7 +1,7 @@
 -- Too few words, and the start.
 use borrow.Author.Tests.{le-ltb, lt-ltb}
 use Rattle.export.specs.Events.{startX, keptIn}
-use Rattle.export.specs.Report.{ofEvent}
+use Rattle.report.specs.Report.{ofEvent}
 use borrow.Author.Needs.{needs}
 use Rattle.export.proofs.events.mavisdrok_builder_start.Statement.{statement}
 use Rattle.export.proofs.events.mavisdrok_builder_start.Tie as tie
@@ -9,7 +9,7 @@ use Rattle.export.proofs.events.mavisdrok_builder_start.Reads as reads
 use Rattle.export.proofs.events.mavisdrok_builder_start.Lts as lts
 use Rattle.build.proofs.clear.Reads as clear-reads
 use Rattle.export.proofs.events.keep.Reads as keep-reads
-use Rattle.export.proofs.report.refuse.Reads as refuse-reads
+use Rattle.report.proofs.answer.refuse.Reads as refuse-reads
 use Rattle.graph.proofs.builder.Builder.start.Reads as start-reads
 
 refuse-requires : tie.Need-refuse-requires

@@ -6,8 +6,8 @@ use Rattle.export.proofs.lines.keep.Tie as tie
 use Rattle.export.proofs.lines.keep.Reads as reads
 use Rattle.export.proofs.lines.keep.Lts as lts
 use Rattle.export.proofs.lines.keep_state.Reads as keep-state-reads
-use Rattle.export.proofs.report.lay.Reads as lay-reads
-use Rattle.export.proofs.report.of_said.Reads as of-said-reads
+use Rattle.report.proofs.answer.lay.Reads as lay-reads
+use Rattle.report.proofs.answer.of_said.Reads as of-said-reads
 
 keep-state-requires : tie.Need-keep-state-requires
 keep-state-requires c κs = search needs

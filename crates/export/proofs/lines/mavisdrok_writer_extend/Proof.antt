@@ -6,10 +6,10 @@ use Rattle.export.proofs.lines.mavisdrok_writer_extend.Statement.{state
 use Rattle.export.proofs.lines.mavisdrok_writer_extend.Tie as tie
 use Rattle.export.proofs.lines.mavisdrok_writer_extend.Reads as reads
 use Rattle.export.proofs.lines.mavisdrok_writer_extend.Lts as lts
-use Rattle.desk.proofs.lines.extend.Reads as extend-reads
+use Rattle.desk_lines.proofs.extend.Reads as extend-reads
 use Rattle.export.proofs.lines.keep.Reads as keep-reads
-use Rattle.export.proofs.report.refuse.Reads as refuse-reads
-use Rattle.export.proofs.state.writer_in.Reads as writer-in-reads
+use Rattle.report.proofs.answer.refuse.Reads as refuse-reads
+use Rattle.report.proofs.state.writer_in.Reads as writer-in-reads
 use Rattle.feature.proofs.bond_kind.decode.Reads as decode-reads
 use Rattle.record.proofs.kind.Reads as kind-reads
 

@@ -6,10 +6,10 @@ use Rattle.export.proofs.lines.mavisdrok_writer_root.Statement.{stateme
 use Rattle.export.proofs.lines.mavisdrok_writer_root.Tie as tie
 use Rattle.export.proofs.lines.mavisdrok_writer_root.Reads as reads
 use Rattle.export.proofs.lines.mavisdrok_writer_root.Lts as lts
-use Rattle.desk.proofs.lines.root.Reads as root-reads
+use Rattle.desk_lines.proofs.root.Reads as root-reads
 use Rattle.export.proofs.lines.keep.Reads as keep-reads
-use Rattle.export.proofs.report.refuse.Reads as refuse-reads
-use Rattle.export.proofs.state.writer_in.Reads as writer-in-reads
+use Rattle.report.proofs.answer.refuse.Reads as refuse-reads
+use Rattle.report.proofs.state.writer_in.Reads as writer-in-reads
 use Rattle.record.proofs.kind.Reads as kind-reads
 
 kind-requires : tie.Need-kind-requires

@@ -1,0 +1,44 @@
+-- A ring number's text over zeros, if it is a ring number.
+use Rattle.desk_atom.proofs.Zeros.{laid-settled, no-rnum, rnum-spelt}
+use mathlib.Core.Path.{_∙_}
+use borrow.Author.Needs.{needs}
+use Rattle.desk_atom.proofs.spell_rnum.Statement.{statement}
+use Rattle.desk_atom.proofs.spell_rnum.Tie as tie
+use Rattle.desk_atom.proofs.spell_rnum.Reads as reads
+use Rattle.desk_atom.proofs.spell_rnum.Lts as lts
+use Rattle.desk_atom.proofs.settle.Reads as settle-reads
+use Rattle.desk_atom.proofs.wipe.Reads as wipe-reads
+use Rattle.spell.proofs.spell_rnum.Reads as spell-rnum-reads
+
+wipe-requires : tie.Need-wipe-requires
+wipe-requires c κs = search needs
+
+same-length : tie.Need-same-length
+same-length c = search needs
+
+returns : tie.Need-returns
+returns c = no-rnum _ _ _ (c .if1 .taken) (c .before .before .before .wipe .ensures)
+
+spell-rnum-requires : tie.Need-spell-rnum-requires
+spell-rnum-requires c κs = search needs
+
+settle-requires : tie.Need-settle-requires
+settle-requires c κs = search needs
+
+same-length-2 : tie.Need-same-length-2
+same-length-2 c = search needs
+
+returns-2 : tie.Need-returns-2
+returns-2 c = rnum-spelt _ _ _ (c .before .before .before .before .before .before .before .before .if1 .left) (c .before .before .settle .ensures ∙ laid-settled _ (c .before .before .before .before .before .before .before .before .before .before .before .wipe .ensures) (c .before .before .before .before .before .before .spell-rnum .ensures))
+
+pub spell-rnum-spec : {M : Type 1} → statement M
+spell-rnum-spec =
+    tie.close
+    (tie.spec
+    wipe-requires
+    same-length
+    returns
+    spell-rnum-requires
+    settle-requires
+    same-length-2
+    returns-2)

@@ -1,0 +1,104 @@
+// One atom as text, both ways, and the text of a bond and of a ring number, as single calls: any text and any numbers may be
+// handed in. A text that is refused leaves zeros in the output.
+ghost use mathlib.Core.Path.{_≡_};
+ghost use lib.ListN.{length, replicate};
+ghost use Rattle.spell.specs.Spell.{bondText};
+ghost use Rattle.desk_atom.specs.Texts.{lackedOf, firstAtom, spelt, settled, texted, atomD, rnumD};
+use feature::atom_kind::AtomKind;
+use feature::atom_kind::in_range;
+use feature::bond_kind::BondKind;
+use graph::opens::NUMBERS;
+use scan::scanner::Found;
+use scan::scanner::Missing;
+use scan::scanner::missing_character;
+
+pub enum Begins {
+    // The kind, and the place after it.
+    Atom(AtomKind, usize),
+    EndOfLine,
+    Character(usize),
+}
+
+pub enum Spelt {
+    // How many bytes were written.
+    Written(usize),
+    // The bytes that the text needs.
+    OutRoom(usize),
+    // Numbers that stand for no atom and no ring number.
+    BadTable,
+}
+
+fn lacked(m: Missing) -> Begins
+    ensures { λ r. ⌜ r ≡ lackedOf m ⌝ }
+{
+    match m {
+        Missing::EndOfLine => Begins::EndOfLine,
+        Missing::Character(place) => Begins::Character(place),
+    }
+}
+
+// The atom that a text begins with.
+pub fn read_atom(text: &[u8]) -> Begins
+    ensures { λ r. ⌜ r ≡ firstAtom (now (text .entry)) ⌝ }
+{
+    match scan::read_atom::read_atom(text, 0) {
+        Found::Atom(k, next) => Begins::Atom(k, next),
+        Found::Nothing => lacked(missing_character(text, 0)),
+        Found::Lacks(m) => lacked(m),
+    }
+}
+
+// Zeros all through an output.
+pub fn wipe(out: &mut [u8])
+    ensures { λ _. ⌜ now (out .exit) ≡ replicate (length (now (out .entry))) 0 ⌝ }
+{
+    let mut at: usize = 0;
+    while at < out.len() {
+        out[at] = 0;
+        at += 1;
+    }
+}
+
+// What a text of so many bytes comes to, which was laid as far as there was room: none of it stays where there was too little.
+fn settle(out: &mut [u8], need: usize) -> Spelt
+    ensures { λ r. ⌜ spelt r (now (out .exit)) ≡ settled (now (out .entry)) need ⌝ }
+{
+    if out.len() < need {
+        wipe(out);
+        return Spelt::OutRoom(need);
+    }
+    Spelt::Written(need)
+}
+
+// An atom's text.
+pub fn spell_atom(out: &mut [u8], k: AtomKind) -> Spelt
+    ensures { λ r. ⌜ spelt r (now (out .exit)) ≡ atomD k (length (now (out .entry))) ⌝ }
+{
+    wipe(out);
+    if !in_range(k) {
+        return Spelt::BadTable;
+    }
+    let need = spell::spell_atom(out, k);
+    settle(out, need)
+}
+
+// A bond's text: none where it is elided. A kind is one of eight names, so it always stands for a bond.
+pub fn spell_bond(out: &mut [u8], k: BondKind) -> Spelt
+    ensures { λ r. ⌜ spelt r (now (out .exit)) ≡ texted (bondText k) (length (now (out .entry))) ⌝ }
+{
+    wipe(out);
+    let need = spell::spell_bond(out, k);
+    settle(out, need)
+}
+
+// A ring number's text.
+pub fn spell_rnum(out: &mut [u8], n: u32) -> Spelt
+    ensures { λ r. ⌜ spelt r (now (out .exit)) ≡ rnumD n (length (now (out .entry))) ⌝ }
+{
+    wipe(out);
+    if NUMBERS <= n as usize {
+        return Spelt::BadTable;
+    }
+    let need = spell::spell_rnum(out, n);
+    settle(out, need)
+}

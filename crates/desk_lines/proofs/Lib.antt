@@ -1,0 +1,4 @@
+pub mod Stands
+pub mod WriterKept
+pub mod Again
+pub mod Results

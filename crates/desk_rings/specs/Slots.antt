@@ -1,0 +1,82 @@
+-- A ring number from the pool as a single call, for any table and any numbers. Where they stand for no pool, the answer is 17
+-- and carries 0, and nothing changes; else the pool gives its own answer, a number or 11.
+--
+-- A table and numbers stand for a pool if the table has a slot for each number to 99, the counter is from 1 to 100 and the
+-- spare below it, and each slot is free, with three zeros, or open for a pair whose lower atom stands first. The slots of 0,
+-- of the spare and of the numbers from the counter on are free. A pair is looked for from the counter down, so that of 100 is
+-- one of these; a table that ends before it has it free.
+use Prim.Native.Nat.{ℕ, _+_, _*_}
+use mathlib.Core.List.{List, [], _∷_}
+use mathlib.Core.Bool.{Bool, false}
+use lib.ListN.{length, getD}
+use lib.Dec.{ltb, leb, eqb}
+use Rattle.feature.specs.Pick.{pick, both, either}
+use Rattle.pool.specs.declared.Pool.{Pool}
+use Rattle.pool.specs.declared.Given.{Given}
+use Rattle.pool.specs.declared.Given.the-variants as given
+use Rattle.pool.specs.Pairs.{slotWords, Hits, hitOf}
+use Rattle.desk_rings.specs.declared.Handed.{Handed}
+use Rattle.desk_rings.specs.declared.Handed.the-variants.{Number, RingNumbers, BadTable}
+use Rattle.feature.specs.Every.{every}
+
+-- what the counter is kept at once there
+abbrev pub top : ℕ
+top = 100
+
+-- ---- a pool's state
+unfoldable pub isFree : List ℕ → ℕ → Bool
+isFree pairs n =
+    both (eqb (getD pairs (n * slotWords) 0) 0)
+    (both (eqb (getD pairs (n * slotWords + 1) 0) 0)
+    (eqb (getD pairs (n * slotWords + 2) 0) 0))
+
+unfoldable pub isOpen : List ℕ → ℕ → Bool
+isOpen pairs n =
+    both (eqb (getD pairs (n * slotWords) 0) 1)
+    (leb (getD pairs (n * slotWords + 1) 0) (getD pairs (n * slotWords + 2) 0))
+
+-- the numbers that no pair can have
+unfoldable pub keptFree : Pool → ℕ → Bool
+keptFree p n = either (eqb n 0) (either (eqb n (p .spare)) (leb (p .counter) n))
+
+unfoldable pub isSlot : Pool → List ℕ → ℕ → Bool
+isSlot p pairs n = either (isFree pairs n) (pick (keptFree p n) false (isOpen pairs n))
+
+-- the counter is above the spare, and so from 1 on
+unfoldable pub isPool : Pool → List ℕ → Bool
+isPool p pairs =
+    both (leb (top * slotWords) (length pairs))
+    (both (leb (p .counter) top)
+    (both (ltb (p .spare) (p .counter))
+    (every (isSlot p pairs) (top + 1))))
+
+-- ---- the answers
+unfoldable pub handedOf : Given → Handed
+handedOf (given.Number p n) = Number p n
+handedOf given.Full = RingNumbers
+
+-- the desk's number for each, and what goes with it where the call is for the atoms a and b
+unfoldable pub numberOf : Handed → ℕ
+numberOf (Number p n) = 0
+numberOf RingNumbers = 11
+numberOf BadTable = 17
+
+unfoldable pub carriedBy : ℕ → ℕ → Handed → List ℕ
+carriedBy a b (Number p n) = n ∷ []
+carriedBy a b RingNumbers = a ∷ b ∷ []
+carriedBy a b BadTable = 0 ∷ []
+
+-- ---- the call
+-- what it answers, with the words that it leaves
+pub record Gives : Type 0 where
+  pub answer : Handed
+  pub left : List ℕ
+
+abbrev pub gives : Handed → List ℕ → Gives
+gives r pairs = record { answer = r; left = pairs }
+
+unfoldable pub givenBy : Hits → Gives
+givenBy h = gives (handedOf (h .answer)) (h .left)
+
+unfoldable pub hitD : Pool → List ℕ → ℕ → ℕ → Gives
+hitD p pairs a b = pick (isPool p pairs) (givenBy (hitOf p pairs a b)) (gives BadTable pairs)

@@ -1,0 +1,21 @@
+-- The words of a report in a row.
+use Rattle.report.specs.Report.{laidInto}
+use borrow.Author.Needs.{needs}
+use Rattle.report.proofs.answer.lay.Statement.{statement}
+use Rattle.report.proofs.answer.lay.Tie as tie
+use Rattle.report.proofs.answer.lay.Reads as reads
+use Rattle.report.proofs.answer.lay.Lts as lts
+use Rattle.report.proofs.answer.put_row.Reads as put-row-reads
+
+put-row-requires : tie.Need-put-row-requires
+put-row-requires c κs = search needs
+
+same-length : tie.Need-same-length
+same-length c = search needs
+
+returns : tie.Need-returns
+unfolding laidInto
+returns c = c .before .before .put-row .ensures
+
+pub lay-spec : {M : Type 1} → statement M
+lay-spec = tie.close (tie.spec put-row-requires same-length returns)

@@ -1,0 +1,93 @@
+-- The desk's answers as numbers: for each case of an answer its number and the two values that it carries, 0 where it carries
+-- fewer. A report is three words; those that find no room in a lent report are left out, and words after them are untouched.
+use Prim.Native.Nat.{ℕ}
+use mathlib.Core.List.{List, [], _∷_}
+use lib.ListN.{getD}
+use lib.Seq.{sets}
+use Rattle.read.specs.declared.Answer.{Answer}
+use Rattle.read.specs.declared.Answer.the-variants as read
+use Rattle.write.specs.declared.answer.Written.{Written}
+use Rattle.write.specs.declared.answer.Written.the-variants as write
+use Rattle.graph.specs.declared.builder.Builder.{Builder}
+use Rattle.builder.specs.declared.calls.Answer as calls
+use Rattle.builder.specs.Build.{Left, leftBy}
+use Rattle.desk_lines.specs.declared.Said.{Said}
+use Rattle.desk_rings.specs.declared.Handed.{Handed}
+use Rattle.desk_atom.specs.declared.Begins.{Begins}
+use Rattle.desk_atom.specs.declared.Spelt.{Spelt}
+use Rattle.desk_lines.specs.Pieces as pieces
+use Rattle.desk_rings.specs.Slots as slots
+use Rattle.desk_atom.specs.Texts as texts
+use Rattle.report.specs.declared.answer.Report.{Report}
+
+abbrev pub report : ℕ → ℕ → ℕ → Report
+report n a b = record { number = n; first = a; second = b }
+
+-- of the read call; 0 carries the atoms and the bond entries
+unfoldable pub ofRead : Answer → Report
+ofRead (read.Done n m) = report 0 n m
+ofRead read.EndOfLine = report 1 0 0
+ofRead (read.Character place) = report 2 place 0
+ofRead (read.Join closing opening) = report 3 closing opening
+ofRead (read.Rnum join) = report 4 join 0
+ofRead (read.Inversion atom) = report 10 atom 0
+ofRead (read.TextTooLong size) = report 12 size 0
+ofRead (read.AtomRoom place) = report 13 place 0
+ofRead (read.BondRoom place) = report 14 place 0
+ofRead (read.Nesting place) = report 15 place 0
+ofRead read.NoAtom = report 18 0 0
+
+-- of the write call and the walk order; 0 carries the bytes written, or the atoms walked
+unfoldable pub ofWritten : Written → Report
+ofWritten (write.Done n) = report 0 n 0
+ofWritten (write.UnknownTarget source target) = report 5 source target
+ofWritten (write.Loop source) = report 6 source 0
+ofWritten (write.HalfBond source target) = report 7 source target
+ofWritten (write.DuplicateBond source target) = report 8 source target
+ofWritten (write.IncompatibleBond target source) = report 9 target source
+ofWritten (write.Inversion atom) = report 10 atom 0
+ofWritten (write.RingNumbers source target) = report 11 source target
+ofWritten (write.AtomRoom n) = report 13 n 0
+ofWritten (write.BondRoom m) = report 14 m 0
+ofWritten (write.OutRoom bytes) = report 16 bytes 0
+ofWritten (write.BadTable place) = report 17 place 0
+
+-- ---- the single calls
+-- a number with the values that it carries, in a row
+abbrev pub carrying : ℕ → List ℕ → Report
+carrying n c = report n (getD c 0 0) (getD c 1 0)
+
+-- of words that stand for no state, no atom or no bond
+abbrev pub bad : Report
+bad = report 17 0 0
+
+-- of a builder's event: its refusal, 0 where it was accepted
+unfoldable pub ofEvent : Builder → Report
+ofEvent b = report (b .refusal) (b .carried) 0
+
+-- of a build; 0 carries the atoms and the bond entries
+abbrev pub ofLeft : Left → Report
+ofLeft l = carrying (l .number) (l .carries)
+
+unfoldable pub ofBuilt : calls.Answer → Report
+ofBuilt a = ofLeft (leftBy a [] [])
+
+-- of a writer's event; 0 carries the length of the line
+unfoldable pub ofSaid : Said → Report
+ofSaid s = carrying (pieces.numberOf s) (pieces.carriedBy s)
+
+-- of the pool's call for the atoms a and b; 0 carries the ring number
+unfoldable pub ofHanded : ℕ → ℕ → Handed → Report
+ofHanded a b h = carrying (slots.numberOf h) (slots.carriedBy a b h)
+
+-- of reading one atom; 0 carries the place after it
+unfoldable pub ofBegins : Begins → Report
+ofBegins b = carrying (texts.readNumber b) (texts.placeIn b)
+
+-- of a text; 0 carries the bytes written
+unfoldable pub ofSpelt : Spelt → Report
+ofSpelt s = carrying (texts.numberOf s) (texts.carriedBy s)
+
+-- the words of a report laid into what was lent for it
+unfoldable pub laidInto : List ℕ → Report → List ℕ
+laidInto lent r = sets lent 0 (r .number ∷ r .first ∷ r .second ∷ [])
