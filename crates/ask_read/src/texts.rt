@@ -8,7 +8,7 @@ use form::byte::put_word;
 use form::kind;
 use form::number;
 use form::text;
-use scan::read_atom::read_atom;
+use held::read_atom::read_atom;
 use scan::read_bond::Bond;
 use scan::read_bond::read_bond;
 use scan::read_rnum::Ring;

@@ -41,7 +41,7 @@ fn lacked(m: Missing) -> Begins
 pub fn read_atom(text: &[u8]) -> Begins
     ensures { λ r. ⌜ r ≡ firstAtom (now (text .entry)) ⌝ }
 {
-    match scan::read_atom::read_atom(text, 0) {
+    match held::read_atom::read_atom(text, 0) {
         Found::Atom(k, next) => Begins::Atom(k, next),
         Found::Nothing => lacked(missing_character(text, 0)),
         Found::Lacks(m) => lacked(m),

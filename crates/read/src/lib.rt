@@ -26,6 +26,7 @@ use graph::limits::TEXT;
 use graph::limits::atom_room;
 use graph::limits::bond_room;
 use graph::opens::NUMBERS;
+use held::scanner::is_done;
 use reader::event::CHARACTER;
 use reader::event::END_OF_LINE;
 use reader::lead::Lead;
@@ -34,7 +35,6 @@ use reader::line::NESTING;
 use reader::line::read_line;
 use record::ATOM_WORDS;
 use record::BOND_WORDS;
-use scan::held::is_done;
 
 // What the desk says of a line. Its numbers, in order: 0, 1, 2, 3, 4, 10, 12, 13, 14, 15, 18.
 pub enum Answer {

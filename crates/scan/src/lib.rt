@@ -2,14 +2,11 @@
 //
 // Each reader takes the line and a place and answers what it found with the place after it. The end of the line reads as
 // 256, which is no byte. A reader that misses something answers the place; `missing_character` turns it into the desk's words.
-// `held` has the scanner, which holds the line and its place in it, for those who read one from its start.
-pub mod held;
-pub mod read_atom;
+// The readers of brackets are in `bracket`, those of atoms and the scanner in `held`; what they answer is defined here.
+//
+// scanner: a byte, a digit, a number, and what is missing.
+// read_bond: a bond's mark.
+// read_rnum: a ring number.
 pub mod read_bond;
-pub mod read_bracket;
-pub mod read_charge;
-pub mod read_configuration;
-pub mod read_organic;
 pub mod read_rnum;
-pub mod read_symbol;
 pub mod scanner;

@@ -6,7 +6,7 @@ use Rattle.desk_atom.proofs.read_atom.Tie as tie
 use Rattle.desk_atom.proofs.read_atom.Reads as reads
 use Rattle.desk_atom.proofs.read_atom.Lts as lts
 use Rattle.desk_atom.proofs.lacked.Reads as lacked-reads
-use Rattle.scan.proofs.read_atom.read_atom.Reads as read-atom-reads
+use Rattle.held.proofs.read_atom.read_atom.Reads as read-atom-reads
 use Rattle.scan.proofs.scanner.missing_character.Reads as missing-character-reads
 
 read-atom-requires : tie.Need-read-atom-requires

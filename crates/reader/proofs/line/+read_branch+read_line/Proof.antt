@@ -22,7 +22,7 @@ use Rattle.reader.proofs.lead.read_lead.Reads as read-lead-reads
 use Rattle.reader.proofs.line.line_atom.Reads as line-atom-reads
 use Rattle.reader.proofs.line.line_unit.Reads as line-unit-reads
 use Rattle.reader.proofs.line.stopped.Reads as stopped-reads
-use Rattle.scan.proofs.held.peek.Reads as peek-reads
+use Rattle.held.proofs.scanner.peek.Reads as peek-reads
 use Rattle.reader.proofs.line.+read_branch+read_line.{statement}
 use Rattle.reader.proofs.line.+read_branch+read_line.Tie.{close}
 

@@ -1,0 +1,40 @@
+use mathlib.Core.Path.{refl}
+use borrow.Author.Tests.{lt-ltb, le-ltb, lt-leb, le-leb, eq-eqb, ne-eqb}
+use Rattle.scan.specs.Scan.{bracketAt}
+use borrow.Author.Needs.{needs}
+use Rattle.bracket.proofs.read_bracket.read_bracket.Statement.{statement}
+use Rattle.bracket.proofs.read_bracket.read_bracket.Tie as tie
+use Rattle.bracket.proofs.read_bracket.read_bracket.Reads as reads
+use Rattle.bracket.proofs.read_bracket.read_bracket.Lts as lts
+use Rattle.bracket.proofs.read_bracket.inside.Reads as inside-reads
+use Rattle.scan.proofs.scanner.peek.Reads as peek-reads
+
+-- src/read_bracket.rt:114:9
+peek-requires : tie.Need-peek-requires
+peek-requires c κs = search needs
+
+-- src/read_bracket.rt:115:13
+cast-if1 : tie.Need-cast-if1
+cast-if1 c = search needs
+
+-- src/read_bracket.rt:116:26
+add-inside : tie.Need-add-inside
+add-inside c = search needs
+
+-- src/read_bracket.rt:116:9
+inside-requires : tie.Need-inside-requires
+inside-requires c κs = search needs
+
+-- src/read_bracket.rt:116:9
+returns : tie.Need-returns
+unfolding bracketAt
+returns c = simp (← c .before .before .peek .ensures .is, eq-eqb _ _ (c .before .if1 .taken), ← c .inside .ensures)
+
+-- src/read_bracket.rt:111:1
+returns-2 : tie.Need-returns-2
+unfolding bracketAt
+returns-2 c = simp (← c .before .peek .ensures .is, ne-eqb _ _ (c .if1 .left))
+
+pub read-bracket-spec : {M : Type 1} → statement M
+read-bracket-spec =
+    tie.close (tie.spec peek-requires cast-if1 add-inside inside-requires returns returns-2)
