@@ -7,7 +7,7 @@ use Prim.Native.Nat.{ℕ, zero, suc, _+_, _-_, _*_, _≤_, _<_}
 use native.Mathlib.Omega.{arith}
 use lib.ListN.{length}
 use lib.Dec.{eqb, ltb}
-use borrow.Author.Tests.{eq-eqb, ne-eqb, eqb-true}
+use borrow.Author.Tests.{eq-eqb, ne-eqb, eqb-true, eqb-false}
 use Rattle.feature.specs.Pick.{pick}
 use Rattle.feature.specs.Text.{byte, bytes}
 use Rattle.feature.specs.declared.atom_kind.AtomKind.{AtomKind}
@@ -27,7 +27,7 @@ use Rattle.reader.specs.declared.lead.Lead.the-variants.{Dot, Bond}
 use Rattle.reader.specs.declared.lead.Led.{Led}
 use Rattle.reader.specs.Events.{Event, Enter, Join, Pop, Miss, Nest, on, nesting, enterOf, ringOf, missingSt, step, run}
 use Rattle.reader.specs.Parse.{Rest, ledAt, oneOf, bodyOf, bodyAt, missP, foundP, atomP, ringP, unionBy, unionP, unitBy, unitP, lineP, closeP, branchP, bodies}
-use Rattle.reader.specs.Post.{Counted, Ready, Moved, AtomRead, RingRead, UnionRead, UnitRead, LineRead, BranchRead}
+use Rattle.reader.specs.Post.{came, cameMissing, cameClosed, Counted, Ready, Moved, AtomRead, RingRead, UnionRead, UnitRead, RestRead, LineRead, BranchRead}
 use Rattle.reader.proofs.Counts.{counted-more, enter-at, ring-at, pop-at, refused-at, missing-at, missing-not}
 
 -- ---- running
@@ -219,7 +219,7 @@ module _ (s : List ℕ) (b : Bld) (at room : ℕ) (ready : Ready s at (b .st)) (
         }
 
     module _ (going : b₁ .st .refusal ≡ 0) where
-      pub branch-made : peekAt s at₁ ≡ byte ")" → BranchRead s at room b (popOf b₁ n₁) (at₁ + 1)
+      branch-made : peekAt s at₁ ≡ byte ")" → BranchRead s at room b (popOf b₁ n₁) (at₁ + 1)
       unfolding closeP step popOf
       branch-made e =
           let lt : at₁ < length s = byte-in s at₁ (byte ")") (omega arith) e in
@@ -233,7 +233,7 @@ module _ (s : List ℕ) (b : Bld) (at room : ℕ) (ready : Ready s at (b .st)) (
                 };
           }
 
-      pub branch-missing : (peekAt s at₁ ≡ byte ")" → ⊥) → BranchRead s at room b (on b₁ (missingSt (b₁ .st) (missingAt s at₁))) at₁
+      branch-missing : (peekAt s at₁ ≡ byte ")" → ⊥) → BranchRead s at room b (on b₁ (missingSt (b₁ .st) (missingAt s at₁))) at₁
       unfolding closeP missP
       branch-missing ne =
           record {
@@ -245,6 +245,15 @@ module _ (s : List ℕ) (b : Bld) (at room : ℕ) (ready : Ready s at (b .st)) (
                   counted = missing-at (b₁ .st) at₁ _ (line .moved .counted);
                 };
           }
+
+      closed-split : (q : Bool) → eqb (peekAt s at₁) (byte ")") ≡ q → BranchRead s at room b (on b₁ (pick q (came (at₁ + 1) 0 (poppedSt (b₁ .st) n₁)) (cameMissing s at₁ 0 (b₁ .st)) .b)) (pick q (came (at₁ + 1) 0 (poppedSt (b₁ .st) n₁)) (cameMissing s at₁ 0 (b₁ .st)) .at)
+      unfolding popOf cameMissing
+      closed-split true e = branch-made (eqb-true _ _ e)
+      closed-split false e = branch-missing (eqb-false _ _ e)
+
+      pub branch-closed : BranchRead s at room b (on b₁ (cameClosed s at₁ n₁ (b₁ .st) .b)) (cameClosed s at₁ n₁ (b₁ .st) .at)
+      unfolding cameClosed
+      branch-closed = closed-split (eqb (peekAt s at₁) (byte ")")) refl
 
 -- ---- a line's turns
 
@@ -265,19 +274,22 @@ unfolding bodyAt bodyOf
 body-open s at h =
     open-split (peekAt s at) (eqb (peekAt s at) (byte "(")) refl (ascii-split (peekAt s at) (ltb (peekAt s at) 128) h)
 
+-- no body begins at ")"
+body-closed : (s : List ℕ) (at : ℕ) → peekAt s at ≡ byte ")" → bodyAt s at ≡ byte "0"
+unfolding bodyAt bodyOf
+body-closed s at e = simp e
+
+at-end : (s : List ℕ) (room i n : ℕ) → i ≤ length s → bodyAt s i ≡ byte "0" → (g : ℕ) (k : Rest) → length s < i + g → bodies g s room i n k ≡ k i n
+unfolding bodies
+at-end s room i n within e zero k big = absurd (omega (arith, within))
+at-end s room i n within e (suc g) k big = simp (eq-eqb _ _ e)
+
 -- at the head of the loop: what the events of the bodies from i₀ on make of the first state, those from i on make of this one
 pub record Turn (s : List ℕ) (room : ℕ) (b₀ : Bld) (i₀ n₀ : ℕ) (b : Bld) (i n : ℕ) : Type 0 where
   pub ready : Ready s i (b .st)
   pub past : i₀ ≤ i
   pub count : n ≤ i
   pub same : (f : ℕ) (k : Rest) → length s < i₀ + f → (g : ℕ) × (length s < i + g) × (run b₀ (bodies f s room i₀ n₀ k) ≡ run b (bodies g s room i n k))
-
--- what is left of a line after its first atom
-record Left (s : List ℕ) (room : ℕ) (b₀ : Bld) (i₀ n₀ : ℕ) (b′ : Bld) (i′ n′ : ℕ) : Type 0 where
-  same : (f : ℕ) (k : Rest) → length s < i₀ + f → run b₀ (bodies f s room i₀ n₀ k) ≡ run b′ (k i′ n′)
-  within : i′ ≤ length s
-  on : b′ .st .refusal ≡ 0 → i₀ ≤ i′
-  counted : Counted (b′ .st) i′
 
 pub line-refused : (s : List ℕ) (at : ℕ) (l : Lead) (room : ℕ) (b₀ b : Bld) (i n : ℕ) → AtomRead s at l 0 b₀ b i n → (b .st .refusal ≡ 0 → ⊥) → LineRead s at l room b₀ b i n
 unfolding lineP
@@ -287,39 +299,44 @@ line-refused s at l room b₀ b i n read nz =
       moved = record { within = read .moved .within; on = λ z. absurd (nz z); counted = read .moved .counted };
     }
 
-module _ (s : List ℕ) (short : length s ≤ textLimit) (at : ℕ) (l : Lead) (room : ℕ) (b₋ b₀ : Bld) (i₀ n₀ : ℕ) (first : AtomRead s at l 0 b₋ b₀ i₀ n₀) (going₀ : b₀ .st .refusal ≡ 0) where
-  pub line-first : Turn s room b₀ i₀ n₀ b₀ i₀ n₀
-  line-first =
-      record {
-        ready = record { going = going₀; counted = first .moved .counted; within = first .moved .within; short = short };
-        past = omega arith;
-        count = first .count;
-        same = λ f k big. (f, big, refl);
-      }
+-- a line whose first atom was read
+module _ (s : List ℕ) (at : ℕ) (l : Lead) (room : ℕ) (b₋ b₀ : Bld) (i₀ n₀ : ℕ) (first : AtomRead s at l 0 b₋ b₀ i₀ n₀) (going₀ : b₀ .st .refusal ≡ 0) where
+  pub first-ready : length s ≤ textLimit → Ready s i₀ (b₀ .st)
+  first-ready short =
+      record { going = going₀; counted = first .moved .counted; within = first .moved .within; short = short }
 
-  whole : (b′ : Bld) (i′ n′ : ℕ) → Left s room b₀ i₀ n₀ b′ i′ n′ → LineRead s at l room b₋ b′ i′ n′
+  pub line-whole : (b′ : Bld) (i′ n′ : ℕ) → RestRead s room b₀ i₀ n₀ b′ i′ n′ → LineRead s at l room b₋ b′ i′ n′
   unfolding lineP
-  whole b′ i′ n′ left =
+  line-whole b′ i′ n′ left =
       record {
         same = λ f k big. first .same (λ at′ n″. bodies f s room at′ n″ k) ∙ left .same f k (omega (arith, first .moved .on going₀));
         moved = record { within = left .within; on = λ z. omega (arith, first .moved .on going₀, left .on z); counted = left .counted };
       }
 
-  module _ (b : Bld) (i n : ℕ) (turn : Turn s room b₀ i₀ n₀ b i n) (what : ℕ) (is-what : what ≡ bodyAt s i) where
-    at-end : bodyAt s i ≡ byte "0" → (g : ℕ) (k : Rest) → length s < i + g → bodies g s room i n k ≡ k i n
-    unfolding bodies
-    at-end e zero k big = absurd (omega (arith, turn .ready .within))
-    at-end e (suc g) k big = simp (eq-eqb _ _ e)
+  -- its atom alone
+  pub line-alone : peekAt s i₀ ≡ byte ")" → LineRead s at l room b₋ b₀ i₀ n₀
+  line-alone e =
+      line-whole b₀ i₀ n₀
+      (record {
+        same = λ f k big. ap (run b₀) (at-end s room i₀ n₀ (first .moved .within) (body-closed s i₀ e) f k big);
+        within = first .moved .within;
+        on = λ _. omega arith;
+        counted = first .moved .counted;
+      })
 
-    pub line-end : what ≡ byte "0" → LineRead s at l room b₋ b i n
-    line-end e =
-        whole b i n
-        (record {
-          same = λ f k big. let t = turn .same f k big in t .2 ∙ ap (run b) (at-end (sym is-what ∙ e) (t .0) k (t .1));
+module _ (s : List ℕ) (room : ℕ) (b₀ : Bld) (i₀ n₀ : ℕ) (ready₀ : Ready s i₀ (b₀ .st)) where
+  pub rest-first : n₀ ≤ i₀ → Turn s room b₀ i₀ n₀ b₀ i₀ n₀
+  rest-first few = record { ready = ready₀; past = omega arith; count = few; same = λ f k big. (f, big, refl) }
+
+  module _ (b : Bld) (i n : ℕ) (turn : Turn s room b₀ i₀ n₀ b i n) (what : ℕ) (is-what : what ≡ bodyAt s i) where
+    pub rest-end : what ≡ byte "0" → RestRead s room b₀ i₀ n₀ b i n
+    rest-end e =
+        record {
+          same = λ f k big. let t = turn .same f k big in t .2 ∙ ap (run b) (at-end s room i n (turn .ready .within) (sym is-what ∙ e) (t .0) k (t .1));
           within = turn .ready .within;
           on = λ _. turn .past;
           counted = turn .ready .counted;
-        })
+        }
 
     module _ (b′ : Bld) (i′ n′ : ℕ) where
       -- one body more, however it was read
@@ -331,22 +348,21 @@ module _ (s : List ℕ) (short : length s ≤ textLimit) (at : ℕ) (l : Lead) (
       unfolding Next
       on-next next moved few going =
           record {
-            ready = record { going = going; counted = moved .counted; within = moved .within; short = short };
+            ready = record { going = going; counted = moved .counted; within = moved .within; short = ready₀ .short };
             past = omega (arith, turn .past, moved .on going);
             count = few;
             same = λ f k big. let t = turn .same f k big in let u = next (t .0) k (t .1) in (u .0, u .1 going, t .2 ∙ u .2);
           }
 
-      stuck-next : Next → Moved s i (b′ .st) i′ → (m : ℕ) → (b′ .st .refusal ≡ 0 → ⊥) → LineRead s at l room b₋ b′ i′ m
+      stuck-next : Next → Moved s i (b′ .st) i′ → (m : ℕ) → (b′ .st .refusal ≡ 0 → ⊥) → RestRead s room b₀ i₀ n₀ b′ i′ m
       unfolding Next
       stuck-next next moved m nz =
-          whole b′ i′ m
-          (record {
+          record {
             same = λ f k big. let t = turn .same f k big in let u = next (t .0) k (t .1) in t .2 ∙ u .2 ∙ run-stuck b′ _ nz ∙ sym (run-stuck b′ (k i′ m) nz);
             within = moved .within;
             on = λ z. absurd (nz z);
             counted = moved .counted;
-          })
+          }
 
     module _ (b′ : Bld) (i′ : ℕ) (e : what ≡ byte "1") (read : BranchRead s i room b b′ i′) where
       next-branch : Next b′ i′ n
@@ -359,7 +375,7 @@ module _ (s : List ℕ) (short : length s ≤ textLimit) (at : ℕ) (l : Lead) (
       pub after-branch : b′ .st .refusal ≡ 0 → Turn s room b₀ i₀ n₀ b′ i′ n
       after-branch going = on-next b′ i′ n next-branch (read .moved) (omega (arith, turn .count, read .moved .on going)) going
 
-      pub stuck-branch : (m : ℕ) → (b′ .st .refusal ≡ 0 → ⊥) → LineRead s at l room b₋ b′ i′ m
+      pub stuck-branch : (m : ℕ) → (b′ .st .refusal ≡ 0 → ⊥) → RestRead s room b₀ i₀ n₀ b′ i′ m
       stuck-branch m nz = stuck-next b′ i′ n next-branch (read .moved) m nz
 
     module _ (b′ : Bld) (i′ n′ : ℕ) (e₀ : what ≡ byte "0" → ⊥) (e₁ : what ≡ byte "1" → ⊥) (read : UnitRead s i n b b′ i′ n′) where
@@ -375,5 +391,5 @@ module _ (s : List ℕ) (short : length s ≤ textLimit) (at : ℕ) (l : Lead) (
       pub after-unit : b′ .st .refusal ≡ 0 → Turn s room b₀ i₀ n₀ b′ i′ n′
       after-unit going = on-next b′ i′ n′ next-unit (read .moved) (read .count) going
 
-      pub stuck-unit : (b′ .st .refusal ≡ 0 → ⊥) → LineRead s at l room b₋ b′ i′ n′
+      pub stuck-unit : (b′ .st .refusal ≡ 0 → ⊥) → RestRead s room b₀ i₀ n₀ b′ i′ n′
       stuck-unit nz = stuck-next b′ i′ n′ next-unit (read .moved) n′ nz

@@ -3,11 +3,14 @@ use mathlib.Core.Path.{_≡_}
 use Prim.Native.Nat.{ℕ, _+_, _*_, _≤_, _<_}
 use mathlib.Core.List.{List}
 use lib.ListN.{length}
+use lib.Dec.{eqb}
+use Rattle.feature.specs.Pick.{pick}
+use Rattle.feature.specs.Text.{byte}
 use Rattle.feature.specs.declared.bond_kind.BondKind.{BondKind}
-use Rattle.scan.specs.Scan.{missingAt, rnumAt}
+use Rattle.scan.specs.Scan.{peekAt, missingAt, rnumAt}
 use Rattle.graph.specs.declared.builder.Builder.{Builder}
 use Rattle.graph.specs.Limits.{textLimit}
-use Rattle.graph.specs.State.{Bld}
+use Rattle.graph.specs.State.{Bld, poppedSt}
 use Rattle.reader.specs.declared.lead.Lead.{Lead}
 use Rattle.reader.specs.declared.line.Came.{Came}
 use Rattle.reader.specs.Events.{Event, run, missingSt}
@@ -19,6 +22,11 @@ came at n b = record { at = at; n = n; b = b }
 -- something is missing at a place
 unfoldable pub cameMissing : List ℕ → ℕ → ℕ → Builder → Came
 cameMissing s at n b = came at n (missingSt b (missingAt s at))
+
+-- the end of a branch whose line has n atoms
+unfoldable pub cameClosed : List ℕ → ℕ → ℕ → Builder → Came
+cameClosed s at n b =
+    pick (eqb (peekAt s at) (byte ")")) (came (at + 1) 0 (poppedSt b n)) (cameMissing s at 0 b)
 
 -- each atom, each ring number and each entry has taken a byte, or half of one: so no count wraps
 pub record Counted (s : Builder) (at : ℕ) : Type 0 where
@@ -60,7 +68,14 @@ pub record UnitRead (s : List ℕ) (at n : ℕ) (b b′ : Bld) (at′ n′ : ℕ
   pub moved : Moved s at (b′ .st) at′
   pub count : n′ ≤ at′
 
--- `f` is any number that is large enough to count the bodies
+-- `f` is any number that is large enough to count the bodies: what is left of a line after its first atoms, whose bodies may
+-- be none
+pub record RestRead (s : List ℕ) (room : ℕ) (b : Bld) (at n : ℕ) (b′ : Bld) (at′ n′ : ℕ) : Type 0 where
+  pub same : (f : ℕ) (k : Rest) → length s < at + f → run b (bodies f s room at n k) ≡ run b′ (k at′ n′)
+  pub within : at′ ≤ length s
+  pub on : b′ .st .refusal ≡ 0 → at ≤ at′
+  pub counted : Counted (b′ .st) at′
+
 pub record LineRead (s : List ℕ) (at : ℕ) (l : Lead) (room : ℕ) (b b′ : Bld) (at′ n′ : ℕ) : Type 0 where
   pub same : (f : ℕ) (k : Rest) → length s < at + f → run b (lineP (bodies f s room) s at l k) ≡ run b′ (k at′ n′)
   pub moved : Moved s at (b′ .st) at′

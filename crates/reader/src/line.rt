@@ -6,7 +6,8 @@ ghost use lib.ListN.{length};
 ghost use Rattle.feature.specs.Text.{byte};
 ghost use Rattle.scan.specs.Scan.{peekAt};
 ghost use Rattle.graph.specs.State.{bld};
-ghost use Rattle.reader.specs.Post.{came, cameMissing, Ready, AtomRead, RingRead, UnionRead, UnitRead, LineRead, BranchRead};
+ghost use Rattle.graph.specs.Limits.{textLimit};
+ghost use Rattle.reader.specs.Post.{came, cameMissing, cameClosed, Ready, AtomRead, RingRead, UnionRead, UnitRead, RestRead, LineRead, BranchRead};
 use crate::event::put_atom;
 use crate::event::put_missing;
 use crate::event::put_ring;
@@ -159,7 +160,25 @@ fn line_unit(
     }
 }
 
-// A branch, whose "(" stands at `at`. `room` is how many more may stand open.
+// The end of a branch whose line has n atoms: ")" stands there, and they are left.
+fn leave_branch(text: &[u8], at: usize, n: usize, b: Builder) -> Came
+    requires { ⌜ (at ≤ length (now text)) × (length (now text) ≤ textLimit) ⌝ }
+    ensures { λ r. ⌜ r ≡ cameClosed (now (text .entry)) at n b ⌝ }
+{
+    let d = peek(text, at);
+    if d == b')' as u32 {
+        let p = b.pop(n);
+        return Came {
+            at: at + 1,
+            n: 0,
+            b: p,
+        };
+    }
+    stopped(text, at, 0, b)
+}
+
+// A branch, whose "(" stands at `at`. `room` is how many more may stand open. Most hold an atom alone, and those are done
+// without a call of the rest of a line, which calls this function in turn.
 fn read_branch(
     text: &[u8],
     at: usize,
@@ -180,29 +199,38 @@ fn read_branch(
     }
     let l = read_lead(text, at + 1);
     let lead = l.lead;
-    let r = read_line(text, l.next, lead, room - 1, atoms, entries, path, rings, b);
+    let first = line_atom(text, l.next, lead, 0, atoms, entries, path, b);
+    let f = first.b;
+    if f.refusal != 0 {
+        return first;
+    }
+    let d = peek(text, first.at);
+    if d == b')' as u32 {
+        return leave_branch(text, first.at, first.n, f);
+    }
+    let r = line_rest(
+        text,
+        first.at,
+        first.n,
+        room - 1,
+        atoms,
+        entries,
+        path,
+        rings,
+        f,
+    );
     let c = r.b;
     if c.refusal != 0 {
         return r;
     }
-    let next = r.at;
-    let d = peek(text, next);
-    if d == b')' as u32 {
-        let p = c.pop(r.n);
-        return Came {
-            at: next + 1,
-            n: 0,
-            b: p,
-        };
-    }
-    stopped(text, next, 0, c)
+    leave_branch(text, r.at, r.n, c)
 }
 
-// A line: an atom, and then bodies along a loop.
-pub fn read_line(
+// The rest of a line of so many atoms, from a place on: bodies along a loop.
+fn line_rest(
     text: &[u8],
     at: usize,
-    lead: Lead,
+    count: usize,
     room: usize,
     atoms: &mut [u32],
     entries: &mut [u32],
@@ -210,17 +238,13 @@ pub fn read_line(
     rings: &mut [u32],
     b: Builder,
 ) -> Came
-    requires { ⌜ Ready (now text) at b ⌝ }
-    ensures { λ r. ⌜ LineRead (now (text .entry)) at lead room (bld (now (atoms .entry)) (now (entries .entry)) (now (path .entry)) (now (rings .entry)) b)
+    requires { ⌜ Ready (now text) at b × (count ≤ at) ⌝ }
+    ensures { λ r. ⌜ RestRead (now (text .entry)) room (bld (now (atoms .entry)) (now (entries .entry)) (now (path .entry)) (now (rings .entry)) b) at count
         (bld (now (atoms .exit)) (now (entries .exit)) (now (path .exit)) (now (rings .exit)) (r .b)) (r .at) (r .n) ⌝ }
 {
-    let first = line_atom(text, at, lead, 0, atoms, entries, path, b);
-    let mut state = first.b;
-    if state.refusal != 0 {
-        return first;
-    }
-    let mut i = first.at;
-    let mut n = first.n;
+    let mut state = b;
+    let mut i = at;
+    let mut n = count;
     loop {
         let what = body(text, i);
         if what == b'0' {
@@ -245,4 +269,38 @@ pub fn read_line(
             state = s;
         }
     }
+}
+
+// A line: an atom, and the rest.
+pub fn read_line(
+    text: &[u8],
+    at: usize,
+    lead: Lead,
+    room: usize,
+    atoms: &mut [u32],
+    entries: &mut [u32],
+    path: &mut [u32],
+    rings: &mut [u32],
+    b: Builder,
+) -> Came
+    requires { ⌜ Ready (now text) at b ⌝ }
+    ensures { λ r. ⌜ LineRead (now (text .entry)) at lead room (bld (now (atoms .entry)) (now (entries .entry)) (now (path .entry)) (now (rings .entry)) b)
+        (bld (now (atoms .exit)) (now (entries .exit)) (now (path .exit)) (now (rings .exit)) (r .b)) (r .at) (r .n) ⌝ }
+{
+    let first = line_atom(text, at, lead, 0, atoms, entries, path, b);
+    let f = first.b;
+    if f.refusal != 0 {
+        return first;
+    }
+    line_rest(
+        text,
+        first.at,
+        first.n,
+        room,
+        atoms,
+        entries,
+        path,
+        rings,
+        f,
+    )
 }
