@@ -1,6 +1,8 @@
 // A symbol of a bracket atom, by the table of names.
 ghost use mathlib.Core.Path.{_≡_};
 ghost use Prim.Native.Nat.{ℕ, _+_, _*_, _≤_};
+ghost use Rattle.feature.specs.Text.{twoLetters};
+ghost use Rattle.feature.specs.Names.{names, placeOf};
 ghost use Rattle.scan.specs.Scan.{slip, symbolAt};
 use feature::element;
 use scan::scanner::Step;
@@ -17,6 +19,17 @@ fn slipped(b: u32) -> u32
     b
 }
 
+// The symbol whose name has two letters, or SYMBOLS. No name has a second letter below "a", so none is looked up then.
+fn two_letters(b: u32, d: u32) -> u32
+    requires { ⌜ (b ≤ 256) × (d ≤ 256) ⌝ }
+    ensures { λ r. ⌜ r ≡ placeOf (twoLetters b d) names ⌝ }
+{
+    if d < b'a' as u32 {
+        return element::SYMBOLS;
+    }
+    element::find(b * element::LETTER + d + 1)
+}
+
 // A name of two letters, else one of one. What is missing is missing after the first byte where some name begins with it.
 pub fn read_symbol(s: &[u8], at: usize) -> Step
     ensures { λ r. ⌜ r ≡ symbolAt (now (s .entry)) at ⌝ }
@@ -26,7 +39,7 @@ pub fn read_symbol(s: &[u8], at: usize) -> Step
         return Step::Stop(at);
     }
     let d = peek(s, at + 1);
-    let two = element::find(b * element::LETTER + d + 1);
+    let two = two_letters(b, d);
     if two < element::SYMBOLS {
         return Step::Got(two, at + 2);
     }

@@ -7,20 +7,20 @@ use Rattle.bracket.proofs.read_symbol.slipped.Tie as tie
 use Rattle.bracket.proofs.read_symbol.slipped.Reads as reads
 use Rattle.bracket.proofs.read_symbol.slipped.Lts as lts
 
--- src/read_symbol.rt:13:13
+-- src/read_symbol.rt:16:13
 cast-if1 : tie.Need-cast-if1
 cast-if1 c = search needs
 
--- src/read_symbol.rt:14:16
+-- src/read_symbol.rt:17:16
 cast-result : tie.Need-cast-result
 cast-result c = search needs
 
--- src/read_symbol.rt:14:9
+-- src/read_symbol.rt:17:9
 returns : tie.Need-returns
 unfolding slip
 returns c = (simp (eq-eqb _ _ (c .if1 .taken)), search needs)
 
--- src/read_symbol.rt:9:1
+-- src/read_symbol.rt:12:1
 returns-2 : tie.Need-returns-2
 unfolding slip
 returns-2 c = (simp (ne-eqb _ _ (c .if1 .left)), search needs)
