@@ -13,13 +13,13 @@ use Rattle.reader.specs.Parse.{ledAt, bodyOf, bodyAt, missP, foundP, atomP, rin
 use Rattle.sketch.specs.Sketch.{numberOf, countOf, upd, edgesAt, addEdge, waits, openKind, fillEdges, fill, lookup, without, rootS, bondedS, extendS, openedS, closedS, firstOf, ringS, joinS, enterS, numberS, missedS, stepS, runS, sketchOf, openHere, openIn, firstOpenS, ringsSay, saysS, finishS, leftS}
 use Rattle.sketch.specs.Sketch.{atomTable, bondTable, edgeTable, targetOf, padded}
 use Rattle.feature.specs.Kinds.{inRange, bracketInRange, invertBracket}
-use Rattle.feature.specs.Bonds.{kindOf}
+use Rattle.feature.specs.Bonds.{kindOf, sureKind}
 use Rattle.record.specs.Words as words
 use Rattle.spell.specs.Spell as spell
 use Rattle.build.specs.Build.{sumOf, startsOf}
 use Rattle.pool.specs.Pairs as pool
 use Rattle.writer.specs.Line.{lineOf, dotText, addPiece, onLast, wrapped, popPieces, writeEvent, writeEvents}
-use Rattle.ways.specs.Graph.{kindOr, bondOr, kindIn, degreeIn, bondIn}
+use Rattle.ways.specs.Graph.{kindOr, kindIn, degreeIn, bondIn}
 use Rattle.ways.specs.Ways.{isRefused, isFixed, turnedOr, even, saidAs, scanIn, judgedBack, wayOf}
 use Rattle.walk.specs.Walk as walk
 use Rattle.judge.specs.Judge as judge
@@ -49,5 +49,5 @@ rows =
 
 -- each is answered so
 pub rows-said : map (λ (r : Asked × Says). answerOf (r .0)) rows ≡ map (λ (r : Asked × Says). r .1) rows
-unfolding placeOf names begins peekAt digitOf digitAt missingAt bracketAt aromaticOf aliphaticOf optionalAt organicAt starAt orElse otherAt atomAt markWidth rnumAt afterCharge afterConfiguration afterHydrogens afterIsotope afterMap afterSymbol chargeAt closeAt configurationAt configured digitStep hydrogensAt insideAt isotopeAt mapAt numberAt signedAt slip symbolAt symbolOf fifteenAt shortAt longAt lateAt lesserOf ledAt bodyOf bodyAt missP foundP atomP ringP unionBy unionP unitBy unitP lineP closeP branchP bodies endP parse sketchOf runS stepS enterS numberS missedS rootS extendS bondedS joinS ringS openedS closedS firstOf numberOf countOf upd addEdge edgesAt openKind waits fillEdges fill lookup without invertOf reverseOf reconcileOf isDirectional codeOf openHere openIn firstOpenS ringsSay saysS finishS leftS refusalOf builtAnswer atomTable bondTable edgeTable targetOf padded inRange bracketInRange invertBracket kindOf words.bracketPair words.pairOf words.wordsOf words.listOf words.plainOf words.bracketOf words.loadOf words.loadAt words.entryOf words.bondOf words.bondAt bondOf bondAt spell.digits spell.numberText spell.nameText spell.symbolText spell.templateText spell.markedText spell.configurationText spell.hydrogensText spell.chargeText spell.mapText spell.bracketText spell.organic spell.kindText spell.atomText spell.bondText spell.rnumText sumOf startsOf pool.opens pool.numberOf pool.slot pool.grown pool.counterOf pool.nextOf pool.openOf pool.closeOf pool.calledOf pool.pairOf pool.hitOf lineOf dotText addPiece onLast wrapped popPieces writeEvent writeEvents kindOr bondOr kindIn degreeIn bondIn isRefused isFixed turnedOr even saidAs scanIn judgedBack wayOf walk.popsOf walk.rootOf walk.leftIn walk.numberedOf walk.ringOf walk.enteredOf walk.enterOf walk.bondTurn walk.entryOf walk.atomOf walk.turnOf walk.stepOf walk.walkTo walk.eventsOf walk.turnsOf words.isHeld judge.isEntry words.isAtom judge.bondStands judge.atomsFrom judge.bondsFrom judge.afterAtoms judge.badRecord write.walkIn write.saidIn write.refusalOf write.atomRoom write.bondRoom write.putLine write.concluded write.graphWritten write.writeOf line.wholeOf line.graphOf line.lineOf ofRead ofWritten writtenAs rewriteOf numberGiven poolGiven callsFrom answerOf
+unfolding placeOf names begins peekAt digitOf digitAt missingAt bracketAt aromaticOf aliphaticOf optionalAt organicAt starAt orElse otherAt atomAt markWidth rnumAt afterCharge afterConfiguration afterHydrogens afterIsotope afterMap afterSymbol chargeAt closeAt configurationAt configured digitStep hydrogensAt insideAt isotopeAt mapAt numberAt signedAt slip symbolAt symbolOf fifteenAt shortAt longAt lateAt lesserOf ledAt bodyOf bodyAt missP foundP atomP ringP unionBy unionP unitBy unitP lineP closeP branchP bodies endP parse sketchOf runS stepS enterS numberS missedS rootS extendS bondedS joinS ringS openedS closedS firstOf numberOf countOf upd addEdge edgesAt openKind waits fillEdges fill lookup without invertOf reverseOf reconcileOf isDirectional codeOf openHere openIn firstOpenS ringsSay saysS finishS leftS refusalOf builtAnswer atomTable bondTable edgeTable targetOf padded inRange bracketInRange invertBracket kindOf words.bracketPair words.pairOf words.wordsOf words.listOf words.plainOf words.bracketOf words.loadOf words.loadAt words.entryOf words.bondOf words.bondAt bondOf bondAt spell.digits spell.numberText spell.nameText spell.symbolText spell.templateText spell.markedText spell.configurationText spell.hydrogensText spell.chargeText spell.mapText spell.bracketText spell.organic spell.kindText spell.atomText spell.bondText spell.rnumText sumOf startsOf pool.opens pool.numberOf pool.slot pool.grown pool.counterOf pool.nextOf pool.openOf pool.closeOf pool.calledOf pool.pairOf pool.hitOf lineOf dotText addPiece onLast wrapped popPieces writeEvent writeEvents kindOr sureKind kindIn degreeIn bondIn isRefused isFixed turnedOr even saidAs scanIn judgedBack wayOf walk.popsOf walk.rootOf walk.leftIn walk.numberedOf walk.ringOf walk.enteredOf walk.enterOf walk.bondTurn walk.entryOf walk.atomOf walk.turnOf walk.stepOf walk.walkTo walk.eventsOf walk.turnsOf words.isHeld judge.isEntry words.isAtom judge.bondStands judge.atomsFrom judge.bondsFrom judge.afterAtoms judge.badRecord write.walkIn write.saidIn write.refusalOf write.atomRoom write.bondRoom write.putLine write.concluded write.graphWritten write.writeOf line.wholeOf line.graphOf line.lineOf ofRead ofWritten writtenAs rewriteOf numberGiven poolGiven callsFrom answerOf
 rows-said = refl

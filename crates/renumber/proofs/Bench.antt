@@ -5,14 +5,14 @@ use mathlib.Core.List.{List, [], _∷_, _++_}
 use native.Mathlib.Omega.{arith}
 use lib.ListN.{replicate}
 use Rattle.feature.specs.Kinds.{bracket, bracketInRange, inRange, invertBracket, invertOf}
-use Rattle.feature.specs.Bonds.{codeOf, kindOf, reverseOf}
+use Rattle.feature.specs.Bonds.{codeOf, kindOf, sureKind, reverseOf}
 use Rattle.feature.specs.declared.atom_kind.AtomKind.{AtomKind}
 use Rattle.feature.specs.declared.atom_kind.AtomKind.the-variants.{Aliphatic, Bracket}
 use Rattle.feature.specs.declared.bond_kind.BondKind.the-variants.{Single, Up, Down}
 use Rattle.record.specs.Words as words
 use Rattle.pool.specs.Pairs as pool
 use Rattle.sketch.specs.Sketch.{To, Node, edge, node, startS, runS}
-use Rattle.ways.specs.Graph.{Graph, graph, kindAt, degreeAt, bondOf, kindOr, bondOr, kindIn, degreeIn, bondIn}
+use Rattle.ways.specs.Graph.{Graph, graph, kindAt, degreeAt, bondOf, kindOr, kindIn, degreeIn, bondIn}
 use Rattle.ways.specs.Ways.{isRefused, isFixed, turnedOr, even, saidAs, scanIn, judgedBack, wayOf}
 use Rattle.walk.specs.Walk.{Walk, popsOf, rootOf, leftIn, numberedOf, ringOf, enteredOf, enterOf, bondTurn, entryOf, atomOf, turnOf, stepOf, walkTo, eventsOf, turnsOf}
 use Rattle.write.specs.Write.{pairWords}
@@ -38,12 +38,12 @@ abbrev walked : Walk
 walked = walkTo ring (turnsOf 3 6) (fresh 3 3 3 3 (replicate pairWords 0))
 
 not-refused : walked .at .refusal ≡ 0
-unfolding words.listOf words.wordsOf words.pairOf words.bracketPair words.loadAt words.loadOf words.plainOf words.bracketOf words.bondAt words.bondOf words.entryOf kindOf codeOf reverseOf bracketInRange inRange invertBracket invertOf pool.opens pool.numberOf pool.slot pool.grown pool.counterOf pool.nextOf pool.openOf pool.closeOf pool.calledOf pool.pairOf pool.hitOf kindOr bondOr kindIn degreeIn bondIn isRefused isFixed turnedOr even saidAs scanIn judgedBack wayOf popsOf rootOf leftIn numberedOf ringOf enteredOf enterOf bondTurn entryOf atomOf turnOf stepOf walkTo turnsOf
+unfolding words.listOf words.wordsOf words.pairOf words.bracketPair words.loadAt words.loadOf words.plainOf words.bracketOf words.bondAt words.bondOf words.entryOf kindOf codeOf reverseOf bracketInRange inRange invertBracket invertOf pool.opens pool.numberOf pool.slot pool.grown pool.counterOf pool.nextOf pool.openOf pool.closeOf pool.calledOf pool.pairOf pool.hitOf kindOr sureKind kindIn degreeIn bondIn isRefused isFixed turnedOr even saidAs scanIn judgedBack wayOf popsOf rootOf leftIn numberedOf ringOf enteredOf enterOf bondTurn entryOf atomOf turnOf stepOf walkTo turnsOf
 not-refused = refl
 
 -- atom 1 comes back with its mark toggled and its bond to atom 0 first
 ring-renumbered : renumbered ring walked ≡ node carbon (edge Single (To 1) ∷ edge Up (To 2) ∷ []) ∷ node (marked 2) (edge Single (To 0) ∷ edge Single (To 2) ∷ []) ∷ node carbon (edge Single (To 1) ∷ edge Down (To 0) ∷ []) ∷ []
-unfolding words.listOf words.wordsOf words.pairOf words.bracketPair words.loadAt words.loadOf words.plainOf words.bracketOf words.bondAt words.bondOf words.entryOf kindOf codeOf reverseOf bracketInRange inRange invertBracket invertOf pool.opens pool.numberOf pool.slot pool.grown pool.counterOf pool.nextOf pool.openOf pool.closeOf pool.calledOf pool.pairOf pool.hitOf kindOr bondOr kindIn degreeIn bondIn isRefused isFixed turnedOr even saidAs scanIn judgedBack wayOf popsOf rootOf leftIn numberedOf ringOf enteredOf enterOf bondTurn entryOf atomOf turnOf stepOf walkTo turnsOf othersOf parentEntry doneOf reread edgeOf nodeOf orderOf renumbered
+unfolding words.listOf words.wordsOf words.pairOf words.bracketPair words.loadAt words.loadOf words.plainOf words.bracketOf words.bondAt words.bondOf words.entryOf kindOf codeOf reverseOf bracketInRange inRange invertBracket invertOf pool.opens pool.numberOf pool.slot pool.grown pool.counterOf pool.nextOf pool.openOf pool.closeOf pool.calledOf pool.pairOf pool.hitOf kindOr sureKind kindIn degreeIn bondIn isRefused isFixed turnedOr even saidAs scanIn judgedBack wayOf popsOf rootOf leftIn numberedOf ringOf enteredOf enterOf bondTurn entryOf atomOf turnOf stepOf walkTo turnsOf othersOf parentEntry doneOf reread edgeOf nodeOf orderOf renumbered
 ring-renumbered = refl
 
 -- ---- the hypotheses
@@ -65,7 +65,7 @@ each-entry P p q r s t u a i ha =
     below-three (λ (a : ℕ). i < degreeAt ring a → P a i) (below-two (P 0) p q i) (below-two (P 1) r s i) (below-two (P 2) t u i) a ha
 
 ring-simple : Simple ring
-unfolding words.listOf words.wordsOf words.pairOf words.bracketPair words.bondAt words.bondOf words.entryOf kindOf reverseOf bondOr bondIn degreeIn
+unfolding words.listOf words.wordsOf words.pairOf words.bracketPair words.bondAt words.bondOf words.entryOf kindOf reverseOf sureKind bondIn degreeIn
 ring-simple = record {
   some = omega arith;
   known = each-entry (λ (a i : ℕ). bondOf ring a i .to < 3) (omega arith) (omega arith) (omega arith) (omega arith) (omega arith) (omega arith);

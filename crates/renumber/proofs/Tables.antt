@@ -9,20 +9,22 @@ use lib.ListN.{length, getD, replicate, length-map, length-replicate}
 use lib.Seq.{getD-append-add, getD-set-same, getD-set-other}
 use Rattle.feature.specs.Pick.{both}
 use Rattle.feature.specs.Kinds.{inRange, marked}
-use Rattle.feature.specs.Bonds.{codeOf}
+use Rattle.feature.specs.Bonds.{codeOf, kindOf, sureKind}
 use Rattle.feature.specs.declared.atom_kind.AtomKind.{AtomKind}
 use Rattle.feature.specs.declared.atom_kind.AtomKind.the-variants.{Star, Aliphatic, Aromatic, Bracket}
+use Rattle.feature.specs.declared.bond_kind.BondKind.{BondKind}
 use Rattle.feature.specs.declared.bond_kind.BondKind.the-variants.{Elided}
 use Rattle.feature.proofs.Ranges.{good, ranged}
 use Rattle.record.specs.declared.Loaded.{Loaded}
 use Rattle.record.specs.declared.Loaded.the-variants as loaded
 use Rattle.record.specs.Words as words
-use Rattle.record.proofs.Laws.{load-words, only, bond-words}
+use Rattle.record.proofs.Laws.{load-words, only}
+use Rattle.sketch.proofs.Twins.{sure-code}
 use Rattle.graph.specs.Limits.{atomLimit}
 use Rattle.build.specs.Build as build
 use Rattle.build.proofs.Degrees.{startsOf-length}
 use Rattle.sketch.specs.Sketch.{To, Edge, Node, edge, node, countOf, atomTable, targetOf, edgeTable, bondTable, padded}
-use Rattle.ways.specs.Graph.{Bond, Graph, kindAt, degreeAt, bondOf, bond, kindOr, bondOr, kindIn, degreeIn, bondIn}
+use Rattle.ways.specs.Graph.{Bond, Graph, kindAt, degreeAt, bondOf, bond, entryAt, kindOr, kindIn, degreeIn, bondIn}
 use Rattle.walk.specs.Walk.{Walk}
 use Rattle.write.specs.Write.{zeros, graphOf}
 use Rattle.trek.specs.Trek.{degrees}
@@ -202,7 +204,7 @@ module _ (g : Graph) (w : Walk) (N : Numbering g w) (T : (a : ℕ) → a < g .si
 
   entry-at : (v i : ℕ) → v < g .size → i < degreeAt g (getD (w .walked) v 0)
       → bondOf h v i ≡ numberedAs (w .met) (getD (entriesOf g (getD (w .walked) v 0) (getD (w .back) (getD (w .walked) v 0) 0)) i (bond Elided 0))
-  unfolding bondIn words.bondAt padded edgeOf numberedAs targetOf bondOr
+  unfolding bondIn padded edgeOf numberedAs targetOf
   entry-at v i q k =
       let a : ℕ = getD (w .walked) v 0 in
       let es : List Bond = entriesOf g a (getD (w .back) a 0) in
@@ -215,9 +217,9 @@ module _ (g : Graph) (w : Walk) (N : Numbering g w) (T : (a : ℕ) → a < g .si
       let s : getD (h .first) v 0 ≡ before (renumbered g w) v =
       starts-are (g .size) (padded la (atomTable (renumbered g w))) (zeros atomLimit) v (rw (length-replicate {A = ℕ} atomLimit 0) limit) q
       ∙ sum-is (renumbered g w) (replicate (la - length (atomTable (renumbered g w))) 0) v (omega (arith, in-nodes v q)) (omega arith) in
-      ap (λ (y : ℕ). bondOr (words.bondAt (padded lb (bondTable (renumbered g w))) ((y + i) * 2))) s
-      ∙ ap₂ (λ (y z : ℕ). bondOr (words.bondOf y z)) (r .0 ∙ ap (λ (y : Edge). codeOf (y .kind)) e) (r .1 ∙ ap (λ (y : Edge). targetOf (y .target)) e)
-      ∙ ap bondOr (bond-words (x .kind) (getD (w .met) (x .to) 0 - 1))
+      ap (λ (y : ℕ). entryAt (padded lb (bondTable (renumbered g w))) ((y + i) * 2)) s
+      ∙ ap₂ (λ (y z : ℕ). bond (sureKind (kindOf y)) z) (r .0 ∙ ap (λ (y : Edge). codeOf (y .kind)) e) (r .1 ∙ ap (λ (y : Edge). targetOf (y .target)) e)
+      ∙ ap (λ (k : BondKind). bond k (getD (w .met) (x .to) 0 - 1)) (sure-code (x .kind))
 
   pub tables-renumber : Renumbers g h w
   tables-renumber = record { size = refl; kind = kind-at; degree = degree-at; entry = entry-at }

@@ -18,8 +18,8 @@ use Rattle.ways.specs.declared.entry.Back.{Back}
 use Rattle.ways.specs.declared.entry.Back.the-variants.{Found, Twice, Fixed}
 use Rattle.ways.specs.declared.entry.Way.{Way}
 use Rattle.ways.specs.declared.entry.Way.the-variants.{Enters, Refuses}
-use Rattle.ways.specs.Graph.{Bond, Graph, bondIn, bondOf, bondOr, kindAt, degreeAt}
-use Rattle.record.specs.Words.{bondAt, bondWords}
+use Rattle.ways.specs.Graph.{Bond, Graph, entryAt, bondIn, bondOf, kindAt, degreeAt}
+use Rattle.record.specs.Words.{bondWords}
 use Rattle.ways.specs.Ways.{saidAs, scanIn, scanOf, judgedBack, wayOf}
 use Rattle.walk.specs.declared.walker.Walker.{Walker}
 use Rattle.walk.specs.Walk.{Walk, Turn, turn, quiet, passed, moved, metAt, tookAt, popsThen, leftIn, rootOf, leaveOf, numberedOf, ringOf, enteredOf, enterOf, bondTurn, entryOf, atomOf, turnOf, stepOf, walkTo, eventsOf}
@@ -51,7 +51,7 @@ set-longer j (x ∷ l) (suc i) v h = ap (λ (r : List ℕ). x ∷ r) (set-longer
 -- ---- the entries of an atom
 bond-longer : (j : ℕ) (bonds first : List ℕ) (a i : ℕ) → bondIn bonds (longer j first) a i ≡ bondIn bonds first a i
 unfolding bondIn
-bond-longer j bonds first a i = ap (λ (x : ℕ). bondOr (bondAt bonds ((x + i) * bondWords))) (getD-longer j first a)
+bond-longer j bonds first a i = ap (λ (x : ℕ). entryAt bonds ((x + i) * bondWords)) (getD-longer j first a)
 
 scan-longer : (j : ℕ) (bonds first : List ℕ) (t s : ℕ) (fixed : Bool) (n back : ℕ) → scanIn bonds (longer j first) t s fixed n back ≡ scanIn bonds first t s fixed n back
 unfolding scanIn

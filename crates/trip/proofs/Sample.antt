@@ -7,7 +7,7 @@ use native.Mathlib.Omega.{arith}
 use Rattle.feature.specs.Text.{bytes}
 use Rattle.feature.specs.Names.{names, placeOf}
 use Rattle.feature.specs.Kinds.{bracket, bracketInRange, inRange, invertBracket, invertOf}
-use Rattle.feature.specs.Bonds.{codeOf, kindOf, reverseOf}
+use Rattle.feature.specs.Bonds.{codeOf, kindOf, sureKind, reverseOf}
 use Rattle.feature.specs.declared.atom_kind.AtomKind.{AtomKind}
 use Rattle.feature.specs.declared.atom_kind.AtomKind.the-variants.{Aliphatic, Bracket}
 use Rattle.record.specs.Words as words
@@ -20,7 +20,7 @@ use Rattle.build.specs.Build.{startsOf, sumOf}
 use Rattle.read.specs.declared.Answer.the-variants as answer
 use Rattle.read.specs.Line as read
 use Rattle.writer.specs.Line as writer
-use Rattle.ways.specs.Graph.{Graph, kindAt, degreeAt, bondOf, kindOr, bondOr, kindIn, degreeIn, bondIn}
+use Rattle.ways.specs.Graph.{Graph, kindAt, degreeAt, bondOf, kindOr, kindIn, degreeIn, bondIn}
 use Rattle.ways.specs.Ways.{isRefused, isFixed, turnedOr, even, saidAs, scanIn, judgedBack, wayOf}
 use Rattle.walk.specs.Walk.{popsOf, rootOf, leftIn, numberedOf, ringOf, enteredOf, enterOf, bondTurn, entryOf, atomOf, turnOf, stepOf, walkTo, eventsOf, turnsOf}
 use Rattle.judge.specs.Judge.{isEntry, bondStands, atomsFrom, bondsFrom, afterAtoms, badRecord}
@@ -53,7 +53,7 @@ abbrev line : List ℕ
 line = bytes "C-[C@H]-C"
 
 written : writeOf 12 atoms 3 bonds 4 ≡ left (Done 9) (line ++ (0 ∷ 0 ∷ 0 ∷ []))
-unfolding words.listOf words.wordsOf words.pairOf words.bracketPair words.loadAt words.loadOf words.plainOf words.bracketOf words.bondAt words.bondOf words.entryOf kindOf codeOf reverseOf bracketInRange inRange invertBracket invertOf kindOr bondOr kindIn degreeIn bondIn isRefused isFixed turnedOr even saidAs scanIn judgedBack wayOf popsOf rootOf leftIn numberedOf ringOf enteredOf enterOf bondTurn entryOf atomOf turnOf stepOf walkTo eventsOf turnsOf words.isHeld isEntry words.isAtom bondStands atomsFrom bondsFrom afterAtoms badRecord startsOf sumOf lesserOf walkIn saidIn atomRoom bondRoom putLine concluded graphWritten writeOf writer.lineOf writer.dotText writer.addPiece writer.onLast writer.wrapped writer.popPieces writer.writeEvent writer.writeEvents spell.atomText spell.kindText spell.nameText spell.symbolText spell.organic spell.bracketText spell.numberText spell.configurationText spell.hydrogensText spell.chargeText spell.mapText spell.bondText spell.digits names
+unfolding words.listOf words.wordsOf words.pairOf words.bracketPair words.loadAt words.loadOf words.plainOf words.bracketOf words.bondAt words.bondOf words.entryOf kindOf codeOf reverseOf bracketInRange inRange invertBracket invertOf kindOr sureKind kindIn degreeIn bondIn isRefused isFixed turnedOr even saidAs scanIn judgedBack wayOf popsOf rootOf leftIn numberedOf ringOf enteredOf enterOf bondTurn entryOf atomOf turnOf stepOf walkTo eventsOf turnsOf words.isHeld isEntry words.isAtom bondStands atomsFrom bondsFrom afterAtoms badRecord startsOf sumOf lesserOf walkIn saidIn atomRoom bondRoom putLine concluded graphWritten writeOf writer.lineOf writer.dotText writer.addPiece writer.onLast writer.wrapped writer.popPieces writer.writeEvent writer.writeEvents spell.atomText spell.kindText spell.nameText spell.symbolText spell.organic spell.bracketText spell.numberText spell.configurationText spell.hydrogensText spell.chargeText spell.mapText spell.bondText spell.digits names
 written = refl
 
 -- ---- what is asked
@@ -82,7 +82,7 @@ each-entry P p q r s a i ha =
     below-three (λ (a : ℕ). i < degreeAt chain a → P a i) (below-one (P 0) p i) (below-two (P 1) q r i) (below-one (P 2) s i) a ha
 
 chain-simple : Simple chain
-unfolding words.listOf words.wordsOf words.pairOf words.bracketPair words.bondAt words.bondOf words.entryOf kindOf reverseOf bondOr bondIn degreeIn inRange bracketInRange startsOf sumOf
+unfolding words.listOf words.wordsOf words.pairOf words.bracketPair words.bondAt words.bondOf words.entryOf kindOf reverseOf sureKind bondIn degreeIn inRange bracketInRange startsOf sumOf
 chain-simple = record {
   some = omega arith;
   known = each-entry (λ (a i : ℕ). bondOf chain a i .to < 3) (omega arith) (omega arith) (omega arith) (omega arith);
@@ -125,7 +125,7 @@ chain-done : read.lineOf line 9 8 .answer ≡ answer.Done 3 4
 chain-done = chain-back .done
 
 chain-mark : kindAt (graphOf 3 (read.lineOf line 9 8 .atoms) (read.lineOf line 9 8 .bonds)) 1 ≡ marked 2
-unfolding words.listOf words.wordsOf words.pairOf words.bracketPair words.loadAt words.loadOf words.plainOf words.bracketOf words.bondAt words.bondOf words.entryOf kindOf codeOf reverseOf bracketInRange inRange invertBracket invertOf kindOr bondOr kindIn degreeIn bondIn isRefused isFixed turnedOr even saidAs scanIn judgedBack wayOf popsOf rootOf leftIn numberedOf ringOf enteredOf enterOf bondTurn entryOf atomOf turnOf stepOf walkTo eventsOf turnsOf startsOf sumOf walkIn backKind bearsHydrogen otherMark toggled oddIndex
+unfolding words.listOf words.wordsOf words.pairOf words.bracketPair words.loadAt words.loadOf words.plainOf words.bracketOf words.bondAt words.bondOf words.entryOf kindOf codeOf reverseOf bracketInRange inRange invertBracket invertOf kindOr sureKind kindIn degreeIn bondIn isRefused isFixed turnedOr even saidAs scanIn judgedBack wayOf popsOf rootOf leftIn numberedOf ringOf enteredOf enterOf bondTurn entryOf atomOf turnOf stepOf walkTo eventsOf turnsOf startsOf sumOf walkIn backKind bearsHydrogen otherMark toggled oddIndex
 chain-mark = chain-back .same .kinds 1 (omega arith) ∙ refl
 
 -- and the same by a walk order into tables of 3, 5 and 4 words

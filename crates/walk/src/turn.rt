@@ -23,7 +23,6 @@ use ways::entry::said_as;
 use ways::table::degree_at;
 use ways::table::entry_at;
 use ways::table::kind_at;
-use ways::table::sure_target;
 use ways::table::target_at;
 use writer::Writer;
 use writer::say::say_extend;
@@ -268,9 +267,8 @@ fn take_atom(
         return Turned { walker: z, line };
     }
     let e = entry_at(first, a, i);
-    let code = look(bonds, e);
-    let k = sure_kind(code);
-    let t = sure_target(bonds, e, code);
+    let k = sure_kind(look(bonds, e));
+    let t = look(bonds, e + 1);
     take_bond(
         size,
         atoms,

@@ -1,17 +1,15 @@
 -- The graph that tables of words hold, as a walk asks for it. Words that stand for no atom or bond were refused before (17);
--- for the definitions to be whole they are read as a star, and as an elided bond to atom 0.
+-- for the definitions to be whole they are read as a star, and as an elided bond.
 use Prim.Native.Nat.{ℕ, _+_, _*_}
 use mathlib.Core.List.{List}
 use lib.ListN.{getD}
+use Rattle.feature.specs.Bonds.{kindOf, sureKind}
 use Rattle.feature.specs.declared.atom_kind.AtomKind.{AtomKind}
 use Rattle.feature.specs.declared.atom_kind.AtomKind.the-variants.{Star}
 use Rattle.feature.specs.declared.bond_kind.BondKind.{BondKind}
-use Rattle.feature.specs.declared.bond_kind.BondKind.the-variants.{Elided}
 use Rattle.record.specs.declared.Loaded.{Loaded}
 use Rattle.record.specs.declared.Loaded.the-variants as loaded
-use Rattle.record.specs.declared.Entry.{Entry}
-use Rattle.record.specs.declared.Entry.the-variants as entry
-use Rattle.record.specs.Words.{atomWords, bondWords, loadAt, bondAt}
+use Rattle.record.specs.Words.{atomWords, bondWords, loadAt}
 
 -- a bond entry: its kind and its target
 pub record Bond : Type 0 where
@@ -35,9 +33,9 @@ unfoldable pub kindOr : Loaded → AtomKind
 kindOr (loaded.Held k) = k
 kindOr loaded.Bad = Star
 
-unfoldable pub bondOr : Entry → Bond
-bondOr (entry.Bond k t) = bond k t
-bondOr entry.Bad = bond Elided 0
+-- the entry whose first word stands at a place
+abbrev pub entryAt : List ℕ → ℕ → Bond
+entryAt bonds e = bond (sureKind (kindOf (getD bonds e 0))) (getD bonds (e + 1) 0)
 
 -- the kind of atom a
 unfoldable pub kindIn : List ℕ → ℕ → AtomKind
@@ -55,7 +53,7 @@ degreeAt g a = degreeIn (g .atoms) a
 
 -- the entry i of atom a
 unfoldable pub bondIn : List ℕ → List ℕ → ℕ → ℕ → Bond
-bondIn bonds first a i = bondOr (bondAt bonds ((getD first a 0 + i) * bondWords))
+bondIn bonds first a i = entryAt bonds ((getD first a 0 + i) * bondWords)
 
 abbrev pub bondOf : Graph → ℕ → ℕ → Bond
 bondOf g a i = bondIn (g .bonds) (g .first) a i

@@ -1,16 +1,14 @@
 // Atoms and bonds as a walk asks for them. Words that stand for none were refused before; here they are a star, and an
-// elided bond to atom 0, so that no call asks what the tables hold.
+// elided bond, so that no call asks what the tables hold.
 ghost use mathlib.Core.Path.{_≡_};
 ghost use Prim.Native.Nat.{_+_, _*_, _^_, _<_};
 ghost use lib.ListN.{getD};
-ghost use Rattle.record.specs.Words.{bondWords, bondOf};
+ghost use Rattle.record.specs.Words.{bondWords};
 ghost use Rattle.feature.specs.Bonds.{same};
-ghost use Rattle.ways.specs.Graph.{kindIn, degreeIn, bondOr, bondIn};
+ghost use Rattle.ways.specs.Graph.{kindIn, degreeIn, bondIn};
 use feature::atom_kind::AtomKind;
 use feature::bond_kind::BondKind;
-use feature::bond_kind::Coded;
 use feature::bond_kind::code;
-use feature::bond_kind::decode;
 use feature::bond_kind::sure_kind;
 use record::ATOM_WORDS;
 use record::BOND_WORDS;
@@ -42,17 +40,6 @@ pub fn entry_at(first: &[u32], a: u32, i: u32) -> usize
     (look(first, a as usize) as usize + i as usize) * BOND_WORDS
 }
 
-// The target of the entry that stands at a place, by the number of its kind.
-pub fn sure_target(bonds: &[u32], at: usize, code: u32) -> u32
-    requires { ⌜ at < 2 ^ 34 ⌝ }
-    ensures { λ r. ⌜ r ≡ bondOr (bondOf code (getD (now (bonds .entry)) (at + 1) 0)) .to ⌝ }
-{
-    match decode(code) {
-        Coded::Kind(_) => look(bonds, at + 1),
-        Coded::Bad => 0,
-    }
-}
-
 // The kind of the entry i of an atom, and its target: most of a walk asks for one of them.
 pub fn bond_kind_at(bonds: &[u32], first: &[u32], a: u32, i: u32) -> BondKind
     ensures { λ r. ⌜ r ≡ bondIn (now (bonds .entry)) (now (first .entry)) a i .kind ⌝ }
@@ -63,8 +50,7 @@ pub fn bond_kind_at(bonds: &[u32], first: &[u32], a: u32, i: u32) -> BondKind
 pub fn target_at(bonds: &[u32], first: &[u32], a: u32, i: u32) -> u32
     ensures { λ r. ⌜ r ≡ bondIn (now (bonds .entry)) (now (first .entry)) a i .to ⌝ }
 {
-    let at = entry_at(first, a, i);
-    sure_target(bonds, at, look(bonds, at))
+    look(bonds, entry_at(first, a, i) + 1)
 }
 
 pub fn same_kind(j: BondKind, k: BondKind) -> bool

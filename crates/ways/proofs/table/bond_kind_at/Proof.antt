@@ -14,7 +14,7 @@ sure-kind-requires : tie.Need-sure-kind-requires
 sure-kind-requires c κs = search needs
 
 returns : tie.Need-returns
-returns c = kind-told _ _ _ _ _ _ (c .before .before .entry-at .ensures .0) (c .before .look .ensures) _ (c .sure-kind .ensures)
+returns c = kind-told _ _ _ _ _ (c .before .before .entry-at .ensures .0) _ _ (c .before .look .ensures) (c .sure-kind .ensures)
 
 pub bond-kind-at-spec : {M : Type 1} → statement M
 bond-kind-at-spec = tie.close (tie.spec entry-at-requires look-requires sure-kind-requires returns)
