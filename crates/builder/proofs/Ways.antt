@@ -9,7 +9,7 @@ use Rattle.feature.specs.Pick.{pick}
 use Rattle.graph.specs.State.{Bld, bld, refusedSt, refuse, Small}
 use Rattle.graph.specs.declared.builder.Builder.{Builder}
 use Rattle.builder.specs.Events.{badTable, anew, judged}
-use Rattle.standing.specs.Standing.{also, countsStand, isState}
+use Rattle.standing.specs.Standing.{countsStand, isState}
 use Rattle.standing.proofs.Counts.{Counts, first, counts, small}
 
 -- a number handed in stands for nothing

@@ -16,7 +16,7 @@ bondLimit = 2304
 abbrev pub branchLimit : ℕ
 branchLimit = 128
 
--- so many atoms are few: a line or a graph with no more gets work room for so many
+-- so many atoms are few: tables with room for no more are read into, and a graph of no more is written, with little work room
 abbrev pub fewAtoms : ℕ
 fewAtoms = 128
 

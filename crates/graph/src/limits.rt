@@ -15,7 +15,7 @@ pub const BONDS: usize = 2304;
 
 pub const BRANCHES: usize = 128;
 
-// So many atoms are few: a line or a graph with no more gets work room for so many.
+// So many atoms are few: tables with room for no more are read into, and a graph of no more is written, with little work room.
 pub const FEW_ATOMS: usize = 128;
 
 pub fn lesser(limit: usize, lent: usize) -> usize

@@ -141,7 +141,7 @@ fn read_within(
     built(r, b)
 }
 
-// The bond entries of a line whose tables have room for few atoms and bond entries, and so the line's graph no more.
+// So many bond entries are few. A line's graph has no more atoms and entries than its tables have room for.
 const FEW_BONDS: usize = 256;
 
 fn read_few(text: &[u8], atoms: &mut [u32], bonds: &mut [u32]) -> Answer

@@ -18,14 +18,14 @@ use Rattle.scan.specs.declared.scanner.Found.the-variants.{Atom, Nothing, Lacks
 use Rattle.scan.specs.declared.scanner.Missing.{Missing}
 use Rattle.scan.specs.declared.read_rnum.Ring.{Ring}
 use Rattle.scan.specs.declared.read_rnum.Ring.the-variants as ring
-use Rattle.scan.proofs.Within.{byte-in, not-ended, ring-in, bond-in, atom-in}
+use Rattle.scan.proofs.Within.{byte-in, ring-in, bond-in, atom-in}
 use Rattle.graph.specs.declared.builder.Builder.{Builder}
 use Rattle.graph.specs.Limits.{textLimit}
-use Rattle.graph.specs.State.{Bld, bld, refusedSt, poppedSt, popOf}
+use Rattle.graph.specs.State.{Bld, refusedSt, poppedSt, popOf}
 use Rattle.reader.specs.declared.lead.Lead.{Lead}
 use Rattle.reader.specs.declared.lead.Lead.the-variants.{Dot, Bond}
 use Rattle.reader.specs.declared.lead.Led.{Led}
-use Rattle.reader.specs.Events.{Event, Enter, Join, Pop, Miss, Nest, on, nesting, enterOf, ringOf, missingSt, step, run}
+use Rattle.reader.specs.Events.{Event, Pop, Miss, Nest, on, nesting, enterOf, ringOf, missingSt, step, run}
 use Rattle.reader.specs.Parse.{Rest, ledAt, oneOf, bodyOf, bodyAt, missP, foundP, atomP, ringP, unionBy, unionP, unitBy, unitP, lineP, closeP, branchP, bodies}
 use Rattle.reader.specs.Post.{came, cameMissing, cameClosed, Counted, Ready, Moved, AtomRead, RingRead, UnionRead, UnitRead, RestRead, LineRead, BranchRead}
 use Rattle.reader.proofs.Counts.{counted-more, enter-at, ring-at, pop-at, refused-at, missing-at, missing-not}

@@ -68,8 +68,7 @@ pub record UnitRead (s : List ℕ) (at n : ℕ) (b b′ : Bld) (at′ n′ : ℕ
   pub moved : Moved s at (b′ .st) at′
   pub count : n′ ≤ at′
 
--- `f` is any number that is large enough to count the bodies: what is left of a line after its first atoms, whose bodies may
--- be none
+-- what is left of a line after some of it: bodies, or none. Here and below `f` is any number that is large enough to count them
 pub record RestRead (s : List ℕ) (room : ℕ) (b : Bld) (at n : ℕ) (b′ : Bld) (at′ n′ : ℕ) : Type 0 where
   pub same : (f : ℕ) (k : Rest) → length s < at + f → run b (bodies f s room at n k) ≡ run b′ (k at′ n′)
   pub within : at′ ≤ length s

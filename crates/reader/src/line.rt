@@ -160,7 +160,7 @@ fn line_unit(
     }
 }
 
-// The end of a branch whose line has n atoms: ")" stands there, and they are left.
+// The end of a branch whose line has n atoms, which are left where ")" stands. Anything else is missing it.
 fn leave_branch(text: &[u8], at: usize, n: usize, b: Builder) -> Came
     requires { ⌜ (at ≤ length (now text)) × (length (now text) ≤ textLimit) ⌝ }
     ensures { λ r. ⌜ r ≡ cameClosed (now (text .entry)) at n b ⌝ }
@@ -177,8 +177,8 @@ fn leave_branch(text: &[u8], at: usize, n: usize, b: Builder) -> Came
     stopped(text, at, 0, b)
 }
 
-// A branch, whose "(" stands at `at`. `room` is how many more may stand open. Most hold an atom alone, and those are done
-// without a call of the rest of a line, which calls this function in turn.
+// A branch, whose "(" stands at `at`. `room` is how many more may stand open. One that holds an atom alone is
+// done without a call of the rest of a line, which calls this function in turn.
 fn read_branch(
     text: &[u8],
     at: usize,

@@ -14,7 +14,7 @@ use Rattle.feature.specs.declared.bond_kind.BondKind.the-variants.{Elided, Sing
 use Rattle.graph.specs.State.{unclosed}
 use Rattle.feature.specs.Every.{every}
 use Rattle.feature.proofs.Every.{every-at}
-use Rattle.standing.specs.Standing.{also, sourceAt, kindAt, targetAt, isBond, bondsFrom, turnedOf, isPaired}
+use Rattle.standing.specs.Standing.{sourceAt, kindAt, targetAt, isBond, bondsFrom, turnedOf, isPaired}
 use Rattle.standing.proofs.Counts.{first, second}
 
 -- ---- one turn of the count
