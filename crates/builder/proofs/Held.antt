@@ -1,6 +1,6 @@
 -- What a build that is done leaves: each atom's bonds in its place, and each bond held at both ends as reverses. Assumes
 -- nothing.
-use Prim.Native.Nat.{ℕ, zero, suc, _+_, _*_, _-_, _<_, _≤_, _^_}
+use Prim.Native.Nat.{ℕ, zero, suc, _+_, _*_, _-_, _%_, _<_, _≤_, _^_}
 use mathlib.Core.Path.{_≡_, refl, sym, ap, _∙_, subst}
 use mathlib.Core.List.{List, [], _∷_, _++_}
 use mathlib.Core.Bool.{Bool, true, false}
@@ -22,7 +22,7 @@ use Rattle.standing.specs.Standing.{also, sourceAt, kindAt, targetAt, isEntry, 
 use Rattle.builder.specs.Build.{Left, leftBy, calledOf, leftOf, trimmed, roomy, buildD, heldOf, BothEnds, graphOf}
 use Rattle.standing.proofs.Counts.{Counts, first, second, counts}
 use Rattle.feature.proofs.Every.{every-at}
-use Rattle.standing.proofs.Ends.{both-ends}
+use Rattle.standing.proofs.Ends.{both-ends, even-ends}
 
 -- ---- entries after the first
 -- the words of three are passed
@@ -120,11 +120,16 @@ source-at b f i l =
 
 -- the entries that a state tells of hold each bond at both ends
 told-ends : (b : Bld) → Facts b → BothEnds (toldOf (b .st) (b .entries))
-told-ends b f a t k ha ht =
+told-ends b f =
     let room : b .st .entries * entryWords ≤ length (b .entries) = omega (arith, f .counts .entries, f .counts .entry-room) in
-    held-is a (codeOf k) t (b .st .entries) (b .entries) room
-    ∙ both-ends (b .entries) (b .st .entries) (f .pairs) a t k ha ht
-    ∙ sym (held-is t (codeOf (reverseOf k)) a (b .st .entries) (b .entries) room)
+    record {
+      ends = λ a t k ha ht.
+          held-is a (codeOf k) t (b .st .entries) (b .entries) room
+          ∙ both-ends (b .entries) (b .st .entries) (f .pairs) a t k ha ht
+          ∙ sym (held-is t (codeOf (reverseOf k)) a (b .st .entries) (b .entries) room);
+      even = λ a k h own.
+          ap (λ (n : ℕ). n % 2) (held-is a (codeOf k) a (b .st .entries) (b .entries) room) ∙ even-ends (b .entries) (b .st .entries) (f .pairs) a k h own;
+    }
 
 -- what the passes start from
 abbrev startOf : Bld → List ℕ → Tables

@@ -4,3 +4,4 @@ pub mod Builds
 pub mod Held
 pub mod Answers
 pub mod Bench
+pub mod Again

@@ -82,7 +82,7 @@ want-kept (after k c (bond x)) b =
     guardOn P (digitOf b) _ _ (λ d e. (λ h. h, λ z h. h, inr (λ h. h))) (guard P b (byte "%") _ _ (λ e. (λ h. h, λ z h. h, inr (λ h. h))) (start-kept b (after k c (bond x)) (begins b)))
 
 -- an atom is no branch
-put-fit : (w : Where) (a : Atom) → FitW w → FitA (around w) × Fits (roomOf (around w)) (put w a)
+pub put-fit : (w : Where) (a : Atom) → FitW w → FitA (around w) × Fits (roomOf (around w)) (put w a)
 unfolding FitW around put Fits
 put-fit (begin k) a h = (h, tt)
 put-fit (after k c l) a h = h

@@ -30,11 +30,11 @@ use Rattle.grammar.specs.OpenSmiles.{Chain, chainS, says}
 use Rattle.grammar.specs.Molecule.{Molecule, moleculeIn, placed, agreed, closed, ringed, numbered, turnedOr, asHeld, told, next, tellAll, moleculeOf, Limited, no-place, no-slot, not-turned, Alike, alike, disagree, missing, limited}
 
 -- ---- the two ends of a ring bond
-ends : Option BondKind → Reconciled
+unfoldable pub ends : Option BondKind → Reconciled
 ends none = Fails
 ends (some k) = Both k (reverseOf k)
 
-reconciled : (k l : BondKind) → reconcileOf k l ≡ ends (agreed k l)
+pub reconciled : (k l : BondKind) → reconcileOf k l ≡ ends (agreed k l)
 unfolding reconcileOf agreed ends codeOf reverseOf isDirectional
 reconciled Elided Elided = refl
 reconciled Elided Single = refl

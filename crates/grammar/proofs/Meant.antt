@@ -4,7 +4,6 @@ use Prim.Native.Nat.{ℕ, zero, suc, _+_}
 use mathlib.Core.Path.{_≡_, refl, sym, ap, _∙_, subst}
 use mathlib.Core.List.{List, [], _∷_, _++_, append-assoc, append-nil}
 use mathlib.Core.Option.{Option, none, some}
-use mathlib.Core.Logic.{_⊎_, inl, inr}
 use native.Mathlib.Omega.{arith}
 use lib.ListN.{length}
 use Rattle.feature.specs.declared.atom_kind.AtomKind.{AtomKind}
@@ -17,7 +16,7 @@ use Rattle.graph.specs.Limits.{branchLimit}
 use Rattle.build.specs.declared.Built.the-variants as built
 use Rattle.sketch.specs.Sketch.{Edge, Node, Held, Failure, None, Failed, Sketch, node, upd, edgesAt, addEdge, fill, lookup, firstOpenS, ringsSay, saysS, finishS, sketchOf}
 use Rattle.grammar.specs.OpenSmiles.{Chain, chainS, says, Small, FitsChain, Strict}
-use Rattle.grammar.specs.Molecule.{Molecule, molecule, moleculeIn, placed, closed, ringed, numbered, asWritten, asHeld, told, next, tellAll, moleculeOf, neighbours, kinds, kindTold, kindsTold, Allowed, Meant, ReadAs, HeldFor, Limited, Alike, alike, disagree, missing, limited}
+use Rattle.grammar.specs.Molecule.{Molecule, molecule, moleculeIn, placed, closed, ringed, numbered, asWritten, asHeld, told, next, tellAll, moleculeOf, neighbours, kinds, kindTold, kindsTold, Allowed, Meant, ReadAs, HeldFor, Alike, alike, disagree, missing, limited}
 use Rattle.grammar.proofs.Joined.{not-limited, says-alike}
 use Rattle.grammar.proofs.Open.{open-says, strict-open}
 use Rattle.grammar.proofs.Verdict.{read-tree}
@@ -229,6 +228,33 @@ otherwise : (f g : Lead → AtomKind → AtomKind) (es : List Event) (m : Molecu
     → (x : Molecule) × (moleculeOf g es ≡ some x) × (erase (x .atoms) ≡ erase (m .atoms))
 otherwise f g es m h = other (moleculeOf g es) m (sym (molecule-erased g es) ∙ molecule-erased f es ∙ ap erased h)
 
+-- what OpenSMILES means by a chain, and what is held for it
+pub meant-held : (u : Chain) (meant : List Node) → Meant u meant → (x : Molecule) × (moleculeOf asHeld (says u) ≡ some x) × (firstOpenS (x .atoms) ≡ none) × HeldFor u meant (x .atoms)
+meant-held u meant m =
+    let o = otherwise asWritten asHeld (says u) (m .whole) (m .is) in
+    let e : erase (o .0 .atoms) ≡ erase meant = o .2 ∙ ap erase (m .atoms) in (
+      o .0,
+      o .1,
+      same-open (o .0 .atoms) meant e ∙ m .rings,
+      record {
+        around = same-neighbours (o .0 .atoms) meant e;
+        here = molecule-kinds asHeld (says u) (o .0) (o .1);
+        there = ap kinds (sym (m .atoms)) ∙ molecule-kinds asWritten (says u) (m .whole) (m .is);
+      },
+    )
+
+pub held-meant : (u : Chain) (x : Molecule) → moleculeOf asHeld (says u) ≡ some x → firstOpenS (x .atoms) ≡ none → Allowed (x .atoms) → (meant : List Node) × Meant u meant × HeldFor u meant (x .atoms)
+held-meant u x i c a =
+    let o = otherwise asHeld asWritten (says u) x i in (
+      o .0 .atoms,
+      record { whole = o .0; is = o .1; atoms = refl; rings = same-open (o .0 .atoms) (x .atoms) (o .2) ∙ c; allowed = same-allowed (o .0 .atoms) (x .atoms) (o .2) a },
+      record {
+        around = same-neighbours (x .atoms) (o .0 .atoms) (sym (o .2));
+        here = molecule-kinds asHeld (says u) x i;
+        there = molecule-kinds asWritten (says u) (o .0) (o .1);
+      },
+    )
+
 -- ---- what is read
 -- a build that is done has no failed join and no open entry
 done-closed : (f : Failure) (ns : List Node) → saysS f ns ≡ built.Done → (f ≡ None) × (firstOpenS ns ≡ none)
@@ -240,21 +266,11 @@ done-closed None ns h = (refl, by (firstOpenS ns) h)
     by (some j) h = absurd (let z : _≡_ {A = ℕ} 0 1 = cc in omega arith)
 done-closed (Failed x y) ns h = absurd (let z : _≡_ {A = ℕ} 0 1 = cc in omega arith)
 
-closed-done : (f : Failure) (ns : List Node) → f ≡ None → firstOpenS ns ≡ none → saysS f ns ≡ built.Done
-unfolding saysS ringsSay
-closed-done f ns h o = rw (h, o)
-
 settled : (d : Sketch) (o : Option Molecule) → Alike d o → d .refusal ≡ 0 → d .failure ≡ None → o ≡ some (moleculeIn d)
 settled d _ (alike r f u) z e = refl
 settled d none (disagree x y f) z e = absurd (let w : _≡_ {A = ℕ} 0 1 = cc in omega arith)
 settled d none (missing h) z e = absurd (h z)
 settled d o (limited h) z e = absurd (not-limited (d .refusal) h z)
-
-taken : (d : Sketch) (o : Option Molecule) (m : Molecule) → Alike d o → o ≡ some m → Limited (d .refusal) ⊎ ((d .refusal ≡ 0) × (d .failure ≡ None) × (d .nodes ≡ m .atoms))
-taken d _ m (alike r f u) e = inr (r, f, unfold atomsIn in ap atomsIn e)
-taken d none m (disagree x y f) e = absurd (let w : _≡_ {A = ℕ} 0 1 = cc in omega arith)
-taken d none m (missing h) e = absurd (let w : _≡_ {A = ℕ} 0 1 = cc in omega arith)
-taken d o m (limited h) e = inl h
 
 module _ (u : Chain) (p : parse (chainS u) ≡ says u) (la lb : ℕ) where
   read-as-meant : (ns : List Node) → ReadAs (chainS u) la lb ns → Allowed ns → (meant : List Node) × Meant u meant × HeldFor u meant ns
@@ -274,38 +290,7 @@ module _ (u : Chain) (p : parse (chainS u) ≡ says u) (la lb : ℕ) where
         },
       )
 
-  meant-as-read : (meant : List Node) → Meant u meant → Limited (sketchOf (chainS u) la lb .refusal) ⊎ ((ns : List Node) × ReadAs (chainS u) la lb ns × HeldFor u meant ns)
-  unfolding finishS
-  meant-as-read meant m = by (taken d (moleculeOf asHeld (says u)) (o .0) (says-alike u p la lb) (o .1))
-    where
-      d : Sketch
-      d = sketchOf (chainS u) la lb
-
-      o : (x : Molecule) × (moleculeOf asHeld (says u) ≡ some x) × (erase (x .atoms) ≡ erase (m .whole .atoms))
-      o = otherwise asWritten asHeld (says u) (m .whole) (m .is)
-
-      e : erase (o .0 .atoms) ≡ erase meant
-      e = o .2 ∙ ap erase (m .atoms)
-
-      by : Limited (d .refusal) ⊎ ((d .refusal ≡ 0) × (d .failure ≡ None) × (d .nodes ≡ o .0 .atoms))
-          → Limited (d .refusal) ⊎ ((ns : List Node) × ReadAs (chainS u) la lb ns × HeldFor u meant ns)
-      by (inl z) = inl z
-      by (inr z) = inr (
-        o .0 .atoms,
-        record { accepted = z .0; done = closed-done (d .failure) (d .nodes) (z .1) (ap firstOpenS (z .2) ∙ same-open (o .0 .atoms) meant e ∙ m .rings); nodes = z .2 },
-        record {
-          around = same-neighbours (o .0 .atoms) meant e;
-          here = molecule-kinds asHeld (says u) (o .0) (o .1);
-          there = ap kinds (sym (m .atoms)) ∙ molecule-kinds asWritten (says u) (m .whole) (m .is);
-        },
-      )
-
--- ---- THE CLAIMS
--- What OpenSMILES means by a chain is read, as it is held, unless a limit is met.
-pub meant-read : (u : Chain) → Small u → FitsChain branchLimit u → (la lb : ℕ) (meant : List Node) → Meant u meant
-    → Limited (sketchOf (chainS u) la lb .refusal) ⊎ ((ns : List Node) × ReadAs (chainS u) la lb ns × HeldFor u meant ns)
-meant-read u h f la lb = meant-as-read u (open-says u h f) la lb
-
+-- ---- THE CLAIMS, of what is read; those of what is meant, and of the read call, are in opensmiles_laws
 -- What is read of a chain and is no departure in meaning is what OpenSMILES means by it, as it is held.
 pub read-meant : (u : Chain) → Small u → FitsChain branchLimit u → (la lb : ℕ) (ns : List Node) → ReadAs (chainS u) la lb ns → Allowed ns
     → (meant : List Node) × Meant u meant × HeldFor u meant ns

@@ -56,24 +56,24 @@ pub unique : (t u : Line) → spell t ≡ spell u → t ≡ u
 unique t u e = let f : done t ≡ done u = sym (complete t) ∙ ap read e ∙ complete u in cc
 
 -- ---- no state is a dead end
-closing : Around → Line → Line
+unfoldable pub closing : Around → Line → Line
 closing top c = c
 closing (inside k c l) d = closing k (branch c l d)
 
-closers : Around → List ℕ
+unfoldable pub closers : Around → List ℕ
 closers top = []
 closers (inside k c l) = (byte ")") ∷ closers k
 
-closing-ok : (k : Around) (c : Line) → spell (closing k c) ≡ aroundS k ++ (spell c ++ closers k)
+pub closing-ok : (k : Around) (c : Line) → spell (closing k c) ≡ aroundS k ++ (spell c ++ closers k)
 unfolding closing closers aroundS spell
 closing-ok top c = simp append-nil
 closing-ok (inside k c l) d = closing-ok k (branch c l d) ∙ simp append-assoc
 
 -- an atom in the making can be made
-record Made (q : Part) : Type 0 where
-  atom : Atom
-  more : List ℕ
-  is : atomS atom ≡ partS q ++ more
+pub record Made (q : Part) : Type 0 where
+  pub atom : Atom
+  pub more : List ℕ
+  pub is : atomS atom ≡ partS q ++ more
 
 bracketed : (i : Isotope) (s : Symbol) (c : Chiral) (h : Hcount) → atomS (bracket (head i s c h) neutral nomap) ≡ opened i s c h ++ ((byte "]") ∷ [])
 unfolding atomS opened headS chargeS mapS
@@ -91,7 +91,7 @@ valid-one SP = tt
 valid-one TB = tt
 valid-one OH = tt
 
-made : (q : Part) → Made q
+pub made : (q : Part) → Made q
 unfolding atomS partS symbolS organicS chiralS hcountS has1 names known opened headS chargeS mapS tailed
 made (bare a p) = by (led a organics p)
   where

@@ -108,7 +108,7 @@ pub verdict : (s : List ℕ) → Bytes s → Verdict s (parse s)
 verdict s h = rw (parse-full s h) (unfold zero-state steps in verdict-go s [] (want (begin top)) 0 refl fit-first refl)
 
 -- ---- a tree's meaning holds no refusal, and every refusal is one
-clean-append : (xs ys : List Event) → Clean xs → Clean ys → Clean (xs ++ ys)
+pub clean-append : (xs ys : List Event) → Clean xs → Clean ys → Clean (xs ++ ys)
 unfolding Clean
 clean-append [] ys h k = k
 clean-append (Enter l a n ∷ xs) ys h k = clean-append xs ys h k
@@ -132,7 +132,7 @@ unmissed xs m h = unfold Clean in unclean xs (Miss m ∷ []) h
 unnested : (xs : List Event) (n : ℕ) → ¬ Clean (xs ++ (Nest n ∷ []))
 unnested xs n h = unfold Clean in unclean xs (Nest n ∷ []) h
 
-clean-tells : (t : Line) (w : List ℕ) (l : Link) → Clean (tells w l t)
+pub clean-tells : (t : Line) (w : List ℕ) (l : Link) → Clean (tells w l t)
 unfolding Clean tells enter join
 clean-tells (start a) w l = tt
 clean-tells (link c k a) w l = clean-append (tells w l c) _ (clean-tells c w l) tt
@@ -174,7 +174,7 @@ read-tree t f = by (verdict (spell t) (spelled-bytes t))
     by (nests n es e r) = absurd (r .deep t (r .behind) (r .is) f)
 
 -- ---- REFUSALS, by the last event
-snoc-last : (xs ys : List Event) (a b : Event) → xs ++ (a ∷ []) ≡ ys ++ (b ∷ []) → a ≡ b
+pub snoc-last : (xs ys : List Event) (a b : Event) → xs ++ (a ∷ []) ≡ ys ++ (b ∷ []) → a ≡ b
 snoc-last [] [] a b e = cc
 snoc-last [] (y ∷ []) a b e = let z : _≡_ {A = ℕ} 0 1 = cc in absurd (omega arith)
 snoc-last [] (y ∷ (x ∷ ys)) a b e = let z : _≡_ {A = ℕ} 0 1 = cc in absurd (omega arith)

@@ -167,7 +167,8 @@ pub record Meant (u : Chain) (ns : List Node) : Type 0 where
   pub allowed : Allowed ns
 
 -- ---- WHAT IS READ
--- A text is read into tables of so many words: its atoms with their bond entries.
+-- A text is read into tables of so many words: its atoms with their bond entries. The limit of the text is no part of this: what
+-- the read call answers is said in opensmiles_laws.
 pub record ReadAs (s : List ℕ) (la lb : ℕ) (ns : List Node) : Type 0 where
   pub accepted : sketchOf s la lb .refusal ≡ 0
   pub done : finishS (sketchOf s la lb) ≡ Done
@@ -182,6 +183,7 @@ pub record HeldFor (u : Chain) (meant ns : List Node) : Type 0 where
 
 -- Where the reader stops and OpenSMILES doesn't: the room for atoms (13) and for bond entries (14) is limited; and departure "mark
 -- not turned" (10): where a mark other than TH1 and TH2 would have to be turned, the line is refused. Smallest line: C[C@SP1H].
+-- These are the numbers; when each is met is said in opensmiles_laws (`Meets`).
 pub data Limited : ℕ → Type 0 where
   no-place : Limited atomRoom
   no-slot : Limited bondRoom

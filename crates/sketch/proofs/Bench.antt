@@ -75,5 +75,12 @@ joins-counted = refl
 one-sided : BothEnds (node carbon (edge Single (To 1) ∷ []) ∷ node carbon [] ∷ []) → ⊥
 unfolding bondsTo isBond leads edgesAt reverseOf codeOf
 one-sided h =
-    let z : _≡_ {A = ℕ} 1 0 = h 0 1 Single in
+    let z : _≡_ {A = ℕ} 1 0 = h .ends 0 1 Single in
+    omega arith
+
+-- half a bond from an atom to itself
+half : BothEnds (node carbon (edge Single (To 0) ∷ []) ∷ []) → ⊥
+unfolding bondsTo isBond leads edgesAt reverseOf codeOf
+half h =
+    let z : _≡_ {A = ℕ} 1 0 = h .even 0 Single refl in
     omega arith

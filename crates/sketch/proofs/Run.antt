@@ -161,6 +161,6 @@ same-start places slots a e p r room blank free =
         once = λ q m i h l x y. absurd (omega arith);
         older = λ q i h x. absurd (omega arith);
       };
-      twins = λ x y k. refl;
+      twins = record { ends = λ x y k. refl; even = λ x k own. refl };
       room = room;
     }

@@ -1,5 +1,5 @@
 -- Each entry has its reverse at the other end. Assumes nothing.
-use Prim.Native.Nat.{ℕ, zero, suc, _+_, _<_, _≤_}
+use Prim.Native.Nat.{ℕ, zero, suc, _+_, _%_, _<_, _≤_}
 use mathlib.Core.Path.{_≡_, refl, _∙_, ap, sym}
 use mathlib.Core.List.{List, [], _∷_, _++_}
 use mathlib.Core.Bool.{Bool, true, false}
@@ -86,8 +86,10 @@ same-reverse j k =
 
 -- ---- rows
 -- as many of each sort at one end as of the reverse at the other
-abbrev pub Twins : List Row → Type 0
-Twins rs = (a t : ℕ) (k : BondKind) → bondsTo k t (edgesOf rs a) ≡ bondsTo (reverseOf k) a (edgesOf rs t)
+-- and an even number where both are the same
+pub record Twins (rs : List Row) : Type 0 where
+  pub ends : (a t : ℕ) (k : BondKind) → bondsTo k t (edgesOf rs a) ≡ bondsTo (reverseOf k) a (edgesOf rs t)
+  pub even : (a : ℕ) (k : BondKind) → reverseOf k ≡ k → bondsTo k a (edgesOf rs a) % 2 ≡ 0
 
 -- what a row adds to them
 unfoldable hits : ℕ → BondKind → ℕ → Row → ℕ
@@ -139,19 +141,36 @@ bonds-set a k t (q ∷ rs) (suc p) j r h e =
 
 -- an entry opened
 pub twins-open : (rs : List Row) (s : ℕ) (e : BondKind) (j : ℕ) → Twins rs → Twins (rs ++ (row s e (Open j) ∷ []))
-twins-open rs s e j w a t k =
+twins-open rs s e j w =
     let r = row s e (Open j) in
-    omega (arith, w a t k, bonds-more a k t rs r, bonds-more t (reverseOf k) a rs r, hits-open a k t r j refl, hits-open t (reverseOf k) a r j refl)
+    record {
+      ends = λ a t k.
+          omega (arith, w .ends a t k, bonds-more a k t rs r, bonds-more t (reverseOf k) a rs r, hits-open a k t r j refl, hits-open t (reverseOf k) a r j refl);
+      even = λ a k own. omega (arith, w .even a k own, bonds-more a k a rs r, hits-open a k a r j refl);
+    }
 
 -- a bond's two entries, one behind all and one before it that adds what it is
 twins-pair : (rs qs : List Row) (s x : ℕ) (e f : BondKind) → f ≡ reverseOf e → ((a : ℕ) (k : BondKind) (t : ℕ) → bondsTo k t (edgesOf qs a) ≡ bondsTo k t (edgesOf rs a) + hits a k t (row s e (To x))) → Twins rs → Twins (qs ++ (row x f (To s) ∷ []))
-twins-pair rs qs s x e f back more w a t k =
-    let there = row s e (To x) in
-    let here = row x f (To s) in
-    let one : hits a k t there ≡ hits t (reverseOf k) a here = hits-back a k t s e x ∙ ap (λ (g : BondKind). hits t (reverseOf k) a (row x g (To s))) (sym back) in
-    let turn : reverseOf f ≡ e = ap reverseOf back ∙ reverse-twice e in
-    let two : hits a k t here ≡ hits t (reverseOf k) a there = hits-back a k t x f s ∙ ap (λ (g : BondKind). hits t (reverseOf k) a (row s g (To x))) turn in
-    omega (arith, w a t k, more a k t, more t (reverseOf k) a, bonds-more a k t qs here, bonds-more t (reverseOf k) a qs here, one, two)
+twins-pair rs qs s x e f back more w =
+    record {
+      ends = λ a t k.
+          omega (arith, w .ends a t k, more a k t, more t (reverseOf k) a, bonds-more a k t qs here, bonds-more t (reverseOf k) a qs here, one a t k, two a t k);
+      even = λ a k own.
+          let o : hits a k a there ≡ hits a k a here = one a a k ∙ ap (λ (y : BondKind). hits a y a here) own in
+          omega (arith, w .even a k own, more a k a, bonds-more a k a qs here, o);
+    }
+  where
+    there : Row
+    there = row s e (To x)
+
+    here : Row
+    here = row x f (To s)
+
+    one : (a t : ℕ) (k : BondKind) → hits a k t there ≡ hits t (reverseOf k) a here
+    one a t k = hits-back a k t s e x ∙ ap (λ (g : BondKind). hits t (reverseOf k) a (row x g (To s))) (sym back)
+
+    two : (a t : ℕ) (k : BondKind) → hits a k t here ≡ hits t (reverseOf k) a there
+    two a t k = hits-back a k t x f s ∙ ap (λ (g : BondKind). hits t (reverseOf k) a (row s g (To x))) (ap reverseOf back ∙ reverse-twice e)
 
 -- a bond to a new atom
 pub twins-extend : (rs : List Row) (s t : ℕ) (e : BondKind) → Twins rs → Twins ((rs ++ (row s e (To t) ∷ [])) ++ (row t (reverseOf e) (To s) ∷ []))
@@ -182,5 +201,9 @@ edges-all ks rs h a = split (ltb a (length ks)) refl where
       edges-past ks (edgesOf rs) a l ∙ sym (edges-none rs a (λ p i. omega (arith, l, h p i)))
 
 pub twins-ends : (ks : List AtomKind) (rs : List Row) → Twins rs → ((p : ℕ) → p < length rs → getD rs p noRow .source < length ks) → BothEnds (nodesOf ks (edgesOf rs))
-twins-ends ks rs w h a t k =
-    ap (bondsTo k t) (edges-all ks rs h a) ∙ w a t k ∙ ap (bondsTo (reverseOf k) a) (sym (edges-all ks rs h t))
+twins-ends ks rs w h =
+    record {
+      ends = λ a t k.
+          ap (bondsTo k t) (edges-all ks rs h a) ∙ w .ends a t k ∙ ap (bondsTo (reverseOf k) a) (sym (edges-all ks rs h t));
+      even = λ a k own. ap (λ (l : List Edge). bondsTo k a l % 2) (edges-all ks rs h a) ∙ w .even a k own;
+    }

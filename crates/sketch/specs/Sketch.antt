@@ -9,7 +9,7 @@
 -- that can't be toggled. The first stops everything. After a first failed join atoms are only counted and their marks judged.
 -- At the end: 3 for the first failed join, else 4 for the first open entry, atoms in order and entries in order, else the
 -- tables, with zeros up to the end of what was lent.
-use Prim.Native.Nat.{ℕ, zero, suc, _+_, _-_, _/_}
+use Prim.Native.Nat.{ℕ, zero, suc, _+_, _-_, _/_, _%_}
 use mathlib.Core.Path.{_≡_}
 use mathlib.Core.List.{List, [], _∷_, _++_}
 use mathlib.Core.Option.{Option, none, some}
@@ -341,6 +341,8 @@ unfoldable pub bondsTo : BondKind → ℕ → List Edge → ℕ
 bondsTo k t [] = 0
 bondsTo k t (e ∷ es) = pick (isBond k t e) 1 0 + bondsTo k t es
 
--- an atom has as many bonds of a kind to another as that one has of the reverse to it
-abbrev pub BothEnds : List Node → Type 0
-BothEnds ns = (a t : ℕ) (k : BondKind) → bondsTo k t (edgesAt a ns) ≡ bondsTo (reverseOf k) a (edgesAt t ns)
+-- an atom has as many bonds of a kind to another as that one has of the reverse to it, and to itself an even number of each
+-- kind that is its own reverse
+pub record BothEnds (ns : List Node) : Type 0 where
+  pub ends : (a t : ℕ) (k : BondKind) → bondsTo k t (edgesAt a ns) ≡ bondsTo (reverseOf k) a (edgesAt t ns)
+  pub even : (a : ℕ) (k : BondKind) → reverseOf k ≡ k → bondsTo k a (edgesAt a ns) % 2 ≡ 0

@@ -1,12 +1,12 @@
 -- Bonds counted at either end: one turn of the count, and what a state's bonds come to. Assumes nothing.
-use Prim.Native.Nat.{ℕ, zero, suc, _+_, _<_, _≤_}
+use Prim.Native.Nat.{ℕ, zero, suc, _+_, _%_, _<_, _≤_}
 use mathlib.Core.Path.{_≡_, refl, sym, ap, _∙_, subst}
 use mathlib.Core.List.{List}
 use mathlib.Core.Bool.{Bool, true, false}
 use native.Mathlib.Omega.{arith}
 use native.Mathlib.Numerals.{add-one}
 use lib.Dec.{eqb, ltb, leb}
-use borrow.Author.Tests.{eqb-true, eqb-false, ltb-true, ltb-false, lt-leb}
+use borrow.Author.Tests.{eqb-true, eqb-false, eq-eqb, ltb-true, ltb-false, lt-leb}
 use Rattle.feature.specs.Pick.{pick}
 use Rattle.feature.specs.Bonds.{codeOf, kindOf, reverseOf}
 use Rattle.feature.specs.declared.bond_kind.BondKind.{BondKind}
@@ -14,7 +14,7 @@ use Rattle.feature.specs.declared.bond_kind.BondKind.the-variants.{Elided, Sing
 use Rattle.graph.specs.State.{unclosed}
 use Rattle.feature.specs.Every.{every}
 use Rattle.feature.proofs.Every.{every-at}
-use Rattle.standing.specs.Standing.{sourceAt, kindAt, targetAt, isBond, bondsFrom, turnedOf, isPaired}
+use Rattle.standing.specs.Standing.{sourceAt, kindAt, targetAt, isBond, bondsFrom, turnedOf, isOwn, isMatched, isPaired}
 use Rattle.standing.proofs.Counts.{first, second}
 
 -- ---- one turn of the count
@@ -36,12 +36,38 @@ found e a k t (suc m) h = split (isBond e a k t m) refl h (λ l. found e a k t m
   split true is l ih = (m, omega arith, is)
   split false is l ih = let r = ih (omega (arith, l)) in (r .0, omega (arith, r .1), r .2)
 
-paired-at : (e : List ℕ) (m i : ℕ) → isPaired e m i ≡ true → targetAt e i < unclosed → bondsFrom e (sourceAt e i) (kindAt e i) (targetAt e i) m ≡ bondsFrom e (targetAt e i) (turnedOf (kindOf (kindAt e i))) (sourceAt e i) m
+matched-at : (e : List ℕ) (m i : ℕ) → isPaired e m i ≡ true → targetAt e i < unclosed → isMatched (isOwn (sourceAt e i) (kindAt e i) (targetAt e i)) (bondsFrom e (sourceAt e i) (kindAt e i) (targetAt e i) m) (bondsFrom e (targetAt e i) (turnedOf (kindOf (kindAt e i))) (sourceAt e i) m) ≡ true
 unfolding isPaired
-paired-at e m i h l =
-    eqb-true _ _ (subst (λ (q : Bool). pick q true (eqb (bondsFrom e (sourceAt e i) (kindAt e i) (targetAt e i) m) (bondsFrom e (targetAt e i) (turnedOf (kindOf (kindAt e i))) (sourceAt e i) m)) ≡ true) (lt-leb unclosed (targetAt e i) l) h)
+matched-at e m i h l =
+    subst (λ (q : Bool). pick q true (isMatched (isOwn (sourceAt e i) (kindAt e i) (targetAt e i)) (bondsFrom e (sourceAt e i) (kindAt e i) (targetAt e i) m) (bondsFrom e (targetAt e i) (turnedOf (kindOf (kindAt e i))) (sourceAt e i) m)) ≡ true) (lt-leb unclosed (targetAt e i) l) h
 
-turned-code : (k : BondKind) → turnedOf (kindOf (codeOf k)) ≡ codeOf (reverseOf k)
+-- what is matched
+pub matched-same : (own : Bool) (x y : ℕ) → isMatched own x y ≡ true → x ≡ y
+unfolding isMatched
+matched-same own x y h = eqb-true x y (first (eqb x y) _ h)
+
+pub matched-even : (x y : ℕ) → isMatched true x y ≡ true → x % 2 ≡ 0
+unfolding isMatched
+matched-even x y h = eqb-true (x % 2) 0 (second (eqb x y) _ h)
+
+pub to-matched : (own : Bool) (x y : ℕ) → x ≡ y → (own ≡ true → x % 2 ≡ 0) → isMatched own x y ≡ true
+unfolding isMatched
+to-matched true x y e f = rw (eq-eqb x y e, eq-eqb (x % 2) 0 (f refl)) refl
+to-matched false x y e f = rw (eq-eqb x y e) refl
+
+paired-at : (e : List ℕ) (m i : ℕ) → isPaired e m i ≡ true → targetAt e i < unclosed → bondsFrom e (sourceAt e i) (kindAt e i) (targetAt e i) m ≡ bondsFrom e (targetAt e i) (turnedOf (kindOf (kindAt e i))) (sourceAt e i) m
+paired-at e m i h l = matched-same (isOwn (sourceAt e i) (kindAt e i) (targetAt e i)) _ _ (matched-at e m i h l)
+
+own-is : (s k t : ℕ) → s ≡ t → k ≡ turnedOf (kindOf k) → isOwn s k t ≡ true
+unfolding isOwn
+own-is s k t e f = rw (eq-eqb s t e, eq-eqb k (turnedOf (kindOf k)) f) refl
+
+even-at : (e : List ℕ) (m i : ℕ) → isPaired e m i ≡ true → targetAt e i < unclosed → isOwn (sourceAt e i) (kindAt e i) (targetAt e i) ≡ true → bondsFrom e (sourceAt e i) (kindAt e i) (targetAt e i) m % 2 ≡ 0
+even-at e m i h l own =
+    matched-even (bondsFrom e (sourceAt e i) (kindAt e i) (targetAt e i) m) (bondsFrom e (targetAt e i) (turnedOf (kindOf (kindAt e i))) (sourceAt e i) m)
+    (subst (λ (q : Bool). isMatched q (bondsFrom e (sourceAt e i) (kindAt e i) (targetAt e i) m) (bondsFrom e (targetAt e i) (turnedOf (kindOf (kindAt e i))) (sourceAt e i) m) ≡ true) own (matched-at e m i h l))
+
+pub turned-code : (k : BondKind) → turnedOf (kindOf (codeOf k)) ≡ codeOf (reverseOf k)
 unfolding turnedOf kindOf codeOf reverseOf
 turned-code Elided = refl
 turned-code Single = refl
@@ -52,7 +78,7 @@ turned-code Aromatic = refl
 turned-code Up = refl
 turned-code Down = refl
 
-reverse-twice : (k : BondKind) → reverseOf (reverseOf k) ≡ k
+pub reverse-twice : (k : BondKind) → reverseOf (reverseOf k) ≡ k
 unfolding reverseOf
 reverse-twice Elided = refl
 reverse-twice Single = refl
@@ -94,3 +120,22 @@ module _ (e : List ℕ) (m : ℕ) (all : every (isPaired e m) m ≡ true) where
     here : (q : Bool) → ltb 0 (bondsFrom e a (codeOf k) t m) ≡ q → bondsFrom e a (codeOf k) t m ≡ bondsFrom e t (codeOf (reverseOf k)) a m
     here true is = held a t k ht (ltb-true _ _ is)
     here false is = there (ltb-false _ _ is) (ltb 0 (bondsFrom e t (codeOf (reverseOf k)) a m)) refl
+
+  -- and of each kind that is its own reverse an even number to itself
+  pub even-ends : (a : ℕ) (k : BondKind) → a < unclosed → reverseOf k ≡ k → bondsFrom e a (codeOf k) a m % 2 ≡ 0
+  unfolding isBond
+  even-ends a k h back = go (ltb 0 (bondsFrom e a (codeOf k) a m)) refl where
+    go : (q : Bool) → ltb 0 (bondsFrom e a (codeOf k) a m) ≡ q → bondsFrom e a (codeOf k) a m % 2 ≡ 0
+    go false is = omega (arith, ltb-false 0 (bondsFrom e a (codeOf k) a m) is)
+    go true is =
+        let f = found e a (codeOf k) a m (ltb-true _ _ is) in
+        let i = f .0 in
+        let s : sourceAt e i ≡ a = eqb-true _ _ (first (eqb (sourceAt e i) a) _ (f .2)) in
+        let rest = second (eqb (sourceAt e i) a) _ (f .2) in
+        let w : kindAt e i ≡ codeOf k = eqb-true _ _ (first (eqb (kindAt e i) (codeOf k)) _ rest) in
+        let g : targetAt e i ≡ a = eqb-true _ _ (second (eqb (kindAt e i) (codeOf k)) _ rest) in
+        let own : kindAt e i ≡ turnedOf (kindOf (kindAt e i)) = w ∙ ap codeOf (sym back) ∙ sym (turned-code k) ∙ ap (λ (x : ℕ). turnedOf (kindOf x)) (sym w) in
+        let p = even-at e m i (every-at (isPaired e m) m i all (f .1)) (omega (arith, g, h)) (own-is (sourceAt e i) (kindAt e i) (targetAt e i) (s ∙ sym g) own) in
+        subst (λ (x : ℕ). bondsFrom e a (codeOf k) x m % 2 ≡ 0) g
+        (subst (λ (x : ℕ). bondsFrom e a x (targetAt e i) m % 2 ≡ 0) w
+        (subst (λ (x : ℕ). bondsFrom e x (kindAt e i) (targetAt e i) m % 2 ≡ 0) s p))

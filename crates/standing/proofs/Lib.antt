@@ -1,3 +1,7 @@
 -- Laws that the proofs and the crates above cite.
 pub mod Counts
 pub mod Ends
+pub mod Turns
+pub mod Grown
+pub mod Keeps
+pub mod Kept

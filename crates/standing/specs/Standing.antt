@@ -1,14 +1,15 @@
 -- Which numbers stand for a builder's state: the counts are within the rooms and the rooms within the limits and what was
 -- lent, each record is an atom, each entry is a bond between atoms or one whose join is open, each bond is held at both ends
--- as reverses, the path goes over atoms, each open ring number leads to an entry whose join is open, and a failure that is
+-- as reverses, one from an atom to itself twice, joins of open entries rise, the path goes over atoms, each open ring number
+-- leads to an entry of its own whose join is open, there are no more joins than the entries tell of, and a failure that is
 -- remembered names atoms.
-use Prim.Native.Nat.{ℕ, zero, suc, _+_, _*_, _-_}
+use Prim.Native.Nat.{ℕ, zero, suc, _+_, _*_, _-_, _%_}
 use mathlib.Core.List.{List}
 use mathlib.Core.Bool.{Bool, true, false}
 use lib.ListN.{length, getD}
 use lib.Dec.{ltb, leb, eqb}
 use Rattle.feature.specs.Every.{every}
-use Rattle.feature.specs.Pick.{pick}
+use Rattle.feature.specs.Pick.{pick, neither}
 use Rattle.feature.specs.Bonds.{codeOf, kindOf, reverseOf}
 use Rattle.feature.specs.declared.bond_kind.Coded.{Coded}
 use Rattle.feature.specs.declared.bond_kind.Coded.the-variants as coded
@@ -63,22 +64,56 @@ unfoldable pub turnedOf : Coded → ℕ
 turnedOf (coded.Kind k) = codeOf (reverseOf k)
 turnedOf coded.Bad = 0
 
--- among the first m entries there are as many bonds like entry i as there are reverses of it at its other end
+-- a bond of a kind from s to t is its own reverse
+unfoldable pub isOwn : ℕ → ℕ → ℕ → Bool
+isOwn s k t = also (eqb s t) (eqb k (turnedOf (kindOf k)))
+
+-- here as many as there, and where both are the same, an even number
+unfoldable pub isMatched : Bool → ℕ → ℕ → Bool
+isMatched own here there = also (eqb here there) (pick own (eqb (here % 2) 0) true)
+
+-- among the first m entries there are as many bonds like entry i as there are reverses of it at its other end; a bond that
+-- is its own reverse, from an atom to itself, is held twice
 unfoldable pub isPaired : List ℕ → ℕ → ℕ → Bool
 isPaired e m i =
     pick (leb unclosed (targetAt e i)) true
-    (eqb (bondsFrom e (sourceAt e i) (kindAt e i) (targetAt e i) m)
+    (isMatched (isOwn (sourceAt e i) (kindAt e i) (targetAt e i))
+    (bondsFrom e (sourceAt e i) (kindAt e i) (targetAt e i) m)
     (bondsFrom e (targetAt e i) (turnedOf (kindOf (kindAt e i))) (sourceAt e i) m))
+
+-- the least target of an open entry after the first m: one more than that of the last open one
+unfoldable pub leastOpen : List ℕ → ℕ → ℕ
+leastOpen e zero = unclosed
+leastOpen e (suc m) = pick (leb unclosed (targetAt e m)) (targetAt e m + 1) (leastOpen e m)
+
+-- an open entry's join is later than those of the open ones before it
+unfoldable pub isLater : List ℕ → ℕ → Bool
+isLater e i = pick (leb unclosed (targetAt e i)) (leb (leastOpen e i) (targetAt e i)) true
 
 unfoldable pub isStep : Builder → List ℕ → ℕ → Bool
 isStep s p i = ltb (getD p i 0) (s .atoms)
 
--- a ring number is free, or one more than the place of an entry whose join is open
+-- two ring numbers lead to different entries
+unfoldable pub isApart : List ℕ → ℕ → ℕ → Bool
+isApart r n i = neither (eqb (getD r i 0) (getD r n 0))
+
+-- a ring number is free, or one more than the place of an entry whose join is open and to which no ring number before it leads
 unfoldable pub isRing : Builder → List ℕ → List ℕ → ℕ → Bool
 isRing s e r n =
     pick (eqb (getD r n 0) 0) true
     (also (leb (getD r n 0) (s .entries))
-    (leb unclosed (targetAt e (getD r n 0 - 1))))
+    (also (leb unclosed (targetAt e (getD r n 0 - 1)))
+    (every (isApart r n) n)))
+
+-- how many of the first n ring numbers are open
+unfoldable pub openRings : List ℕ → ℕ → ℕ
+openRings r zero = 0
+openRings r (suc n) = openRings r n + pick (eqb (getD r n 0) 0) 0 1
+
+-- a join opens an entry, or closes what one opened: there are no more joins, with those to come of the open ring numbers,
+-- than two for each entry
+unfoldable pub joinsStand : Builder → List ℕ → Bool
+joinsStand s r = leb (s .joins + openRings r numbers) (s .entries * 2)
 
 -- the counts and the rooms, for tables of so many words
 unfoldable pub countsStand : Builder → ℕ → ℕ → ℕ → ℕ → Bool
@@ -105,6 +140,8 @@ isState b =
     (also (every (isAtom (b .atoms)) (b .st .atoms))
     (also (every (isEntry (b .st) (b .entries)) (b .st .entries))
     (also (every (isPaired (b .entries) (b .st .entries)) (b .st .entries))
+    (also (every (isLater (b .entries)) (b .st .entries))
     (also (every (isStep (b .st) (b .path)) (b .st .top))
     (also (every (isRing (b .st) (b .entries) (b .rings)) numbers)
-    (failureStands (b .st)))))))
+    (also (joinsStand (b .st) (b .rings))
+    (failureStands (b .st)))))))))

@@ -2,5 +2,7 @@
 //
 // state: the tables and the counts beside them.
 // pairs: whether each bond is held at both ends.
+// joins: whether the joins agree with the entries and the ring numbers.
+mod joins;
 mod pairs;
 pub mod state;

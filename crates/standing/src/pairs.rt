@@ -1,13 +1,14 @@
 // Whether each bond among the entries of a state is held at both ends as reverses. An entry whose join is open is no bond.
 //
-// Bonds of one kind between the same two atoms may be many, so they are counted at either end.
+// Bonds of one kind between the same two atoms may be many, so they are counted at either end. Where both ends are the same,
+// their number is even.
 ghost use mathlib.Core.Path.{_≡_};
 ghost use Prim.Native.Nat.{_≤_};
 ghost use Rattle.feature.specs.Pick.{pick};
 ghost use Rattle.feature.specs.Bonds.{kindOf};
 ghost use Rattle.graph.specs.Limits.{bondLimit};
 ghost use Rattle.feature.specs.Every.{every};
-ghost use Rattle.standing.specs.Standing.{isBond, bondsFrom, turnedOf, isPaired};
+ghost use Rattle.standing.specs.Standing.{isBond, bondsFrom, turnedOf, isOwn, isMatched, isPaired};
 use crate::state::KIND;
 use crate::state::TARGET;
 use feature::bond_kind::Coded;
@@ -60,6 +61,35 @@ fn turned(n: u32) -> u32
     }
 }
 
+// Whether a bond of a kind is its own reverse.
+fn is_own(source: u32, kind: u32, target: u32) -> bool
+    ensures { λ r. ⌜ r ≡ isOwn source kind target ⌝ }
+{
+    if source != target {
+        return false;
+    }
+    if kind != turned(kind) {
+        return false;
+    }
+    true
+}
+
+// Whether there are as many here as there, and an even number where both are the same.
+fn is_matched(own: bool, here: usize, there: usize) -> bool
+    ensures { λ r. ⌜ r ≡ isMatched own here there ⌝ }
+{
+    if here != there {
+        return false;
+    }
+    if !own {
+        return true;
+    }
+    if here % 2 != 0 {
+        return false;
+    }
+    true
+}
+
 fn is_paired(entries: &[u32], n: usize, i: usize) -> bool
     requires { ⌜ (n ≤ bondLimit) × (i ≤ bondLimit) ⌝ }
     ensures { λ r. ⌜ r ≡ isPaired (now (entries .entry)) n i ⌝ }
@@ -73,10 +103,7 @@ fn is_paired(entries: &[u32], n: usize, i: usize) -> bool
     }
     let here = bonds_from(entries, source, kind, target, n);
     let there = bonds_from(entries, target, turned(kind), source, n);
-    if here != there {
-        return false;
-    }
-    true
+    is_matched(is_own(source, kind, target), here, there)
 }
 
 pub fn pairs_stand(entries: &[u32], n: usize) -> bool

@@ -10,6 +10,9 @@ ghost use Rattle.graph.specs.Rings.{numbers};
 ghost use Rattle.feature.specs.Every.{every};
 ghost use Rattle.record.specs.Words.{isAtom};
 ghost use Rattle.standing.specs.Standing.{isKind, isTarget, isEntry, isStep, isRing, countsStand, failureStands, isState};
+use crate::joins::joins_rise;
+use crate::joins::joins_stand;
+use crate::joins::leads_alone;
 use crate::pairs::pairs_stand;
 use feature::bond_kind::Coded;
 use feature::bond_kind::decode;
@@ -127,7 +130,7 @@ fn is_ring(b: Builder, entries: &[u32], rings: &[u32], n: usize) -> bool
     if look(entries, (held - 1) * ENTRY_WORDS + TARGET) < OPEN {
         return false;
     }
-    true
+    leads_alone(rings, n)
 }
 
 fn rings_stand(b: Builder, entries: &[u32], rings: &[u32]) -> bool
@@ -208,10 +211,16 @@ pub fn is_state(atoms: &[u32], entries: &[u32], path: &[u32], rings: &[u32], b: 
     if !pairs_stand(entries, b.entries) {
         return false;
     }
+    if !joins_rise(entries, b.entries) {
+        return false;
+    }
     if !steps_stand(b, path, b.top) {
         return false;
     }
     if !rings_stand(b, entries, rings) {
+        return false;
+    }
+    if !joins_stand(b, rings) {
         return false;
     }
     failure_stands(b)

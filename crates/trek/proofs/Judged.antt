@@ -53,3 +53,15 @@ unfolding badRecord degrees
 judged-degrees n m atoms bonds first e =
     let z : 0 + n ≡ n = omega arith in
     after-say (graph n atoms bonds first) n m bonds (atomsFrom atoms m n 0 0) (rw z at (atoms-say (graph n atoms bonds first) m n 0 0 refl (omega arith))) e
+
+-- So they hold no more than these where the judge finds nothing bad before the end.
+after-few : (g : Graph) (n m : ℕ) (bonds : List ℕ) (x : Judged) → Says g m n x → n + m ≤ afterAtoms x bonds n m → degrees g n ≤ m
+unfolding afterAtoms Says
+after-few g n m bonds (Bad a) s e = absurd (omega (arith, s, e))
+after-few g n m bonds (Holds held) s e = omega (arith, s .0, s .1)
+
+pub judged-few : (n m : ℕ) (atoms bonds first : List ℕ) → n + m ≤ badRecord atoms n bonds m → degrees (graph n atoms bonds first) n ≤ m
+unfolding badRecord degrees
+judged-few n m atoms bonds first e =
+    let z : 0 + n ≡ n = omega arith in
+    after-few (graph n atoms bonds first) n m bonds (atomsFrom atoms m n 0 0) (rw z at (atoms-say (graph n atoms bonds first) m n 0 0 refl (omega arith))) e

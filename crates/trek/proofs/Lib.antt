@@ -9,3 +9,5 @@ pub mod Bound
 pub mod Ended
 pub mod Judged
 pub mod Longer
+pub mod PlainLines
+pub mod Plain

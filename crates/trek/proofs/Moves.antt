@@ -76,7 +76,7 @@ scan-back bonds first t s fixed (suc i) back h =
     (λ q. scan-back bonds first t s fixed i back h)
 
 -- so an atom is entered only by such an entry
-EntersBy : Graph → ℕ → ℕ → Way → Type 0
+unfoldable pub EntersBy : Graph → ℕ → ℕ → Way → Type 0
 EntersBy g s t (Enters b) = (b ≢ 0) × (bondOf g t (b - 1) .to ≡ s)
 EntersBy g s t (Refuses r a b) = Unit {0}
 
@@ -89,7 +89,7 @@ judged-back g k s t (Found b) h =
     (λ q. by-test (EntersBy g s t) (same (bondOf g t (b - 1) .kind) (reverseOf k))
     (λ z. (eqb-false _ _ q, h (eqb-false _ _ q))) (λ z. tt))
 
-way-back : (g : Graph) (k : BondKind) (s t : ℕ) → EntersBy g s t (wayOf g k s t)
+pub way-back : (g : Graph) (k : BondKind) (s t : ℕ) → EntersBy g s t (wayOf g k s t)
 unfolding wayOf
 way-back g k s t = judged-back g k s t (scanOf g t s) (scan-back (g .bonds) (g .first) t s _ (degreeAt g t) 0 (λ z. absurd (z refl)))
 

@@ -1,2 +1,4 @@
 pub mod Trek
 pub mod Longer
+pub mod Plain
+pub mod OneWalk

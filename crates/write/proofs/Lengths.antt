@@ -49,12 +49,12 @@ unfolding made.lowered
 lowered-zeros zero = refl
 lowered-zeros (suc j) = ap (λ (x : List ℕ). 0 ∷ x) (lowered-zeros j)
 
-lowered-longer : (j : ℕ) (l : List ℕ) → made.lowered (longer j l) ≡ longer j (made.lowered l)
+pub lowered-longer : (j : ℕ) (l : List ℕ) → made.lowered (longer j l) ≡ longer j (made.lowered l)
 unfolding made.lowered
 lowered-longer j [] = lowered-zeros j
 lowered-longer j (x ∷ l) = ap (λ (y : List ℕ). (x - 1) ∷ y) (lowered-longer j l)
 
-look-lowered : (l : List ℕ) (i : ℕ) → getD (made.lowered l) i 0 ≡ getD l i 0 - 1
+pub look-lowered : (l : List ℕ) (i : ℕ) → getD (made.lowered l) i 0 ≡ getD l i 0 - 1
 unfolding made.lowered
 look-lowered [] i = refl
 look-lowered (x ∷ l) zero = refl
@@ -178,7 +178,7 @@ lesser-room r l n h =
     (λ q. le-ltb l n h ∙ sym (le-ltb r n (omega (arith, h, ltb-true l r q))))
     (λ q. refl)
 
-lesser-both : (r l n : ℕ) → ltb (lesserOf r l) n ≡ false → (n ≤ r) × (n ≤ l)
+pub lesser-both : (r l n : ℕ) → ltb (lesserOf r l) n ≡ false → (n ≤ r) × (n ≤ l)
 unfolding lesserOf
 lesser-both r l n =
     by-test (λ (x : ℕ). ltb x n ≡ false → (n ≤ r) × (n ≤ l)) (ltb l r)
@@ -191,13 +191,13 @@ order-room lw ln lb n atoms hw hn hb =
     lesser-room (lesserOf (lesserOf (atomRoom atoms) lw) ln) lb n hb ∙ lesser-room (lesserOf (atomRoom atoms) lw) ln n hn ∙ lesser-room (atomRoom atoms) lw n hw
 
 -- room for so many atoms in each table
-record HasRoom (lw ln lb n : ℕ) : Type 0 where
-  few : n ≤ atomLimit
-  walked : n ≤ lw
-  number : n ≤ ln
-  back : n ≤ lb
+pub record HasRoom (lw ln lb n : ℕ) : Type 0 where
+  pub few : n ≤ atomLimit
+  pub walked : n ≤ lw
+  pub number : n ≤ ln
+  pub back : n ≤ lb
 
-has-room : (lw ln lb n : ℕ) (atoms : List ℕ) → ltb (made.orderRoom lw ln lb atoms) n ≡ false → HasRoom lw ln lb n
+pub has-room : (lw ln lb n : ℕ) (atoms : List ℕ) → ltb (made.orderRoom lw ln lb atoms) n ≡ false → HasRoom lw ln lb n
 unfolding made.orderRoom atomRoom
 has-room lw ln lb n atoms e =
     let b = lesser-both (lesserOf (lesserOf (atomRoom atoms) lw) ln) lb n e in

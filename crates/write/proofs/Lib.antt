@@ -5,3 +5,4 @@ pub mod Ends
 pub mod Judging
 pub mod Calls
 pub mod Said
+pub mod Plain

@@ -2,3 +2,4 @@ pub mod Write
 pub mod Order
 pub mod Lengths
 pub mod Rooms
+pub mod Plain

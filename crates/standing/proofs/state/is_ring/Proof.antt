@@ -48,10 +48,13 @@ returns-3 : tie.Need-returns-3
 unfolding isRing
 returns-3 c = simp (← c .before .before .before .before .before .look .ensures, ne-eqb _ _ (c .before .before .before .before .if1 .left), le-leb _ _ (c .before .before .if2 .left), ← c .before .look2 .ensures, lt-leb _ _ (c .if3 .taken))
 
+leads-alone-requires : tie.Need-leads-alone-requires
+leads-alone-requires c κs = search needs
+
 -- src/state.rt:123:1
 returns-4 : tie.Need-returns-4
 unfolding isRing
-returns-4 c = simp (← c .before .before .before .before .before .look .ensures, ne-eqb _ _ (c .before .before .before .before .if1 .left), le-leb _ _ (c .before .before .if2 .left), ← c .before .look2 .ensures, le-leb _ _ (c .if3 .left))
+returns-4 c = simp (← c .before .before .before .before .before .before .look .ensures, ne-eqb _ _ (c .before .before .before .before .before .if1 .left), le-leb _ _ (c .before .before .before .if2 .left), ← c .before .before .look2 .ensures, le-leb _ _ (c .before .if3 .left), ← c .leads-alone .ensures)
 
 pub is-ring-spec : {M : Type 1} → statement M
 is-ring-spec =
@@ -66,4 +69,5 @@ is-ring-spec =
     add-look
     look-requires-2
     returns-3
+    leads-alone-requires
     returns-4)

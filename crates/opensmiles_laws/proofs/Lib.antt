@@ -1,0 +1,12 @@
+-- The read call's answers held to the grammar.
+pub mod Marks
+pub mod Steps
+pub mod Trace
+pub mod Room
+pub mod Deep
+pub mod Came
+pub mod Telling
+pub mod Spoken
+pub mod Laws
+pub mod Meant
+pub mod Samples

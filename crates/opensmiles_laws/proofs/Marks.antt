@@ -1,0 +1,124 @@
+-- A mark that can't be turned is one that the reader refuses to turn; and what an event that has room passes. Assumes nothing.
+use Prim.Native.Nat.{ℕ, _+_, _<_, _≤_}
+use mathlib.Core.Path.{_≡_, refl}
+use mathlib.Core.Bool.{Bool, true, false}
+use mathlib.Core.Option.{Option, none, some}
+use native.Mathlib.Omega.{arith}
+use lib.Dec.{eqb}
+use borrow.Author.Tests.{eqb-false, ne-eqb}
+use Rattle.feature.specs.Pick.{pick}
+use Rattle.feature.specs.Kinds.{noConfiguration, noHydrogens, th1, th2, invertOf, invertBracket}
+use Rattle.feature.specs.declared.atom_kind.AtomKind.{AtomKind}
+use Rattle.feature.specs.declared.atom_kind.AtomKind.the-variants.{Star, Aliphatic, Aromatic, Bracket}
+use Rattle.feature.specs.declared.atom_kind.Inverted.{Inverted}
+use Rattle.feature.specs.declared.atom_kind.Inverted.the-variants.{Turned, Refused}
+use Rattle.feature.specs.declared.bond_kind.BondKind.{BondKind}
+use Rattle.reader.specs.declared.lead.Lead.the-variants.{Dot, Bond}
+use Rattle.reader.specs.Events.{Event, Enter, Join, Pop, Miss, Nest}
+use Rattle.sketch.specs.Sketch.{countOf}
+use Rattle.read.specs.declared.Answer.{Answer}
+use Rattle.grammar.specs.Molecule.{Molecule, asHeld, told}
+use Rattle.opensmiles_laws.specs.Stops.{Unturnable, unturnable, Meets, no-place, no-slots, not-turned, no-slot, not-turned-after, ends, wrong, deep, Passes}
+
+pub by-equal : {A : Type 0} (P : A → Type 0) (q : Bool) {x y : A} → (q ≡ true → P x) → (q ≡ false → P y) → P (pick q x y)
+by-equal P true f g = f refl
+by-equal P false f g = g refl
+
+pub refused-unturnable : (k : AtomKind) → invertOf k ≡ Refused → Unturnable k
+unfolding invertOf invertBracket
+refused-unturnable Star h = let z : _≡_ {A = ℕ} 0 1 = cc in absurd (omega arith)
+refused-unturnable (Aliphatic n) h = let z : _≡_ {A = ℕ} 0 1 = cc in absurd (omega arith)
+refused-unturnable (Aromatic n) h = let z : _≡_ {A = ℕ} 0 1 = cc in absurd (omega arith)
+refused-unturnable (Bracket b) h =
+    let P : Inverted → Type 0 = λ i. i ≡ Refused → Unturnable (Bracket b) in
+    by-equal P (eqb (b .configuration) noConfiguration) (λ q h. let z : _≡_ {A = ℕ} 0 1 = cc in absurd (omega arith))
+    (λ q0. by-equal P (eqb (b .hydrogens) noHydrogens) (λ q h. let z : _≡_ {A = ℕ} 0 1 = cc in absurd (omega arith))
+    (λ q1. by-equal P (eqb (b .hydrogens) 0) (λ q h. let z : _≡_ {A = ℕ} 0 1 = cc in absurd (omega arith))
+    (λ q2. by-equal P (eqb (b .configuration) th1) (λ q h. let z : _≡_ {A = ℕ} 0 1 = cc in absurd (omega arith))
+    (λ q3. by-equal P (eqb (b .configuration) th2) (λ q h. let z : _≡_ {A = ℕ} 0 1 = cc in absurd (omega arith))
+    (λ q4 h. unturnable b (eqb-false _ _ q0) (eqb-false _ _ q3) (eqb-false _ _ q4) (eqb-false _ _ q1) (eqb-false _ _ q2)))))) h
+
+pub unturnable-refused : (k : AtomKind) → Unturnable k → invertOf k ≡ Refused
+unfolding invertOf invertBracket
+unturnable-refused _ (unturnable b c0 c1 c2 h0 h1) = simp (ne-eqb _ _ c0, ne-eqb _ _ h0, ne-eqb _ _ h1, ne-eqb _ _ c1, ne-eqb _ _ c2)
+
+pub turned-turnable : (k j : AtomKind) → invertOf k ≡ Turned j → ¬ Unturnable k
+turned-turnable k j h u = let e = unturnable-refused k u in let z : _≡_ {A = ℕ} 0 1 = cc in absurd (omega arith)
+
+module _ (p l : ℕ) (m : Molecule) (n : ℕ) where
+  pub dot-passes : (k : AtomKind) (at : ℕ) → n < p → Passes p l (some m) n (Enter Dot k at)
+  unfolding Passes
+  dot-passes k at h _ (no-place _ _ _ _ _ g) = omega arith
+
+  pub bond-passes : (e : BondKind) (k : AtomKind) (at : ℕ) → n < p → countOf (m .atoms) + 2 ≤ l → ¬ Unturnable k → Passes p l (some m) n (Enter (Bond e) k at)
+  unfolding Passes
+  bond-passes e k at h g u _ (no-place _ _ _ _ _ z) = omega arith
+  bond-passes e k at h g u _ (no-slots _ _ _ _ _ y z) = omega arith
+  bond-passes e k at h g u _ (not-turned _ _ _ _ _ x y z) = u z
+
+  pub join-passes : (e : BondKind) (r at : ℕ) → ((x : Molecule) → told asHeld m (Join e r at) ≡ some x → countOf (m .atoms) + 1 ≤ l) → Passes p l (some m) n (Join e r at)
+  unfolding Passes
+  join-passes e r at h _ (no-slot _ x _ _ _ _ y z) = let g = h x y in omega arith
+
+-- where an event can meet something at all
+Busy : Option Molecule → Event → Type 0
+Busy (some m) (Enter l k at) = Unit {0}
+Busy none (Enter Dot k at) = ⊥
+Busy none (Enter (Bond e) k at) = Unit {0}
+Busy (some m) (Join e r at) = Unit {0}
+Busy none (Join e r at) = ⊥
+Busy o (Pop i) = ⊥
+Busy o (Miss x) = Unit {0}
+Busy o (Nest at) = Unit {0}
+
+busy : (p l : ℕ) (o : Option Molecule) (n : ℕ) (e : Event) (a : Answer) → Meets p l o n e a → Busy o e
+unfolding Busy
+busy p l _ _ _ _ (no-place m n k at c h) = tt
+busy p l _ _ _ _ (no-slots m n e k at g z) = tt
+busy p l _ _ _ _ (not-turned m n e k at g z u) = tt
+busy p l _ _ _ _ (no-slot m x n e r at h g) = tt
+busy p l _ _ _ _ (not-turned-after n e k at u) = tt
+busy p l _ _ _ _ (ends none n) = tt
+busy p l _ _ _ _ (ends (some m) n) = tt
+busy p l _ _ _ _ (wrong none n at) = tt
+busy p l _ _ _ _ (wrong (some m) n at) = tt
+busy p l _ _ _ _ (deep none n at) = tt
+busy p l _ _ _ _ (deep (some m) n at) = tt
+
+pop-idle : (o : Option Molecule) (i : ℕ) → ¬ Busy o (Pop i)
+unfolding Busy
+pop-idle none i h = h
+pop-idle (some m) i h = h
+
+pub pop-passes : (p l : ℕ) (o : Option Molecule) (n i : ℕ) → Passes p l o n (Pop i)
+unfolding Passes
+pop-passes p l o n i a h = pop-idle o i (busy p l o n (Pop i) a h)
+
+pub dot-after : (p l n : ℕ) (k : AtomKind) (at : ℕ) → Passes p l none n (Enter Dot k at)
+unfolding Passes Busy
+dot-after p l n k at a h = busy p l none n (Enter Dot k at) a h
+
+pub join-after : (p l n : ℕ) (e : BondKind) (r at : ℕ) → Passes p l none n (Join e r at)
+unfolding Passes Busy
+join-after p l n e r at a h = busy p l none n (Join e r at) a h
+
+pub bond-after : (p l n : ℕ) (e : BondKind) (k : AtomKind) (at : ℕ) → ¬ Unturnable k → Passes p l none n (Enter (Bond e) k at)
+unfolding Passes
+bond-after p l n e k at u _ (not-turned-after _ _ _ _ h) = u h
+
+-- an event meets one thing
+pub meets-one : (p l : ℕ) (o : Option Molecule) (n : ℕ) (e : Event) (a b : Answer) → Meets p l o n e a → Meets p l o n e b → a ≡ b
+meets-one p l _ _ _ _ _ (no-place m n k at c h) (no-place _ _ _ _ _ g) = refl
+meets-one p l _ _ _ _ _ (no-place m n k at c h) (no-slots _ _ _ _ _ g z) = absurd (omega arith)
+meets-one p l _ _ _ _ _ (no-place m n k at c h) (not-turned _ _ _ _ _ g z u) = absurd (omega arith)
+meets-one p l _ _ _ _ _ (no-slots m n e k at g z) (no-place _ _ _ _ _ h) = absurd (omega arith)
+meets-one p l _ _ _ _ _ (no-slots m n e k at g z) (no-slots _ _ _ _ _ h y) = refl
+meets-one p l _ _ _ _ _ (no-slots m n e k at g z) (not-turned _ _ _ _ _ h y u) = absurd (omega arith)
+meets-one p l _ _ _ _ _ (not-turned m n e k at g z u) (no-place _ _ _ _ _ h) = absurd (omega arith)
+meets-one p l _ _ _ _ _ (not-turned m n e k at g z u) (no-slots _ _ _ _ _ h y) = absurd (omega arith)
+meets-one p l _ _ _ _ _ (not-turned m n e k at g z u) (not-turned _ _ _ _ _ h y v) = refl
+meets-one p l _ _ _ _ _ (no-slot m x n e r at h g) (no-slot _ _ _ _ _ _ z y) = refl
+meets-one p l _ _ _ _ _ (not-turned-after n e k at u) (not-turned-after _ _ _ _ v) = refl
+meets-one p l _ _ _ _ _ (ends o n) (ends _ _) = refl
+meets-one p l _ _ _ _ _ (wrong o n at) (wrong _ _ _) = refl
+meets-one p l _ _ _ _ _ (deep o n at) (deep _ _ _) = refl

@@ -1,0 +1,151 @@
+-- WHAT THE READ CALL ANSWERS to a text of bytes and to tables of la and lb words: each answer by when it is given, in the words
+-- of the grammar. `When` has them all; that the read call's meaning is so, exactly, is the law of this crate.
+use Prim.Native.Nat.{ℕ, _<_, _≤_}
+use mathlib.Core.Path.{_≡_}
+use mathlib.Core.List.{List}
+use mathlib.Core.Option.{none, some}
+use lib.ListN.{length}
+use Rattle.graph.specs.Limits.{textLimit, branchLimit}
+use Rattle.reader.specs.Events.{Event}
+use Rattle.sketch.specs.Sketch.{Node, countOf, firstOpenS, atomTable, bondTable, padded}
+use Rattle.read.specs.declared.Answer.{Answer}
+use Rattle.read.specs.declared.Answer.the-variants as answer
+use Rattle.read.specs.Read.{Said, said}
+use Rattle.read.specs.Line.{refusing, lineOf}
+use Rattle.grammar.specs.Grammar.{Line, spell, meaning}
+use Rattle.grammar.specs.Lines.{Bytes, Fits, TooDeep}
+use Rattle.grammar.specs.OpenSmiles.{Chain, chainS, says, Small, FitsChain, Strict}
+use Rattle.grammar.specs.Molecule.{Molecule, asHeld, moleculeOf, Allowed, Meant, HeldFor}
+use Rattle.opensmiles_laws.specs.Stops.{placesIn, slotsIn, Turnable, Runs, Stops, Disagree, begun}
+use Rattle.opensmiles_laws.specs.Telling.{HasTold, Shallow, Deepest, Tells, MissesAt, MissesMore}
+
+-- each of two things implies the other
+abbrev pub Exactly : Type 0 → Type 0 → Type 0
+Exactly A B = (A → B) × (B → A)
+
+-- ---- A WHOLE LINE
+-- A text within the limit that a tree spells, with at most 128 branches open at once.
+pub record Whole (s : List ℕ) : Type 0 where
+  pub short : length s ≤ textLimit
+  pub tree : Line
+  pub spelled : spell tree ≡ s
+  pub shallow : Fits branchLimit tree
+
+-- Its tree's molecule, as it is held: the two ends of each ring bond agree. There is room for its atoms and entries, and no mark
+-- that has to be turned can't be.
+pub record Roomy (t : Line) (la lb : ℕ) (ns : List Node) : Type 0 where
+  pub whole : Molecule
+  pub is : moleculeOf asHeld (meaning t) ≡ some whole
+  pub atoms : whole .atoms ≡ ns
+  pub places : length ns ≤ placesIn la
+  pub slots : countOf ns ≤ slotsIn lb
+  pub marks : Turnable (meaning t)
+
+-- 0: all this, and all rings are closed
+pub record DoneAs (s : List ℕ) (la lb : ℕ) (ns : List Node) : Type 0 where
+  pub line : Whole s
+  pub roomy : Roomy (line .tree) la lb ns
+  pub closed : firstOpenS ns ≡ none
+
+-- what is then said: how many atoms and entries there are, and their tables, with zeros after them
+abbrev pub doneSaid : ℕ → ℕ → List Node → Said
+doneSaid la lb ns = said (answer.Done (length ns) (countOf ns)) (padded la (atomTable ns)) (padded lb (bondTable ns))
+
+-- 4: all this, but a ring is open, the first by its entry being that of the join j
+pub record OpenAs (s : List ℕ) (la lb j : ℕ) : Type 0 where
+  pub line : Whole s
+  pub atoms : List Node
+  pub roomy : Roomy (line .tree) la lb atoms
+  pub unclosed : firstOpenS atoms ≡ some j
+
+-- 3: the two ends of a ring bond don't agree, for the first time at the atoms x and y; and nothing stops the reading, before it or
+-- after it. Then there is no molecule, so 3 comes before 4.
+pub record DisagreeAs (s : List ℕ) (la lb x y : ℕ) : Type 0 where
+  pub line : Whole s
+  pub runs : Runs (placesIn la) (slotsIn lb) begun 0 (meaning (line .tree))
+  pub first : Disagree begun (meaning (line .tree)) x y
+
+-- ---- A TEXT THAT STOPS
+-- Nothing that this much of a text has told stops the reading.
+unfoldable pub Free : List ℕ → ℕ → ℕ → Type 0
+Free p la lb = (es : List Event) → HasTold p es → Runs (placesIn la) (slotsIn lb) begun 0 es
+
+-- 2: a character is missing at n; the text goes too deep nowhere, and nothing stops the reading before
+pub record WrongAs (s : List ℕ) (la lb n : ℕ) : Type 0 where
+  pub short : length s ≤ textLimit
+  pub upto : List ℕ
+  pub place : MissesAt s n upto
+  pub shallow : Shallow s
+  pub free : Free upto la lb
+
+-- 1: the same, where the end came too soon
+pub record EndsAs (s : List ℕ) (la lb : ℕ) : Type 0 where
+  pub short : length s ≤ textLimit
+  pub upto : List ℕ
+  pub place : MissesMore s upto
+  pub shallow : Shallow s
+  pub free : Free upto la lb
+
+-- 15: the text goes too deep at n, and nowhere before, and nothing stops the reading before
+pub record NestsAs (s : List ℕ) (la lb n : ℕ) : Type 0 where
+  pub short : length s ≤ textLimit
+  pub deep : TooDeep s n
+  pub first : Deepest s n
+  pub free : Free (deep .before) la lb
+
+-- 10, 13, 14: of all that the text tells, the first event that meets anything meets this
+pub record StopsAs (s : List ℕ) (la lb : ℕ) (a : Answer) : Type 0 where
+  pub short : length s ≤ textLimit
+  pub told : List Event
+  pub tells : Tells s told
+  pub stops : Stops (placesIn la) (slotsIn lb) begun 0 told a
+
+-- ---- WHEN EACH ANSWER IS GIVEN
+unfoldable pub When : List ℕ → ℕ → ℕ → Answer → Type 0
+When s la lb (answer.Done n m) = (ns : List Node) × DoneAs s la lb ns × (n ≡ length ns) × (m ≡ countOf ns)
+When s la lb answer.EndOfLine = EndsAs s la lb
+When s la lb (answer.Character n) = WrongAs s la lb n
+When s la lb (answer.Join x y) = DisagreeAs s la lb x y
+When s la lb (answer.Rnum j) = OpenAs s la lb j
+When s la lb (answer.Inversion n) = StopsAs s la lb (answer.Inversion n)
+When s la lb (answer.TextTooLong n) = (textLimit < length s) × (n ≡ length s)
+When s la lb (answer.AtomRoom at) = StopsAs s la lb (answer.AtomRoom at)
+When s la lb (answer.BondRoom at) = StopsAs s la lb (answer.BondRoom at)
+When s la lb (answer.Nesting n) = NestsAs s la lb n
+When s la lb answer.NoAtom = ⊥
+
+-- the read call gives each answer exactly then
+abbrev pub AnsweredExactly : Type 0
+AnsweredExactly = (s : List ℕ) → Bytes s → (la lb : ℕ) (a : Answer) → Exactly (lineOf s la lb .answer ≡ a) (When s la lb a)
+
+-- with these tables: a line that is done leaves its atoms' and entries', whatever else is answered leaves zeros
+abbrev pub DoneTables : Type 0
+DoneTables = (s : List ℕ) (la lb : ℕ) (ns : List Node) → DoneAs s la lb ns → lineOf s la lb ≡ doneSaid la lb ns
+
+abbrev pub ZeroTables : Type 0
+ZeroTables = (s : List ℕ) → Bytes s → (la lb : ℕ) (a : Answer) → lineOf s la lb .answer ≡ a → ((n m : ℕ) → ¬ (a ≡ answer.Done n m)) → lineOf s la lb ≡ refusing a la lb
+
+-- ---- WHAT OPENSMILES MEANS
+-- What OpenSMILES means by a chain whose numbers the reader has is read, as it is held, if the chain is within the limits of text
+-- and branches, there is room, and no mark that has to be turned can't be.
+abbrev pub MeantIsRead : Type 0
+MeantIsRead = (u : Chain) → Small u → FitsChain branchLimit u → length (chainS u) ≤ textLimit → (meant : List Node) → Meant u meant
+    → (la lb : ℕ) → length meant ≤ placesIn la → countOf meant ≤ slotsIn lb → Turnable (says u)
+    → (ns : List Node) × HeldFor u meant ns × (lineOf (chainS u) la lb ≡ doneSaid la lb ns) × (length ns ≡ length meant) × (countOf ns ≡ countOf meant)
+
+-- and each limit that is met is one that the meant molecule, its text or a mark exceeds
+pub data MeantSaid (u : Chain) (meant : List Node) (la lb : ℕ) : Said → Type 0 where
+  done : (ns : List Node) → HeldFor u meant ns → MeantSaid u meant la lb (doneSaid la lb ns)
+  too-long : textLimit < length (chainS u) → MeantSaid u meant la lb (refusing (answer.TextTooLong (length (chainS u))) la lb)
+  no-place : (at : ℕ) → placesIn la < length meant → MeantSaid u meant la lb (refusing (answer.AtomRoom at) la lb)
+  no-slot : (at : ℕ) → slotsIn lb < countOf meant → MeantSaid u meant la lb (refusing (answer.BondRoom at) la lb)
+  not-turned : (n : ℕ) → ¬ Turnable (says u) → MeantSaid u meant la lb (refusing (answer.Inversion n) la lb)
+
+abbrev pub MeantIsAnswered : Type 0
+MeantIsAnswered = (u : Chain) → Small u → FitsChain branchLimit u → (meant : List Node) → Meant u meant → (la lb : ℕ) → MeantSaid u meant la lb (lineOf (chainS u) la lb)
+
+-- What is read of a strict line is what OpenSMILES means by it, as it is held, unless OpenSMILES forbids the graph.
+abbrev pub ReadIsMeant : Type 0
+ReadIsMeant = (t : Line) → Strict t → (la lb n m : ℕ) → lineOf (spell t) la lb .answer ≡ answer.Done n m
+    → (ns : List Node) × (lineOf (spell t) la lb ≡ doneSaid la lb ns)
+    × (Allowed ns → (u : Chain) × (chainS u ≡ spell t) × ((meant : List Node) × Meant u meant × HeldFor u meant ns))

@@ -1,0 +1,107 @@
+-- Where the reading of a line stops: what each event of a line meets after the events before it, in the words of OpenSMILES'
+-- molecule. No reading here, and no table.
+use Prim.Native.Nat.{ℕ, _+_, _/_, _<_, _≤_}
+use mathlib.Core.Path.{_≡_}
+use mathlib.Core.List.{List, [], _∷_, _++_}
+use mathlib.Core.Option.{Option, none, some}
+use Rattle.feature.specs.Kinds.{noConfiguration, noHydrogens, th1, th2}
+use Rattle.feature.specs.declared.atom_kind.AtomKind.{AtomKind}
+use Rattle.feature.specs.declared.atom_kind.AtomKind.the-variants.{Bracket}
+use Rattle.feature.specs.declared.atom_kind.BracketAtom.{BracketAtom}
+use Rattle.feature.specs.declared.bond_kind.BondKind.{BondKind}
+use Rattle.record.specs.Words.{atomWords, bondWords}
+use Rattle.graph.specs.Limits.{atomLimit, bondLimit, lesserOf}
+use Rattle.scan.specs.declared.scanner.Missing.the-variants as missing
+use Rattle.reader.specs.declared.lead.Lead.{Lead}
+use Rattle.reader.specs.declared.lead.Lead.the-variants.{Dot, Bond}
+use Rattle.reader.specs.Events.{Event, Enter, Join, Pop, Miss, Nest}
+use Rattle.sketch.specs.Sketch.{Held, countOf, lookup, openKind, edgesAt}
+use Rattle.read.specs.declared.Answer.{Answer}
+use Rattle.read.specs.declared.Answer.the-variants as answer
+use Rattle.grammar.specs.Molecule.{Molecule, molecule, agreed, asHeld, told, next, tellAll}
+
+-- ---- ROOM
+-- how many atoms there is a place for in a table of so many words, and how many bond entries there is a slot for
+unfoldable pub placesIn : ℕ → ℕ
+placesIn la = lesserOf atomLimit (la / atomWords)
+
+unfoldable pub slotsIn : ℕ → ℕ
+slotsIn lb = lesserOf bondLimit (lb / bondWords)
+
+-- ---- MARKS
+-- a mark other than TH1 and TH2 on an atom that bears hydrogen: it can't be turned
+pub data Unturnable : AtomKind → Type 0 where
+  unturnable : (b : BracketAtom) → ¬ (b .configuration ≡ noConfiguration) → ¬ (b .configuration ≡ th1) → ¬ (b .configuration ≡ th2)
+      → ¬ (b .hydrogens ≡ noHydrogens) → ¬ (b .hydrogens ≡ 0) → Unturnable (Bracket b)
+
+-- no atom that is bonded to the one before it has such a mark
+unfoldable pub Turnable : List Event → Type 0
+Turnable [] = Unit {0}
+Turnable (Enter Dot k at ∷ es) = Turnable es
+Turnable (Enter (Bond e) k at ∷ es) = ¬ Unturnable k × Turnable es
+Turnable (Join e r at ∷ es) = Turnable es
+Turnable (Pop i ∷ es) = Turnable es
+Turnable (Miss x ∷ es) = Turnable es
+Turnable (Nest at ∷ es) = Turnable es
+
+-- ---- WHAT AN EVENT MEETS
+-- The events before it made a molecule, or none since the two ends of a ring bond didn't agree; and they named n atoms. At an
+-- atom: no place (13), no slots for its bond's two entries (14), a mark that can't be turned (10), in this order. At a ring
+-- number that opens a ring, or closes one whose ends agree: no slot (14). After two ends that don't agree only marks are judged.
+pub data Meets (places slots : ℕ) : Option Molecule → ℕ → Event → Answer → Type 0 where
+  no-place : (m : Molecule) (n : ℕ) (l : Lead) (k : AtomKind) (at : ℕ) → places ≤ n → Meets places slots (some m) n (Enter l k at) (answer.AtomRoom at)
+  no-slots : (m : Molecule) (n : ℕ) (e : BondKind) (k : AtomKind) (at : ℕ) → n < places → slots < countOf (m .atoms) + 2 → Meets places slots (some m) n (Enter (Bond e) k at) (answer.BondRoom at)
+  not-turned : (m : Molecule) (n : ℕ) (e : BondKind) (k : AtomKind) (at : ℕ) → n < places → countOf (m .atoms) + 2 ≤ slots → Unturnable k → Meets places slots (some m) n (Enter (Bond e) k at) (answer.Inversion n)
+  no-slot : (m x : Molecule) (n : ℕ) (e : BondKind) (r at : ℕ) → told asHeld m (Join e r at) ≡ some x → slots < countOf (m .atoms) + 1 → Meets places slots (some m) n (Join e r at) (answer.BondRoom at)
+  not-turned-after : (n : ℕ) (e : BondKind) (k : AtomKind) (at : ℕ) → Unturnable k → Meets places slots none n (Enter (Bond e) k at) (answer.Inversion n)
+  ends : (o : Option Molecule) (n : ℕ) → Meets places slots o n (Miss missing.EndOfLine) answer.EndOfLine
+  wrong : (o : Option Molecule) (n at : ℕ) → Meets places slots o n (Miss (missing.Character at)) (answer.Character at)
+  deep : (o : Option Molecule) (n at : ℕ) → Meets places slots o n (Nest at) (answer.Nesting at)
+
+-- an event meets nothing
+unfoldable pub Passes : ℕ → ℕ → Option Molecule → ℕ → Event → Type 0
+Passes places slots o n e = (a : Answer) → ¬ Meets places slots o n e a
+
+-- ---- ALL EVENTS, after others that made o and named n atoms
+-- how many atoms are named with an event, and with all
+unfoldable pub counted : ℕ → Event → ℕ
+counted n (Enter l k at) = n + 1
+counted n (Join e r at) = n
+counted n (Pop i) = n
+counted n (Miss x) = n
+counted n (Nest at) = n
+
+unfoldable pub countAll : ℕ → List Event → ℕ
+countAll n [] = n
+countAll n (e ∷ es) = countAll (counted n e) es
+
+-- none of them meets anything
+unfoldable pub Runs : ℕ → ℕ → Option Molecule → ℕ → List Event → Type 0
+Runs places slots o n [] = Unit {0}
+Runs places slots o n (e ∷ es) = Passes places slots o n e × Runs places slots (next asHeld o e) (counted n e) es
+
+-- the first that meets anything meets this
+pub record Stops (places slots : ℕ) (o : Option Molecule) (n : ℕ) (es : List Event) (a : Answer) : Type 0 where
+  pub before : List Event
+  pub event : Event
+  pub after : List Event
+  pub is : es ≡ before ++ (event ∷ after)
+  pub free : Runs places slots o n before
+  pub meets : Meets places slots (tellAll asHeld o before) (countAll n before) event a
+
+-- the two ends of a ring bond don't agree: the ring number's second use at the atom x, its first at y
+pub data Fails : Option Molecule → Event → ℕ → ℕ → Type 0 where
+  fails : (m : Molecule) (e : BondKind) (r at x : ℕ) (path : List ℕ) (h : Held) → m .path ≡ x ∷ path → lookup r (m .opens) ≡ some h
+      → agreed (openKind (h .join) (edgesAt (h .atom) (m .atoms))) e ≡ none → Fails (some m) (Join e r at) x (h .atom)
+
+-- the first such ring bond of all events; after it there is no molecule
+pub record Disagree (o : Option Molecule) (es : List Event) (x y : ℕ) : Type 0 where
+  pub before : List Event
+  pub event : Event
+  pub after : List Event
+  pub is : es ≡ before ++ (event ∷ after)
+  pub fails : Fails (tellAll asHeld o before) event x y
+
+-- before the first event
+abbrev pub begun : Option Molecule
+begun = some (molecule [] [] [] 0)

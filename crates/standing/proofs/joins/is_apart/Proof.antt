@@ -1,0 +1,29 @@
+use Rattle.standing.specs.Standing.{isApart}
+use borrow.Author.Tests.{lt-ltb, le-ltb, lt-leb, le-leb, eq-eqb, ne-eqb, not-true, not-false}
+use borrow.Author.Needs.{needs}
+use Rattle.standing.proofs.joins.is_apart.Statement.{statement}
+use Rattle.standing.proofs.joins.is_apart.Tie as tie
+use Rattle.standing.proofs.joins.is_apart.Reads as reads
+use Rattle.standing.proofs.joins.is_apart.Lts as lts
+use Rattle.record.proofs.look.Reads as look-reads
+
+-- src/joins.rt:64:8
+look-requires : tie.Need-look-requires
+look-requires c κs = search needs
+
+-- src/joins.rt:64:26
+look-requires-2 : tie.Need-look-requires-2
+look-requires-2 c κs = search needs
+
+-- src/joins.rt:65:9
+returns : tie.Need-returns
+unfolding isApart
+returns c = simp (← c .before .before .look .ensures, ← c .before .look2 .ensures, eq-eqb _ _ (c .if1 .taken))
+
+-- src/joins.rt:61:1
+returns-2 : tie.Need-returns-2
+unfolding isApart
+returns-2 c = simp (← c .before .before .look .ensures, ← c .before .look2 .ensures, ne-eqb _ _ (c .if1 .left))
+
+pub is-apart-spec : {M : Type 1} → statement M
+is-apart-spec = tie.close (tie.spec look-requires look-requires-2 returns returns-2)
