@@ -12,8 +12,7 @@ pub mod rings;
 ghost use mathlib.Core.Path.{_≡_};
 ghost use lib.ListN.{length};
 ghost use Rattle.read.specs.Line.{lineOf};
-ghost use Rattle.write.specs.Write.{writeOf};
-ghost use Rattle.write.specs.Order.{orderOf};
+ghost use Rattle.write.specs.Plain.{writePlain, orderPlain};
 ghost use Rattle.report.specs.Report.{ofRead, ofWritten, laidInto};
 use report::answer::lay;
 use report::answer::of_read;
@@ -45,8 +44,8 @@ pub extern "C" fn mavisdrok_write(
     out: &mut [u8],
     report: &mut [u64],
 )
-    ensures { λ _. ⌜ now (out .exit) ≡ writeOf (length (now (out .entry))) (now (atoms .entry)) n (now (bonds .entry)) m .out ⌝ }
-    ensures { λ _. ⌜ now (report .exit) ≡ laidInto (now (report .entry)) (ofWritten (writeOf (length (now (out .entry))) (now (atoms .entry)) n (now (bonds .entry)) m .answer)) ⌝ }
+    ensures { λ _. ⌜ now (out .exit) ≡ writePlain (length (now (out .entry))) (now (atoms .entry)) n (now (bonds .entry)) m .out ⌝ }
+    ensures { λ _. ⌜ now (report .exit) ≡ laidInto (now (report .entry)) (ofWritten (writePlain (length (now (out .entry))) (now (atoms .entry)) n (now (bonds .entry)) m .answer)) ⌝ }
 {
     let answer = write::write(atoms, n, bonds, m, out);
     lay(report, of_written(answer));
@@ -64,10 +63,10 @@ pub extern "C" fn mavisdrok_order(
     back: &mut [u32],
     report: &mut [u64],
 )
-    ensures { λ _. ⌜ (now (walked .exit) ≡ orderOf (length (now (walked .entry))) (length (now (number .entry))) (length (now (back .entry))) (now (atoms .entry)) n (now (bonds .entry)) m .walked)
-        × (now (number .exit) ≡ orderOf (length (now (walked .entry))) (length (now (number .entry))) (length (now (back .entry))) (now (atoms .entry)) n (now (bonds .entry)) m .number)
-        × (now (back .exit) ≡ orderOf (length (now (walked .entry))) (length (now (number .entry))) (length (now (back .entry))) (now (atoms .entry)) n (now (bonds .entry)) m .back) ⌝ }
-    ensures { λ _. ⌜ now (report .exit) ≡ laidInto (now (report .entry)) (ofWritten (orderOf (length (now (walked .entry))) (length (now (number .entry))) (length (now (back .entry))) (now (atoms .entry)) n (now (bonds .entry)) m .answer)) ⌝ }
+    ensures { λ _. ⌜ (now (walked .exit) ≡ orderPlain (length (now (walked .entry))) (length (now (number .entry))) (length (now (back .entry))) (now (atoms .entry)) n (now (bonds .entry)) m .walked)
+        × (now (number .exit) ≡ orderPlain (length (now (walked .entry))) (length (now (number .entry))) (length (now (back .entry))) (now (atoms .entry)) n (now (bonds .entry)) m .number)
+        × (now (back .exit) ≡ orderPlain (length (now (walked .entry))) (length (now (number .entry))) (length (now (back .entry))) (now (atoms .entry)) n (now (bonds .entry)) m .back) ⌝ }
+    ensures { λ _. ⌜ now (report .exit) ≡ laidInto (now (report .entry)) (ofWritten (orderPlain (length (now (walked .entry))) (length (now (number .entry))) (length (now (back .entry))) (now (atoms .entry)) n (now (bonds .entry)) m .answer)) ⌝ }
 {
     let answer = write::order::order(atoms, n, bonds, m, walked, number, back);
     lay(report, of_written(answer));

@@ -331,7 +331,3 @@ never-18 s la lb e =
     by-test (λ (x : Said). x .answer ≡ NoAtom → ⊥) (ltb textLimit (length s))
     (λ h. let z : _≡_ {A = ℕ} 0 1 = cc in omega arith) (said-never lb _ (state-known s _ lb _ _ _))
     (ap (λ (x : Said). x .answer) (read-line s la lb) ∙ e)
-
--- two results that meet the claim of the read call are equal
-pub one-result : (s : List ℕ) (la lb : ℕ) (x y : Said) → x ≡ lineOf s la lb → y ≡ lineOf s la lb → x ≡ y
-one-result s la lb x y p q = p ∙ sym q

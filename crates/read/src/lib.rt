@@ -9,6 +9,7 @@ ghost use Rattle.graph.specs.State.{bld};
 ghost use Rattle.read.specs.Read.{said, endedSt, refusalOf, builtAnswer, within};
 ghost use Rattle.sketch.specs.Sketch.{sketchOf};
 ghost use Rattle.read.specs.Line.{graphOf, lineOf};
+ghost use Rattle.read.specs.Numbers.{inNumbers};
 ghost use Rattle.read.specs.Rooms.{Cleared, Few};
 use build::Built;
 use build::build;
@@ -179,8 +180,8 @@ fn are_few(atoms: &[u32], bonds: &[u32]) -> bool
 
 // Reads a line. The tables hold its graph in their final form, zeros after it; after a refusal they hold zeros.
 pub fn read(text: &[u8], atoms: &mut [u32], bonds: &mut [u32]) -> Answer
-    ensures { λ r. ⌜ said r (now (atoms .exit)) (now (bonds .exit))
-        ≡ lineOf (now (text .entry)) (length (now (atoms .entry))) (length (now (bonds .entry))) ⌝ }
+    ensures { λ r. ⌜ inNumbers (said r (now (atoms .exit)) (now (bonds .exit)))
+        ≡ inNumbers (lineOf (now (text .entry)) (length (now (atoms .entry))) (length (now (bonds .entry)))) ⌝ }
 {
     clear(atoms);
     clear(bonds);

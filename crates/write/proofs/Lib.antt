@@ -6,3 +6,4 @@ pub mod Judging
 pub mod Calls
 pub mod Said
 pub mod Plain
+pub mod One

@@ -1,8 +1,7 @@
--- What holds of every write: two results that meet its claim are one; a line that is written, or for which there was no room,
--- has at most 24 bytes for each atom and 4 for each entry; the writer takes every event of a walk; and a graph that is written
--- was walked to its end. Assumes nothing.
+-- What holds of every write: a line that is written, or for which there was no room, has at most 24 bytes for each atom and 4
+-- for each entry; the writer takes every event of a walk; and a graph that is written was walked to its end. Assumes nothing.
 use Prim.Native.Nat.{ℕ, zero, suc, _+_, _-_, _*_, _/_, _≤_, _<_}
-use mathlib.Core.Path.{_≡_, refl, _∙_, ap, sym}
+use mathlib.Core.Path.{_≡_, refl, _∙_, ap}
 use mathlib.Core.List.{List, []}
 use mathlib.Core.Bool.{false}
 use native.Mathlib.Omega.{arith}
@@ -27,15 +26,6 @@ use Rattle.trek.proofs.Judged.{judged-degrees}
 use Rattle.write.specs.declared.answer.Written.{Written}
 use Rattle.write.specs.declared.answer.Written.the-variants.{Done, UnknownTarget, Loop, HalfBond, DuplicateBond, IncompatibleBond, Inversion, RingNumbers, AtomRoom, BondRoom, OutRoom, BadTable}
 use Rattle.write.specs.Write.{zeros, pairWords, graphOf, walkIn, walkOf, saidIn, saidOf, lineSaid, refusalOf, atomRoom, bondRoom, admitted, Left, left, refusing, putLine, concluded, graphWritten, writeOf}
-use Rattle.write.specs.Order as made
-
--- ---- any two results that meet the claim are equal
-pub one-written : (room : ℕ) (atoms bonds : List ℕ) (n m : ℕ) (r r′ : Written) (o o′ : List ℕ) → left r o ≡ writeOf room atoms n bonds m → left r′ o′ ≡ writeOf room atoms n bonds m → (r ≡ r′) × (o ≡ o′)
-one-written room atoms bonds n m r r′ o o′ e f =
-    (ap (λ (x : Left). x .answer) (e ∙ sym f), ap (λ (x : Left). x .out) (e ∙ sym f))
-
-pub one-order : (lw ln lb : ℕ) (atoms bonds : List ℕ) (n m : ℕ) (x y : made.Order) → x ≡ made.orderOf lw ln lb atoms n bonds m → y ≡ made.orderOf lw ln lb atoms n bonds m → x ≡ y
-one-order lw ln lb atoms bonds n m x y e f = e ∙ sym f
 
 -- ---- the first bad record is one of them, or the one after
 bonds-most : (bonds : List ℕ) (held k e : ℕ) → bondsFrom bonds held k e ≤ e + k

@@ -3,3 +3,4 @@ pub mod Order
 pub mod Lengths
 pub mod Rooms
 pub mod Plain
+pub mod Numbers

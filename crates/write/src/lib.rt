@@ -6,7 +6,9 @@ ghost use mathlib.Core.Path.{_≡_};
 ghost use Prim.Native.Nat.{_≤_};
 ghost use lib.ListN.{length, replicate};
 ghost use Rattle.graph.specs.Limits.{atomLimit, bondLimit, fewAtoms};
-ghost use Rattle.write.specs.Write.{zeros, left, ended, graphWritten, writeOf};
+ghost use Rattle.write.specs.Write.{zeros, left, ended, graphWritten};
+ghost use Rattle.write.specs.Plain.{writePlain};
+ghost use Rattle.write.specs.Numbers.{inNumbers};
 ghost use Rattle.write.specs.Rooms.{Writable, Blank};
 use answer::Written;
 use answer::refusal;
@@ -144,7 +146,8 @@ fn write_many(atoms: &[u32], n: usize, bonds: &[u32], m: usize, out: &mut [u8]) 
 
 // Writes the graph of n atoms and m bond entries. The bytes after its line are zero; after a refusal all are.
 pub fn write(atoms: &[u32], n: usize, bonds: &[u32], m: usize, out: &mut [u8]) -> Written
-    ensures { λ r. ⌜ left r (now (out .exit)) ≡ writeOf (length (now (out .entry))) (now (atoms .entry)) n (now (bonds .entry)) m ⌝ }
+    ensures { λ r. ⌜ inNumbers (left r (now (out .exit)))
+        ≡ inNumbers (writePlain (length (now (out .entry))) (now (atoms .entry)) n (now (bonds .entry)) m) ⌝ }
 {
     clear_bytes(out);
     if atom_room(atoms) < n {

@@ -4,7 +4,9 @@ ghost use Prim.Native.Nat.{_-_, _≤_};
 ghost use lib.ListN.{length};
 ghost use Rattle.graph.specs.Limits.{atomLimit, bondLimit};
 ghost use Rattle.write.specs.Write.{zeros};
-ghost use Rattle.write.specs.Order.{lowered, concluded, graphOrdered, orderRoom, orderOf};
+ghost use Rattle.write.specs.Order.{lowered, concluded, graphOrdered, orderRoom};
+ghost use Rattle.write.specs.Plain.{orderPlain};
+ghost use Rattle.write.specs.Numbers.{orderInNumbers};
 ghost use Rattle.write.specs.Order as made;
 use crate::answer::Written;
 use crate::answer::refusal;
@@ -123,7 +125,8 @@ pub fn order(
     number: &mut [u32],
     back: &mut [u32],
 ) -> Written
-    ensures { λ r. ⌜ made.order r (now (walked .exit)) (now (number .exit)) (now (back .exit)) ≡ orderOf (length (now (walked .entry))) (length (now (number .entry))) (length (now (back .entry))) (now (atoms .entry)) n (now (bonds .entry)) m ⌝ }
+    ensures { λ r. ⌜ orderInNumbers (made.order r (now (walked .exit)) (now (number .exit)) (now (back .exit)))
+        ≡ orderInNumbers (orderPlain (length (now (walked .entry))) (length (now (number .entry))) (length (now (back .entry))) (now (atoms .entry)) n (now (bonds .entry)) m) ⌝ }
 {
     let room = order_room(atoms, walked, number, back);
     clear_order(walked, number, back);

@@ -1,5 +1,6 @@
 -- What the write call leaves, and the report of its answer.
 use Rattle.export.proofs.Reports.{write-parts}
+use Rattle.write.proofs.One.{same-left}
 use borrow.Author.Needs.{needs}
 use Rattle.export.proofs.mavisdrok_write.Statement.{statement}
 use Rattle.export.proofs.mavisdrok_write.Tie as tie
@@ -20,7 +21,7 @@ same-length-2 : tie.Need-same-length-2
 same-length-2 c = search needs
 
 returns : tie.Need-returns
-returns c = write-parts _ _ _ _ _ _ (c .before .before .before .before .before .before .before .write .ensures) (c .before .before .before .of-written .ensures) (c .before .before .lay .ensures)
+returns c = write-parts _ _ _ _ _ _ (same-left _ _ (c .before .before .before .before .before .before .before .write .ensures)) (c .before .before .before .of-written .ensures) (c .before .before .lay .ensures)
 
 pub mavisdrok-write-spec : {M : Type 1} → statement M
 mavisdrok-write-spec =

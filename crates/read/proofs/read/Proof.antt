@@ -4,6 +4,7 @@ use mathlib.Core.Path.{ap, sym, _∙_}
 use lib.ListN.{replicate}
 use borrow.Author.Tests.{lt-ltb, le-ltb}
 use Rattle.read.specs.Line.{lineOf}
+use Rattle.read.specs.Numbers.{inNumbers}
 use borrow.Author.Needs.{needs}
 use Rattle.read.proofs.read.Statement.{statement}
 use Rattle.read.proofs.read.Tie as tie
@@ -51,7 +52,7 @@ same-length-4 c = search needs
 
 returns-2 : tie.Need-returns-2
 unfolding lineOf
-returns-2 c = c .before .before .before .before .read-few .ensures ∙ simp (le-ltb _ _ (c .before .before .before .before .before .before .before .before .before .before .before .if1 .left), c .before .before .before .before .before .before .before .before .before .before .before .before .before .before .before .before .before .before .clear .kept .0, c .before .before .before .before .before .before .before .before .before .before .before .before .before .before .clear2 .kept .0)
+returns-2 c = ap inNumbers (c .before .before .before .before .read-few .ensures ∙ simp (le-ltb _ _ (c .before .before .before .before .before .before .before .before .before .before .before .if1 .left), c .before .before .before .before .before .before .before .before .before .before .before .before .before .before .before .before .before .before .clear .kept .0, c .before .before .before .before .before .before .before .before .before .before .before .before .before .before .clear2 .kept .0))
 
 read-many-requires : tie.Need-read-many-requires
 read-many-requires c κs =
@@ -69,7 +70,7 @@ same-length-6 c = search needs
 
 returns-3 : tie.Need-returns-3
 unfolding lineOf
-returns-3 c = c .before .before .before .before .read-many .ensures ∙ simp (le-ltb _ _ (c .before .before .before .before .before .before .before .before .before .before .before .if1 .left), c .before .before .before .before .before .before .before .before .before .before .before .before .before .before .before .before .before .before .clear .kept .0, c .before .before .before .before .before .before .before .before .before .before .before .before .before .before .clear2 .kept .0)
+returns-3 c = ap inNumbers (c .before .before .before .before .read-many .ensures ∙ simp (le-ltb _ _ (c .before .before .before .before .before .before .before .before .before .before .before .if1 .left), c .before .before .before .before .before .before .before .before .before .before .before .before .before .before .before .before .before .before .clear .kept .0, c .before .before .before .before .before .before .before .before .before .before .before .before .before .before .clear2 .kept .0))
 
 pub read-spec : {M : Type 1} → statement M
 read-spec =

@@ -3,6 +3,7 @@ use lib.ListN.{length}
 use borrow.Author.Needs.{needs}
 use Rattle.write.proofs.Ends.{zeros-self}
 use Rattle.write.proofs.Calls.{order-13, order-14, order-17, order-all}
+use Rattle.write.proofs.One.{order-promised}
 use Rattle.write.proofs.order.order.Statement.{statement}
 use Rattle.write.proofs.order.order.Tie as tie
 
@@ -22,7 +23,7 @@ same-length-3 : tie.Need-same-length-3
 same-length-3 c = search needs
 
 returns : tie.Need-returns
-returns c = order-13 _ _ _ _ _ _ _ _ _ _ _ (c .before .before .before .before .before .before .before .before .before .before .before .order-room .ensures .0) (c .before .before .before .before .before .before .before .clear-order .ensures .0) (c .before .before .before .before .before .before .before .clear-order .ensures .1) (c .before .before .before .before .before .before .before .clear-order .ensures .2) (c .if1 .taken)
+returns c = order-promised _ _ _ _ _ _ _ _ (order-13 _ _ _ _ _ _ _ _ _ _ _ (c .before .before .before .before .before .before .before .before .before .before .before .order-room .ensures .0) (c .before .before .before .before .before .before .before .clear-order .ensures .0) (c .before .before .before .before .before .before .before .clear-order .ensures .1) (c .before .before .before .before .before .before .before .clear-order .ensures .2) (c .if1 .taken))
 
 bond-room-requires : tie.Need-bond-room-requires
 bond-room-requires c κs = search needs
@@ -37,7 +38,7 @@ same-length-6 : tie.Need-same-length-6
 same-length-6 c = search needs
 
 returns-2 : tie.Need-returns-2
-returns-2 c = order-14 _ _ _ _ _ _ _ _ _ _ _ (c .before .before .before .before .before .before .before .before .before .before .before .before .before .order-room .ensures .0) (c .before .before .before .before .before .before .before .before .before .clear-order .ensures .0) (c .before .before .before .before .before .before .before .before .before .clear-order .ensures .1) (c .before .before .before .before .before .before .before .before .before .clear-order .ensures .2) _ 0 (c .before .before .if1 .left) (c .before .bond-room .ensures) (c .if2 .taken)
+returns-2 c = order-promised _ _ _ _ _ _ _ _ (order-14 _ _ _ _ _ _ _ _ _ _ _ (c .before .before .before .before .before .before .before .before .before .before .before .before .before .order-room .ensures .0) (c .before .before .before .before .before .before .before .before .before .clear-order .ensures .0) (c .before .before .before .before .before .before .before .before .before .clear-order .ensures .1) (c .before .before .before .before .before .before .before .before .before .clear-order .ensures .2) _ 0 (c .before .before .if1 .left) (c .before .bond-room .ensures) (c .if2 .taken))
 
 judge-requires : tie.Need-judge-requires
 judge-requires c κs = search needs
@@ -55,7 +56,7 @@ same-length-9 : tie.Need-same-length-9
 same-length-9 c = search needs
 
 returns-3 : tie.Need-returns-3
-returns-3 c = order-17 _ _ _ _ _ _ _ _ _ _ _ (c .before .before .before .before .before .before .before .before .before .before .before .before .before .before .before .order-room .ensures .0) (c .before .before .before .before .before .before .before .before .before .before .before .clear-order .ensures .0) (c .before .before .before .before .before .before .before .before .before .before .before .clear-order .ensures .1) (c .before .before .before .before .before .before .before .before .before .before .before .clear-order .ensures .2) _ _ (c .before .before .before .before .if1 .left) (c .before .before .before .bond-room .ensures) (c .before .before .if2 .left) (c .before .judge .ensures) (c .if3 .taken)
+returns-3 c = order-promised _ _ _ _ _ _ _ _ (order-17 _ _ _ _ _ _ _ _ _ _ _ (c .before .before .before .before .before .before .before .before .before .before .before .before .before .before .before .order-room .ensures .0) (c .before .before .before .before .before .before .before .before .before .before .before .clear-order .ensures .0) (c .before .before .before .before .before .before .before .before .before .before .before .clear-order .ensures .1) (c .before .before .before .before .before .before .before .before .before .before .before .clear-order .ensures .2) _ _ (c .before .before .before .before .if1 .left) (c .before .before .before .bond-room .ensures) (c .before .before .if2 .left) (c .before .judge .ensures) (c .if3 .taken))
 
 order-graph-requires : tie.Need-order-graph-requires
 order-graph-requires c κs = (search needs, search needs, zeros-self (length (c .before .before .before .before .before .before .before .before .before .before .before .before .before .before .before .before .before .before .before .before .before .before .before .before .before .before .before .args .walked .now)) (c .before .before .before .before .before .before .before .before .before .before .before .before .before .before .clear-order .ensures .0), zeros-self (length (c .before .before .before .before .before .before .before .before .before .before .before .before .before .before .before .before .before .before .before .before .before .before .before .before .before .before .before .args .number .now)) (c .before .before .before .before .before .before .before .before .before .before .before .before .before .before .clear-order .ensures .1), zeros-self (length (c .before .before .before .before .before .before .before .before .before .before .before .before .before .before .before .before .before .before .before .before .before .before .before .before .before .before .before .args .back .now)) (c .before .before .before .before .before .before .before .before .before .before .before .before .before .before .clear-order .ensures .2))
@@ -70,7 +71,7 @@ same-length-12 : tie.Need-same-length-12
 same-length-12 c = search needs
 
 returns-4 : tie.Need-returns-4
-returns-4 c = order-all _ _ _ _ _ _ _ _ _ _ _ (c .before .before .before .before .before .before .before .before .before .before .before .before .before .before .before .before .before .before .before .before .before .before .before .before .before .order-room .ensures .0) (c .before .before .before .before .before .before .before .before .before .before .before .before .before .before .before .before .before .before .before .before .before .clear-order .ensures .0) (c .before .before .before .before .before .before .before .before .before .before .before .before .before .before .before .before .before .before .before .before .before .clear-order .ensures .1) (c .before .before .before .before .before .before .before .before .before .before .before .before .before .before .before .before .before .before .before .before .before .clear-order .ensures .2) _ _ (c .before .before .before .before .before .before .before .before .before .before .before .before .before .before .if1 .left) (c .before .before .before .before .before .before .before .before .before .before .before .before .before .bond-room .ensures) _ (c .before .before .before .before .before .before .before .before .before .before .before .before .if2 .left) (c .before .before .before .before .before .before .before .before .before .before .before .judge .ensures) (c .before .before .before .before .before .before .before .before .before .before .if3 .left) (c .before .before .before .before .before .before .order-graph .ensures)
+returns-4 c = order-promised _ _ _ _ _ _ _ _ (order-all _ _ _ _ _ _ _ _ _ _ _ (c .before .before .before .before .before .before .before .before .before .before .before .before .before .before .before .before .before .before .before .before .before .before .before .before .before .order-room .ensures .0) (c .before .before .before .before .before .before .before .before .before .before .before .before .before .before .before .before .before .before .before .before .before .clear-order .ensures .0) (c .before .before .before .before .before .before .before .before .before .before .before .before .before .before .before .before .before .before .before .before .before .clear-order .ensures .1) (c .before .before .before .before .before .before .before .before .before .before .before .before .before .before .before .before .before .before .before .before .before .clear-order .ensures .2) _ _ (c .before .before .before .before .before .before .before .before .before .before .before .before .before .before .if1 .left) (c .before .before .before .before .before .before .before .before .before .before .before .before .before .bond-room .ensures) _ (c .before .before .before .before .before .before .before .before .before .before .before .before .if2 .left) (c .before .before .before .before .before .before .before .before .before .before .before .judge .ensures) (c .before .before .before .before .before .before .before .before .before .before .if3 .left) (c .before .before .before .before .before .before .order-graph .ensures))
 
 pub order-spec : {M : Type 1} → statement M
 order-spec =

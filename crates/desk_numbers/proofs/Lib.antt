@@ -1,0 +1,2 @@
+-- What holds of every promise.
+pub mod One
