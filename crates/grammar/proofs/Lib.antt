@@ -1,5 +1,5 @@
--- The reader's definition held against the grammar: the claims are in Verdict, Open, Departures, Meant and Otherwise, and unique in
--- Reading.
+-- The reader's definition held against the grammar: the claims are in Verdict, Open and Departures, and unique in Reading. What the
+-- read call answers is said above, in opensmiles_laws.
 pub mod Machine
 pub mod Sound
 pub mod Table
@@ -19,6 +19,3 @@ pub mod Verdict
 pub mod First
 pub mod Open
 pub mod Departures
-pub mod Joined
-pub mod Meant
-pub mod Otherwise

@@ -2,4 +2,3 @@ pub mod Names
 pub mod Grammar
 pub mod Lines
 pub mod OpenSmiles
-pub mod Molecule

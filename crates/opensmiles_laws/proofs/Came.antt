@@ -21,13 +21,13 @@ use Rattle.read.specs.Read.{Said, said, refusalOf, builtAnswer}
 use Rattle.read.specs.Line.{refusing, wholeOf, graphOf, lineOf}
 use Rattle.grammar.specs.Grammar.{meaning}
 use Rattle.grammar.specs.Lines.{Bytes, Clean}
-use Rattle.grammar.specs.Molecule.{Molecule, moleculeIn, asHeld, told, next, tellAll, moleculeOf, numbered, ringed, closed}
+use Rattle.opensmiles_laws.specs.Molecule.{Molecule, asHeld, told, next, tellAll, moleculeOf, numbered, ringed, closed}
 use Rattle.grammar.proofs.Verdict.{sound, read-tree}
-use Rattle.grammar.proofs.Meant.{atomsIn}
+use Rattle.opensmiles_laws.proofs.Held.{atomsIn}
 use Rattle.opensmiles_laws.specs.Stops.{placesIn, slotsIn, Turnable, wrong, deep, Passes, Runs, Stops, Fails, fails, Disagree, begun}
 use Rattle.opensmiles_laws.specs.Stops as stops
 use Rattle.opensmiles_laws.specs.Answers.{Whole, Roomy, DoneAs, doneSaid, OpenAs, DisagreeAs}
-use Rattle.opensmiles_laws.proofs.Steps.{Told}
+use Rattle.opensmiles_laws.proofs.Steps.{moleculeIn, Told}
 use Rattle.opensmiles_laws.proofs.Trace.{Ran, stopped, ran, broke, none-told, runs-stops, stops-one, text-ran}
 use Rattle.opensmiles_laws.proofs.Room.{roomy-runs, runs-roomy}
 

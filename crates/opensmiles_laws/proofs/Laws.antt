@@ -19,11 +19,11 @@ use Rattle.read.specs.Line.{refusing, lineOf}
 use Rattle.grammar.specs.Lines.{Bytes, Spelled, Viable, Refused, Late, lateMissing, Verdict, reads, refuses, refusesLate, nests, Clean, Ends, Nests}
 use Rattle.grammar.specs.Lines as lines
 use Rattle.grammar.specs.Grammar.{meaning}
-use Rattle.grammar.specs.Molecule.{Molecule, asHeld, next}
+use Rattle.opensmiles_laws.specs.Molecule.{Molecule, asHeld, next}
 use Rattle.grammar.proofs.Verdict.{verdict, clean-meaning, read-tree, snoc-last, character-is, refused-is, late-told, end-is, ended-is, nest-is}
 use Rattle.opensmiles_laws.specs.Stops.{placesIn, slotsIn, Meets, no-place, no-slots, not-turned, no-slot, not-turned-after, ends, wrong, deep, Passes, counted, Runs, Stops, begun}
-use Rattle.opensmiles_laws.specs.Telling.{HasTold, Shallow, Deepest, Tells, a-line, to-wrong, to-end, to-deep, MissesAt, wrong-here, wrong-late, MissesMore, ends-here, ends-late}
-use Rattle.opensmiles_laws.specs.Answers.{Exactly, DoneAs, doneSaid, OpenAs, DisagreeAs, Free, WrongAs, EndsAs, NestsAs, StopsAs, When, AnsweredExactly, DoneTables, ZeroTables}
+use Rattle.opensmiles_laws.specs.Telling.{HasTold, Shallow, FirstDeep, Tells, a-line, to-wrong, to-end, to-deep, MissesAt, wrong-here, wrong-late, MissesMore, ends-here, ends-late}
+use Rattle.opensmiles_laws.specs.Answers.{Exactly, DoneAs, doneSaid, OpenAs, DisagreeAs, Free, WrongAs, EndsAs, NestsAs, StopsAs, When, AnsweredExactly, SaidAs, said-done, said-not, SaidExactly}
 use Rattle.opensmiles_laws.proofs.Deep.{deep-nests, tidy-parse, tidy-miss, tidy-nest}
 use Rattle.opensmiles_laws.proofs.Telling.{told-one}
 use Rattle.opensmiles_laws.proofs.Spoken.{Final, Spoken, wrong-spoken, ends-spoken, deep-spoken, at-spoken, more-spoken}
@@ -133,8 +133,8 @@ module _ (s : List ℕ) (h : Bytes s) (la lb : ℕ) where
       let g : Miss x ≡ Nest (v .0) = snoc-last before (v .1 .0) (Miss x) (Nest (v .0)) (sym i ∙ v .1 .1) in
       let z : _≡_ {A = ℕ} 0 1 = cc in omega arith
 
-  first-deep : (n : ℕ) (before : List Event) → parse s ≡ before ++ (Nest n ∷ []) → Deepest s n
-  unfolding Ends Deepest
+  first-deep : (n : ℕ) (before : List Event) → parse s ≡ before ++ (Nest n ∷ []) → FirstDeep s n
+  unfolding Ends FirstDeep
   first-deep n before i m d =
       let v = deep-nests s h m d in
       let g : Nest n ≡ Nest (v .0) = snoc-last before (v .1 .0) (Nest n) (Nest (v .0)) (sym i ∙ v .1 .1) in
@@ -237,7 +237,7 @@ module _ (s : List ℕ) (h : Bytes s) (la lb : ℕ) where
   end-ends _ (ends-late m r l i) f = subst (λ (x : Missing). Ends (parse s) (Miss x)) i (or-nests (Miss (lateMissing m (r .behind))) (late-told s h m r l) f)
 
   nest-ends : (n : ℕ) (w : NestsAs s la lb n) → Ends (parse s) (Nest n)
-  unfolding Deepest
+  unfolding FirstDeep
   nest-ends n w =
       let v = deep-nests s h n (w .deep) in
       let e : v .0 ≡ n = omega (arith, v .2, w .first (v .0) (nest-is s h (v .0) (v .1))) in
@@ -282,18 +282,40 @@ pub answered-exactly : AnsweredExactly
 answered-exactly s h la lb a = (λ e. subst (When s la lb) e (came-when s h la lb (lineOf s la lb) (came s h la lb)), when-said s h la lb a)
 
 -- with these tables
-pub done-tables : DoneTables
+pub done-tables : (s : List ℕ) (la lb : ℕ) (ns : List Node) → DoneAs s la lb ns → lineOf s la lb ≡ doneSaid la lb ns
 done-tables s la lb ns w = came-said s la lb (doneSaid la lb ns) (done ns w)
 
-pub zero-tables : ZeroTables
-zero-tables s h la lb a e f = by (lineOf s la lb) (came s h la lb) e
-  where
-    by : (x : Said) → Came s la lb x → x .answer ≡ a → x ≡ refusing a la lb
-    by _ (long l) i = ap (λ (c : Answer). refusing c la lb) i
-    by _ (halts short b q) i = ap (λ (c : Answer). refusing c la lb) i
-    by _ (disagrees x y w) i = ap (λ (c : Answer). refusing c la lb) i
-    by _ (opens j w) i = ap (λ (c : Answer). refusing c la lb) i
-    by _ (done ns w) i = absurd (f (length ns) (countOf ns) (sym i))
+module _ (s : List ℕ) (h : Bytes s) (la lb : ℕ) where
+  -- what is not done leaves zeros
+  zeros : (x : Said) → Came s la lb x → ((n m : ℕ) → ¬ (x .answer ≡ answer.Done n m)) → x ≡ refusing (x .answer) la lb
+  zeros _ (long l) f = refl
+  zeros _ (halts short b q) f = refl
+  zeros _ (disagrees x y w) f = refl
+  zeros _ (opens j w) f = refl
+  zeros _ (done ns w) f = absurd (f (length ns) (countOf ns) refl)
+
+  not-done : (a : Answer) → ((n m : ℕ) → ¬ (a ≡ answer.Done n m)) → When s la lb a → lineOf s la lb ≡ refusing a la lb
+  not-done a f w =
+      let e : lineOf s la lb .answer ≡ a = answered-exactly s h la lb a .1 w in
+      zeros (lineOf s la lb) (came s h la lb) (λ n m g. f n m (sym e ∙ g)) ∙ ap (λ (c : Answer). refusing c la lb) e
+
+  stops-undone : (b : Answer) (n m : ℕ) → b ≡ answer.Done n m → ¬ Stops (placesIn la) (slotsIn lb) begun 0 (parse s) b
+  unfolding Kind
+  stops-undone b n m e q = subst (Kind (q .event)) e (meets-kind (placesIn la) (slotsIn lb) _ _ (q .event) b (q .meets))
+
+  as-said : (x : Said) → Came s la lb x → SaidAs s la lb x
+  as-said _ (long l) = said-not (answer.TextTooLong (length s)) (λ n m g. let z : _≡_ {A = ℕ} 0 1 = cc in omega arith) (came-when s h la lb _ (long l))
+  as-said _ (halts short b q) = said-not b (λ n m g. stops-undone b n m g q) (came-when s h la lb _ (halts short b q))
+  as-said _ (disagrees x y w) = said-not (answer.Join x y) (λ n m g. let z : _≡_ {A = ℕ} 0 1 = cc in omega arith) (came-when s h la lb _ (disagrees x y w))
+  as-said _ (opens j w) = said-not (answer.Rnum j) (λ n m g. let z : _≡_ {A = ℕ} 0 1 = cc in omega arith) (came-when s h la lb _ (opens j w))
+  as-said _ (done ns w) = said-done ns w
+
+  said-by : (x : Said) → SaidAs s la lb x → lineOf s la lb ≡ x
+  said-by _ (said-done ns w) = done-tables s la lb ns w
+  said-by _ (said-not a f w) = not-done a f w
+
+pub said-exactly : SaidExactly
+said-exactly s h la lb x = (λ e. subst (SaidAs s la lb) e (as-said s h la lb (lineOf s la lb) (came s h la lb)), said-by s h la lb x)
 
 -- a text has one answer
 pub when-one : (s : List ℕ) → Bytes s → (la lb : ℕ) (a b : Answer) → When s la lb a → When s la lb b → a ≡ b

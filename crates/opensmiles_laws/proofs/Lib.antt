@@ -1,4 +1,6 @@
 -- The read call's answers held to the grammar.
+pub mod Held
+pub mod Joined
 pub mod Marks
 pub mod Steps
 pub mod Trace
@@ -10,3 +12,4 @@ pub mod Spoken
 pub mod Laws
 pub mod Meant
 pub mod Samples
+pub mod Otherwise

@@ -1,7 +1,8 @@
 -- A mark that can't be turned is one that the reader refuses to turn; and what an event that has room passes. Assumes nothing.
 use Prim.Native.Nat.{ℕ, _+_, _<_, _≤_}
-use mathlib.Core.Path.{_≡_, refl}
+use mathlib.Core.Path.{_≡_, refl, sym, ap, _∙_, subst}
 use mathlib.Core.Bool.{Bool, true, false}
+use mathlib.Core.List.{List, [], _∷_, _++_}
 use mathlib.Core.Option.{Option, none, some}
 use native.Mathlib.Omega.{arith}
 use lib.Dec.{eqb}
@@ -17,8 +18,9 @@ use Rattle.reader.specs.declared.lead.Lead.the-variants.{Dot, Bond}
 use Rattle.reader.specs.Events.{Event, Enter, Join, Pop, Miss, Nest}
 use Rattle.sketch.specs.Sketch.{countOf}
 use Rattle.read.specs.declared.Answer.{Answer}
-use Rattle.grammar.specs.Molecule.{Molecule, asHeld, told}
-use Rattle.opensmiles_laws.specs.Stops.{Unturnable, unturnable, Meets, no-place, no-slots, not-turned, no-slot, not-turned-after, ends, wrong, deep, Passes}
+use Rattle.read.specs.declared.Answer.the-variants as answer
+use Rattle.opensmiles_laws.specs.Molecule.{Molecule, asHeld, told}
+use Rattle.opensmiles_laws.specs.Stops.{Unturnable, unturnable, Meets, no-place, no-slots, not-turned, no-slot, not-turned-after, ends, wrong, deep, Passes, counted, countAll, Marked, Turnable, Stops}
 
 pub by-equal : {A : Type 0} (P : A → Type 0) (q : Bool) {x y : A} → (q ≡ true → P x) → (q ≡ false → P y) → P (pick q x y)
 by-equal P true f g = f refl
@@ -122,3 +124,88 @@ meets-one p l _ _ _ _ _ (not-turned-after n e k at u) (not-turned-after _ _ _ _ 
 meets-one p l _ _ _ _ _ (ends o n) (ends _ _) = refl
 meets-one p l _ _ _ _ _ (wrong o n at) (wrong _ _ _) = refl
 meets-one p l _ _ _ _ _ (deep o n at) (deep _ _ _) = refl
+
+-- ---- no mark that has to be turned can't be: atom by atom
+unfoldable pub Turns : List Event → Type 0
+Turns [] = Unit {0}
+Turns (Enter Dot k at ∷ es) = Turns es
+Turns (Enter (Bond e) k at ∷ es) = ¬ Unturnable k × Turns es
+Turns (Join e r at ∷ es) = Turns es
+Turns (Pop i ∷ es) = Turns es
+Turns (Miss x ∷ es) = Turns es
+Turns (Nest at ∷ es) = Turns es
+
+pub turns-after : (e : Event) (es : List Event) → Turns (e ∷ es) → Turns es
+unfolding Turns
+turns-after (Enter Dot k at) es h = h
+turns-after (Enter (Bond e) k at) es h = h .1
+turns-after (Join e r at) es h = h
+turns-after (Pop i) es h = h
+turns-after (Miss x) es h = h
+turns-after (Nest at) es h = h
+
+turns-there : (before : List Event) (e : BondKind) (k : AtomKind) (at : ℕ) (after : List Event) → Turns (before ++ (Enter (Bond e) k at ∷ after)) → ¬ Unturnable k
+unfolding Turns
+turns-there [] e k at after h = h .0
+turns-there (b ∷ before) e k at after h = turns-there before e k at after (turns-after b (before ++ (Enter (Bond e) k at ∷ after)) h)
+
+pub turns-turnable : (es : List Event) → Turns es → Turnable es
+unfolding Turnable
+turns-turnable es h n m = turns-there (m .before) (m .bond) (m .kind) (m .at) (m .after) (subst Turns (m .is) h) (m .mark)
+
+marked-here : (e : BondKind) (k : AtomKind) (at : ℕ) (es : List Event) → Unturnable k → Marked (Enter (Bond e) k at ∷ es) 0
+unfolding countAll
+marked-here e k at es u = record { before = []; bond = e; kind = k; at = at; after = es; is = refl; number = refl; mark = u }
+
+marked-later : (e : Event) (es : List Event) (n : ℕ) (m : Marked es n) → Marked (e ∷ es) (countAll 0 (e ∷ m .before))
+marked-later e es n m =
+    record { before = e ∷ m .before; bond = m .bond; kind = m .kind; at = m .at; after = m .after; is = ap (λ (x : List Event). e ∷ x) (m .is); number = refl; mark = m .mark }
+
+turnable-after : (e : Event) (es : List Event) → Turnable (e ∷ es) → Turnable es
+unfolding Turnable
+turnable-after e es h n m = h (countAll 0 (e ∷ m .before)) (marked-later e es n m)
+
+turnable-here : (e : BondKind) (k : AtomKind) (at : ℕ) (es : List Event) → Turnable (Enter (Bond e) k at ∷ es) → ¬ Unturnable k
+unfolding Turnable
+turnable-here e k at es h u = h 0 (marked-here e k at es u)
+
+pub turnable-turns : (es : List Event) → Turnable es → Turns es
+unfolding Turns
+turnable-turns [] h = tt
+turnable-turns (Enter Dot k at ∷ es) h = turnable-turns es (turnable-after (Enter Dot k at) es h)
+turnable-turns (Enter (Bond e) k at ∷ es) h = (turnable-here e k at es h, turnable-turns es (turnable-after (Enter (Bond e) k at) es h))
+turnable-turns (Join e r at ∷ es) h = turnable-turns es (turnable-after (Join e r at) es h)
+turnable-turns (Pop i ∷ es) h = turnable-turns es (turnable-after (Pop i) es h)
+turnable-turns (Miss x ∷ es) h = turnable-turns es (turnable-after (Miss x) es h)
+turnable-turns (Nest at ∷ es) h = turnable-turns es (turnable-after (Nest at) es h)
+
+-- where it stops at a mark, that atom has one that can't be turned
+At : ℕ → Event → Answer → Type 0
+At n e (answer.Done i j) = Unit {0}
+At n e answer.EndOfLine = Unit {0}
+At n e (answer.Character i) = Unit {0}
+At n e (answer.Join x y) = Unit {0}
+At n e (answer.Rnum j) = Unit {0}
+At n e (answer.Inversion i) = (b : BondKind) × (k : AtomKind) × (at : ℕ) × (e ≡ Enter (Bond b) k at) × (n ≡ i) × Unturnable k
+At n e (answer.TextTooLong i) = Unit {0}
+At n e (answer.AtomRoom at) = Unit {0}
+At n e (answer.BondRoom at) = Unit {0}
+At n e (answer.Nesting i) = Unit {0}
+At n e answer.NoAtom = Unit {0}
+
+meets-at : (p l : ℕ) (o : Option Molecule) (n : ℕ) (e : Event) (a : Answer) → Meets p l o n e a → At n e a
+unfolding At
+meets-at p l _ _ _ _ (no-place m n k at c h) = tt
+meets-at p l _ _ _ _ (no-slots m n e k at g z) = tt
+meets-at p l _ _ _ _ (not-turned m n e k at g z u) = (e, k, at, refl, refl, u)
+meets-at p l _ _ _ _ (no-slot m x n e r at h g) = tt
+meets-at p l _ _ _ _ (not-turned-after n e k at u) = (e, k, at, refl, refl, u)
+meets-at p l _ _ _ _ (ends o n) = tt
+meets-at p l _ _ _ _ (wrong o n at) = tt
+meets-at p l _ _ _ _ (deep o n at) = tt
+
+pub stops-marked : (p l : ℕ) (o : Option Molecule) (es : List Event) (n : ℕ) → Stops p l o 0 es (answer.Inversion n) → Marked es n
+unfolding At
+stops-marked p l o es n s =
+    let m = meets-at p l _ _ (s .event) (answer.Inversion n) (s .meets) in
+    record { before = s .before; bond = m .0; kind = m .1; at = m .2; after = s .after; is = s .is ∙ ap (λ (x : Event). s .before ++ (x ∷ s .after)) (m .3); number = m .4; mark = m .5 }

@@ -17,13 +17,15 @@ use Rattle.read.specs.declared.Answer.the-variants as answer
 use Rattle.read.specs.Line.{refusing, lineOf}
 use Rattle.grammar.specs.Grammar.{spell, meaning}
 use Rattle.grammar.specs.OpenSmiles.{Chain, chainS, says, Small, FitsChain}
-use Rattle.grammar.specs.Molecule.{Molecule, asHeld, tellAll, moleculeOf, neighbours, Allowed, Meant, HeldFor}
-use Rattle.grammar.proofs.Reading.{unique}
-use Rattle.grammar.proofs.Spelling.{spelled-bytes}
+use Rattle.opensmiles_laws.specs.Molecule.{Molecule, asHeld, tellAll, moleculeOf, neighbours, Allowed, Meant, HeldFor}
+use Rattle.grammar.proofs.Reading.{unique, complete}
+use Rattle.grammar.proofs.NotSmall.{open-read}
+use Rattle.grammar.proofs.Spelling.{spelled-bytes, chain-bytes}
 use Rattle.grammar.proofs.Open.{open-says, strict-open}
-use Rattle.grammar.proofs.Meant.{meant-held, held-meant}
+use Rattle.opensmiles_laws.proofs.Held.{meant-held, held-meant}
 use Rattle.opensmiles_laws.specs.Stops.{placesIn, slotsIn, Runs, Stops, begun}
-use Rattle.opensmiles_laws.specs.Answers.{DoneAs, doneSaid, When, MeantIsRead, MeantSaid, done, too-long, no-place, no-slot, not-turned, MeantIsAnswered, ReadIsMeant}
+use Rattle.opensmiles_laws.specs.Answers.{DoneAs, doneSaid, When, MeantIsRead, MeantSaid, done, too-long, no-place, no-slot, not-turned, MeantIsAnswered, BigIsRefused, ReadIsMeant}
+use Rattle.opensmiles_laws.proofs.Marks.{stops-marked}
 use Rattle.opensmiles_laws.proofs.Room.{roomy-runs, Excess, stopped-excess}
 use Rattle.opensmiles_laws.proofs.Room as room
 use Rattle.opensmiles_laws.proofs.Trace.{Ran, stopped, ran, broke, text-ran}
@@ -62,18 +64,18 @@ module _ (u : Chain) (small : Small u) (fits : FitsChain branchLimit u) (meant :
   read-so : length (chainS u) ≤ textLimit → Runs (placesIn la) (slotsIn lb) begun 0 (parse (chainS u)) → lineOf (chainS u) la lb ≡ doneSaid la lb (held .0 .atoms)
   read-so short r = done-by (chainS u) la lb short (held .0) made r (held .2)
 
-  excess : (a : Answer) → Excess (placesIn la) (slotsIn lb) (held .0) (says u) a → MeantSaid u meant la lb (refusing a la lb)
-  excess _ (room.places at h) = no-place at (omega (arith, h, as-many .0))
-  excess _ (room.slots at h) = no-slot at (omega (arith, h, as-many .1))
-  excess _ (room.marks n h) = not-turned n h
+  excess : (a : Answer) → Stops (placesIn la) (slotsIn lb) begun 0 (says u) a → Excess (placesIn la) (slotsIn lb) (held .0) (says u) a → MeantSaid u meant la lb (refusing a la lb)
+  excess _ q (room.places at h) = no-place at (omega (arith, h, as-many .0))
+  excess _ q (room.slots at h) = no-slot at (omega (arith, h, as-many .1))
+  excess _ q (room.marks n) = not-turned n (stops-marked (placesIn la) (slotsIn lb) begun (says u) n q)
 
   answered : MeantSaid u meant la lb (lineOf (chainS u) la lb)
   answered = by (ltb textLimit (length (chainS u))) refl
     where
       within : length (chainS u) ≤ textLimit → Ran (placesIn la) (slotsIn lb) begun 0 (parse (chainS u)) (sketchOf (chainS u) la lb) → MeantSaid u meant la lb (lineOf (chainS u) la lb)
       within short (stopped a q t) =
-          subst (MeantSaid u meant la lb) (sym (halts-by (chainS u) la lb short a q))
-          (excess a (stopped-excess (placesIn la) (slotsIn lb) (says u) (held .0) (held .1) a (subst (λ (es : List Event). Stops (placesIn la) (slotsIn lb) begun 0 es a) said-so q)))
+          let r = subst (λ (es : List Event). Stops (placesIn la) (slotsIn lb) begun 0 es a) said-so q in
+          subst (MeantSaid u meant la lb) (sym (halts-by (chainS u) la lb short a q)) (excess a r (stopped-excess (placesIn la) (slotsIn lb) (says u) (held .0) (held .1) a r))
       within short (ran r z f v t) = subst (MeantSaid u meant la lb) (sym (read-so short r)) (done (held .0 .atoms) (held .3))
       within short (broke x y r z f g t) = clash-some _ (held .0) t made
 
@@ -91,6 +93,12 @@ meant-is-read u small fits short meant m la lb places slots marks =
 
 pub meant-is-answered : MeantIsAnswered
 meant-is-answered u small fits meant m la lb = answered u small fits meant m la lb
+
+pub big-is-refused : BigIsRefused
+big-is-refused u big la lb n m e =
+    let w : (ns : List Node) × DoneAs (chainS u) la lb ns × (n ≡ length ns) × (m ≡ countOf ns) = unfold When in (answered-exactly (chainS u) (chain-bytes u) la lb (answer.Done n m) .0 e) in
+    let t = w .1 .line .tree in
+    big (open-read (spell t) u t (sym (w .1 .line .spelled)) (complete t) .0)
 
 pub read-is-meant : ReadIsMeant
 read-is-meant t strict la lb n m e =

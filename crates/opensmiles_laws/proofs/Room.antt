@@ -20,9 +20,9 @@ use Rattle.sketch.specs.Sketch.{To, Node, Held, edge, node, countOf, upd, looku
 use Rattle.sketch.proofs.Rows.{upd-length, count-append, count-add, count-fill}
 use Rattle.read.specs.declared.Answer.{Answer}
 use Rattle.read.specs.declared.Answer.the-variants as answer
-use Rattle.grammar.specs.Molecule.{Molecule, placed, closed, ringed, numbered, asHeld, told, next, tellAll, moleculeOf}
+use Rattle.opensmiles_laws.specs.Molecule.{Molecule, placed, closed, ringed, numbered, asHeld, told, next, tellAll, moleculeOf}
 use Rattle.opensmiles_laws.specs.Stops.{Unturnable, Turnable, Meets, no-place, no-slots, not-turned, no-slot, not-turned-after, ends, wrong, deep, Passes, counted, Runs, Stops, begun}
-use Rattle.opensmiles_laws.proofs.Marks.{dot-passes, bond-passes, join-passes, pop-passes}
+use Rattle.opensmiles_laws.proofs.Marks.{Turns, turns-after, turns-turnable, turnable-turns, dot-passes, bond-passes, join-passes, pop-passes}
 use Rattle.opensmiles_laws.proofs.Trace.{none-told, split, stops-none}
 
 -- ---- what one event adds
@@ -168,17 +168,8 @@ grows-all (e ∷ es) m w h t =
     counts (Nest at) n = unfold counted in omega arith
 
 module _ (p l : ℕ) where
-  turn-first : (e : Event) (es : List Event) → Turnable (e ∷ es) → Turnable es
-  unfolding Turnable
-  turn-first (Enter Dot k at) es h = h
-  turn-first (Enter (Bond e) k at) es h = h .1
-  turn-first (Join e r at) es h = h
-  turn-first (Pop i) es h = h
-  turn-first (Miss x) es h = h
-  turn-first (Nest at) es h = h
-
-  fits-passes : (e : Event) (es : List Event) (m x : Molecule) → told asHeld m e ≡ some x → Grown m e x → length (x .atoms) ≤ p → countOf (x .atoms) ≤ l → Turnable (e ∷ es) → Passes p l (some m) (length (m .atoms)) e
-  unfolding counted adds Turnable told
+  fits-passes : (e : Event) (es : List Event) (m x : Molecule) → told asHeld m e ≡ some x → Grown m e x → length (x .atoms) ≤ p → countOf (x .atoms) ≤ l → Turns (e ∷ es) → Passes p l (some m) (length (m .atoms)) e
+  unfolding counted adds Turns told
   fits-passes (Enter Dot k at) es m x t g f c u = dot-passes p l m (length (m .atoms)) k at (omega (arith, g .number, f))
   fits-passes (Enter (Bond e) k at) es m x t g f c u = bond-passes p l m (length (m .atoms)) e k at (omega (arith, g .number, f)) (omega (arith, g .entries, c)) (u .0)
   fits-passes (Join e r at) es m x t g f c u = join-passes p l m (length (m .atoms)) e r at (λ y h. omega (arith, g .entries, c))
@@ -186,7 +177,7 @@ module _ (p l : ℕ) where
   fits-passes (Miss y) es m x t g f c u = let z : _≡_ {A = ℕ} 0 1 = cc in absurd (omega arith)
   fits-passes (Nest at) es m x t g f c u = let z : _≡_ {A = ℕ} 0 1 = cc in absurd (omega arith)
 
-  room-runs : (es : List Event) (m w : Molecule) → InPath (length (m .atoms)) (m .path) → tellAll asHeld (some m) es ≡ some w → length (w .atoms) ≤ p → countOf (w .atoms) ≤ l → Turnable es
+  room-runs : (es : List Event) (m w : Molecule) → InPath (length (m .atoms)) (m .path) → tellAll asHeld (some m) es ≡ some w → length (w .atoms) ≤ p → countOf (w .atoms) ≤ l → Turns es
       → Runs p l (some m) (length (m .atoms)) es
   unfolding Runs
   room-runs [] m w h t f c u = tt
@@ -194,14 +185,14 @@ module _ (p l : ℕ) where
       let i = first-some e es m w t in
       let g = grown m e (i .0) h (i .1) in
       let r = grows-all es (i .0) w (g .within) (i .2) in
-      let q = room-runs es (i .0) w (g .within) (i .2) f c (turn-first e es u) in (
+      let q = room-runs es (i .0) w (g .within) (i .2) f c (turns-after e es u) in (
         fits-passes e es m (i .0) (i .1) g (omega (arith, r .0, f)) (omega (arith, r .1, c)) u,
         subst (λ (o : Option Molecule). Runs p l o (counted (length (m .atoms)) e) es) (sym (next-told m (i .0) e (i .1))) (subst (λ (n : ℕ). Runs p l (some (i .0)) n es) (g .number) q),
       )
 
   -- and the other way
-  passes-fits : (e : Event) (es : List Event) (m x : Molecule) → told asHeld m e ≡ some x → Grown m e x → length (m .atoms) ≤ p → countOf (m .atoms) ≤ l → Passes p l (some m) (length (m .atoms)) e → (length (x .atoms) ≤ p) × (countOf (x .atoms) ≤ l) × (Turnable es → Turnable (e ∷ es))
-  unfolding counted adds Turnable told
+  passes-fits : (e : Event) (es : List Event) (m x : Molecule) → told asHeld m e ≡ some x → Grown m e x → length (m .atoms) ≤ p → countOf (m .atoms) ≤ l → Passes p l (some m) (length (m .atoms)) e → (length (x .atoms) ≤ p) × (countOf (x .atoms) ≤ l) × (Turns es → Turns (e ∷ es))
+  unfolding counted adds Turns told
   passes-fits (Enter Dot k at) es m x t g f c q = (omega (arith, g .number, pass-place p l m (length (m .atoms)) Dot k at q), omega (arith, g .entries, c), λ u. u)
   passes-fits (Enter (Bond e) k at) es m x t g f c q =
       (omega (arith, g .number, pass-place p l m (length (m .atoms)) (Bond e) k at q), omega (arith, g .entries, pass-slots p l m (length (m .atoms)) e k at q), λ u. (pass-mark p l m (length (m .atoms)) e k at q, u))
@@ -211,8 +202,8 @@ module _ (p l : ℕ) where
   passes-fits (Nest at) es m x t g f c q = let z : _≡_ {A = ℕ} 0 1 = cc in absurd (omega arith)
 
   runs-room : (es : List Event) (m w : Molecule) → InPath (length (m .atoms)) (m .path) → length (m .atoms) ≤ p → countOf (m .atoms) ≤ l → Runs p l (some m) (length (m .atoms)) es → tellAll asHeld (some m) es ≡ some w
-      → (length (w .atoms) ≤ p) × (countOf (w .atoms) ≤ l) × Turnable es
-  unfolding Runs tellAll Turnable
+      → (length (w .atoms) ≤ p) × (countOf (w .atoms) ≤ l) × Turns es
+  unfolding Runs tellAll Turns
   runs-room [] m w h f c q t = let g : m ≡ w = cc in subst (λ (x : Molecule). (length (x .atoms) ≤ p) × (countOf (x .atoms) ≤ l) × Unit {0}) g (f, c, tt)
   runs-room (e ∷ es) m w h f c q t =
       let i = first-some e es m w t in
@@ -226,19 +217,19 @@ module _ (p l : ℕ) where
   pub data Excess (w : Molecule) (es : List Event) : Answer → Type 0 where
     places : (at : ℕ) → p < length (w .atoms) → Excess w es (answer.AtomRoom at)
     slots : (at : ℕ) → l < countOf (w .atoms) → Excess w es (answer.BondRoom at)
-    marks : (n : ℕ) → ¬ Turnable es → Excess w es (answer.Inversion n)
+    marks : (n : ℕ) → Excess w es (answer.Inversion n)
 
   excess-on : (w : Molecule) (e : Event) (es : List Event) (a : Answer) → Excess w es a → Excess w (e ∷ es) a
   excess-on w e es _ (places at h) = places at h
   excess-on w e es _ (slots at h) = slots at h
-  excess-on w e es _ (marks n h) = marks n (λ u. h (turn-first e es u))
+  excess-on w e es _ (marks n) = marks n
 
   meets-excess : (e : Event) (es : List Event) (m x w : Molecule) (n : ℕ) (a : Answer) (o : Option Molecule) → o ≡ some m → n ≡ length (m .atoms) → told asHeld m e ≡ some x → Grown m e x → length (x .atoms) ≤ length (w .atoms) → countOf (x .atoms) ≤ countOf (w .atoms)
       → Meets p l o n e a → Excess w (e ∷ es) a
-  unfolding counted adds Turnable told
+  unfolding counted adds Turns told
   meets-excess _ es m x w _ _ _ i j t g f c (no-place y n b k at h) = places at (omega (arith, g .number, f, h, j))
   meets-excess _ es m x w _ _ _ i j t g f c (no-slots y n e k at h s) = let v : y ≡ m = cc in slots at (omega (arith, g .entries, c, s, ap (λ (z : Molecule). countOf (z .atoms)) v))
-  meets-excess _ es m x w _ _ _ i j t g f c (not-turned y n e k at h s u) = marks n (λ v. v .0 u)
+  meets-excess _ es m x w _ _ _ i j t g f c (not-turned y n e k at h s u) = marks n
   meets-excess _ es m x w _ _ _ i j t g f c (no-slot y z n e r at h s) = let v : y ≡ m = cc in slots at (omega (arith, g .entries, c, s, ap (λ (z : Molecule). countOf (z .atoms)) v))
   meets-excess _ es m x w _ _ _ i j t g f c (not-turned-after n e k at u) = let z : _≡_ {A = ℕ} 0 1 = cc in absurd (omega arith)
   meets-excess _ es m x w _ _ _ i j t g f c (ends o n) = let z : _≡_ {A = ℕ} 0 1 = cc in absurd (omega arith)
@@ -264,11 +255,11 @@ module _ (p l : ℕ) where
 module _ (p l : ℕ) (es : List Event) (w : Molecule) (t : moleculeOf asHeld es ≡ some w) where
   pub roomy-runs : length (w .atoms) ≤ p → countOf (w .atoms) ≤ l → Turnable es → Runs p l begun 0 es
   unfolding moleculeOf InPath
-  roomy-runs = room-runs p l es _ w tt t
+  roomy-runs f c u = room-runs p l es _ w tt t f c (turnable-turns es u)
 
   pub runs-roomy : Runs p l begun 0 es → (length (w .atoms) ≤ p) × (countOf (w .atoms) ≤ l) × Turnable es
   unfolding moleculeOf InPath countOf
-  runs-roomy q = runs-room p l es _ w tt (omega arith) (omega arith) q t
+  runs-roomy q = let r = runs-room p l es _ w tt (omega arith) (omega arith) q t in (r .0, r .1, turns-turnable es (r .2))
 
   pub stopped-excess : (a : Answer) → Stops p l begun 0 es a → Excess p l w es a
   unfolding moleculeOf InPath

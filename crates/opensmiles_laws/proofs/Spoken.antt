@@ -20,7 +20,7 @@ use Rattle.grammar.proofs.Reading.{zero-state, reached, through-viable, viable-
 use Rattle.grammar.proofs.Link.{told, halt, deep, onward, refusal, full, parse-full}
 use Rattle.grammar.proofs.Depth.{Fit, fit-next, fit-first}
 use Rattle.grammar.proofs.Verdict.{nest-is}
-use Rattle.opensmiles_laws.specs.Telling.{HasTold, Shallow, Deepest, MissesAt, wrong-here, wrong-late, MissesMore, ends-here, ends-late}
+use Rattle.opensmiles_laws.specs.Telling.{HasTold, Shallow, FirstDeep, MissesAt, wrong-here, wrong-late, MissesMore, ends-here, ends-late}
 use Rattle.opensmiles_laws.proofs.Deep.{Fitting, fitting, Nested, fit-full}
 use Rattle.opensmiles_laws.proofs.Telling.{has-told}
 
@@ -96,8 +96,8 @@ module _ (s : List ℕ) (h : Bytes s) where
       by (inr y) =
           record { told = told u; last = Miss missing.EndOfLine; tells = has-told s u e; is = y .1 ∙ (unfold full in rw (unended (ending u) (ending-ok u)) (unfold halt in refl)); final = unfold Final in tt }
 
-  pub deep-spoken : (n : ℕ) (d : TooDeep s n) → Deepest s n → Spoken s (d .before)
-  unfolding Deepest
+  pub deep-spoken : (n : ℕ) (d : TooDeep s n) → FirstDeep s n → Spoken s (d .before)
+  unfolding FirstDeep
   deep-spoken n d first = by (through (d .before) (d .byte ∷ d .behind) u (d .is) e)
     where
       v : (u : State) × (steps zero-state (d .before) ≡ some u)

@@ -24,11 +24,15 @@ use Rattle.sketch.proofs.Rows.{upd-length}
 use Rattle.read.specs.declared.Answer.{Answer}
 use Rattle.read.specs.declared.Answer.the-variants as answer
 use Rattle.read.specs.Read.{refusalOf}
-use Rattle.grammar.specs.Molecule.{Molecule, molecule, moleculeIn, placed, agreed, closed, ringed, numbered, turnedOr, asHeld, told}
-use Rattle.grammar.proofs.Joined.{ends, reconciled}
+use Rattle.opensmiles_laws.specs.Molecule.{Molecule, molecule, placed, agreed, closed, ringed, numbered, turnedOr, asHeld, told}
+use Rattle.opensmiles_laws.proofs.Joined.{ends, reconciled}
 use Rattle.opensmiles_laws.specs.Stops.{Meets, no-place, no-slots, not-turned, no-slot, not-turned-after, wrong, deep, Passes, counted, Fails, fails}
 use Rattle.opensmiles_laws.specs.Stops as stops
 use Rattle.opensmiles_laws.proofs.Marks.{by-equal, refused-unturnable, turned-turnable, dot-passes, bond-passes, join-passes, pop-passes, dot-after, bond-after, join-after}
+
+-- the molecule in a graph in the making
+abbrev pub moleculeIn : Sketch → Molecule
+moleculeIn d = molecule (d .nodes) (d .path) (d .opens) (d .joins)
 
 -- a graph that goes on: its atoms are the molecule's, so many stand on the path
 pub record Beside (p l : ℕ) (d : Sketch) (n depth : ℕ) : Type 0 where

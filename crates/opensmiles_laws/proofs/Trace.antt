@@ -15,10 +15,10 @@ use Rattle.reader.specs.Parse.{parse}
 use Rattle.sketch.specs.Sketch.{None, Failed, Sketch, startS, stepS, runS, sketchOf}
 use Rattle.read.specs.declared.Answer.{Answer}
 use Rattle.read.proofs.Never.{Sound, parse-sound}
-use Rattle.grammar.specs.Molecule.{Molecule, moleculeIn, asHeld, told, next, tellAll}
+use Rattle.opensmiles_laws.specs.Molecule.{Molecule, asHeld, told, next, tellAll}
 use Rattle.opensmiles_laws.specs.Stops.{placesIn, slotsIn, Meets, Passes, counted, countAll, Runs, Stops, Fails, fails, Disagree, begun}
 use Rattle.opensmiles_laws.proofs.Marks.{meets-one}
-use Rattle.opensmiles_laws.proofs.Steps.{Beside, Broken, Told, Stepped, halts, passes, breaks, Numb, dot-step, bond-step, number-step, pop-step, miss-step, nest-step, numb-step}
+use Rattle.opensmiles_laws.proofs.Steps.{moleculeIn, Beside, Broken, Told, Stepped, halts, passes, breaks, Numb, dot-step, bond-step, number-step, pop-step, miss-step, nest-step, numb-step}
 use Rattle.opensmiles_laws.proofs.Steps as numb
 
 -- ---- the first event and the others

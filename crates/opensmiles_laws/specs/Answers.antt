@@ -1,5 +1,6 @@
 -- WHAT THE READ CALL ANSWERS to a text of bytes and to tables of la and lb words: each answer by when it is given, in the words
--- of the grammar. `When` has them all; that the read call's meaning is so, exactly, is the law of this crate.
+-- of the grammar and of OpenSMILES' molecule. The read call is proved to be what `lineOf` says (crates/read), and `lineOf` is held to
+-- `When` and `SaidAs` here: exactly, so no answer is given at another time, and none is missing.
 use Prim.Native.Nat.{ℕ, _<_, _≤_}
 use mathlib.Core.Path.{_≡_}
 use mathlib.Core.List.{List}
@@ -15,24 +16,24 @@ use Rattle.read.specs.Line.{refusing, lineOf}
 use Rattle.grammar.specs.Grammar.{Line, spell, meaning}
 use Rattle.grammar.specs.Lines.{Bytes, Fits, TooDeep}
 use Rattle.grammar.specs.OpenSmiles.{Chain, chainS, says, Small, FitsChain, Strict}
-use Rattle.grammar.specs.Molecule.{Molecule, asHeld, moleculeOf, Allowed, Meant, HeldFor}
-use Rattle.opensmiles_laws.specs.Stops.{placesIn, slotsIn, Turnable, Runs, Stops, Disagree, begun}
-use Rattle.opensmiles_laws.specs.Telling.{HasTold, Shallow, Deepest, Tells, MissesAt, MissesMore}
+use Rattle.opensmiles_laws.specs.Molecule.{Molecule, asHeld, moleculeOf, Allowed, Meant, HeldFor}
+use Rattle.opensmiles_laws.specs.Stops.{placesIn, slotsIn, Turnable, Marked, Runs, Stops, Disagree, begun}
+use Rattle.opensmiles_laws.specs.Telling.{HasTold, Shallow, FirstDeep, Tells, MissesAt, MissesMore}
 
 -- each of two things implies the other
 abbrev pub Exactly : Type 0 → Type 0 → Type 0
 Exactly A B = (A → B) × (B → A)
 
 -- ---- A WHOLE LINE
--- A text within the limit that a tree spells, with at most 128 branches open at once.
+-- A text within the limit that a tree spells, with at most 128 branches open at once. No text is the spelling of two trees.
 pub record Whole (s : List ℕ) : Type 0 where
   pub short : length s ≤ textLimit
   pub tree : Line
   pub spelled : spell tree ≡ s
   pub shallow : Fits branchLimit tree
 
--- Its tree's molecule, as it is held: the two ends of each ring bond agree. There is room for its atoms and entries, and no mark
--- that has to be turned can't be.
+-- Its tree has a molecule, so the two ends of each closed ring agree; these are its atoms, as they are held. There is room for them
+-- and for their entries, and no mark that has to be turned can't be.
 pub record Roomy (t : Line) (la lb : ℕ) (ns : List Node) : Type 0 where
   pub whole : Molecule
   pub is : moleculeOf asHeld (meaning t) ≡ some whole
@@ -47,11 +48,7 @@ pub record DoneAs (s : List ℕ) (la lb : ℕ) (ns : List Node) : Type 0 where
   pub roomy : Roomy (line .tree) la lb ns
   pub closed : firstOpenS ns ≡ none
 
--- what is then said: how many atoms and entries there are, and their tables, with zeros after them
-abbrev pub doneSaid : ℕ → ℕ → List Node → Said
-doneSaid la lb ns = said (answer.Done (length ns) (countOf ns)) (padded la (atomTable ns)) (padded lb (bondTable ns))
-
--- 4: all this, but a ring is open, the first by its entry being that of the join j
+-- 4: all this, but a ring is open; of the open entries, atoms in order and entries in order, the first is that of the join j
 pub record OpenAs (s : List ℕ) (la lb j : ℕ) : Type 0 where
   pub line : Whole s
   pub atoms : List Node
@@ -90,7 +87,7 @@ pub record EndsAs (s : List ℕ) (la lb : ℕ) : Type 0 where
 pub record NestsAs (s : List ℕ) (la lb n : ℕ) : Type 0 where
   pub short : length s ≤ textLimit
   pub deep : TooDeep s n
-  pub first : Deepest s n
+  pub first : FirstDeep s n
   pub free : Free (deep .before) la lb
 
 -- 10, 13, 14: of all that the text tells, the first event that meets anything meets this
@@ -118,12 +115,19 @@ When s la lb answer.NoAtom = ⊥
 abbrev pub AnsweredExactly : Type 0
 AnsweredExactly = (s : List ℕ) → Bytes s → (la lb : ℕ) (a : Answer) → Exactly (lineOf s la lb .answer ≡ a) (When s la lb a)
 
--- with these tables: a line that is done leaves its atoms' and entries', whatever else is answered leaves zeros
-abbrev pub DoneTables : Type 0
-DoneTables = (s : List ℕ) (la lb : ℕ) (ns : List Node) → DoneAs s la lb ns → lineOf s la lb ≡ doneSaid la lb ns
+-- ---- WITH WHICH TABLES
+-- Of a line that is done: how many atoms and entries there are, and their tables, with zeros after them.
+abbrev pub doneSaid : ℕ → ℕ → List Node → Said
+doneSaid la lb ns = said (answer.Done (length ns) (countOf ns)) (padded la (atomTable ns)) (padded lb (bondTable ns))
 
-abbrev pub ZeroTables : Type 0
-ZeroTables = (s : List ℕ) → Bytes s → (la lb : ℕ) (a : Answer) → lineOf s la lb .answer ≡ a → ((n m : ℕ) → ¬ (a ≡ answer.Done n m)) → lineOf s la lb ≡ refusing a la lb
+-- Of any other: its answer, and nothing but zeros.
+pub data SaidAs (s : List ℕ) (la lb : ℕ) : Said → Type 0 where
+  said-done : (ns : List Node) → DoneAs s la lb ns → SaidAs s la lb (doneSaid la lb ns)
+  said-not : (a : Answer) → ((n m : ℕ) → ¬ (a ≡ answer.Done n m)) → When s la lb a → SaidAs s la lb (refusing a la lb)
+
+-- the read call says this with these tables exactly then
+abbrev pub SaidExactly : Type 0
+SaidExactly = (s : List ℕ) → Bytes s → (la lb : ℕ) (x : Said) → Exactly (lineOf s la lb ≡ x) (SaidAs s la lb x)
 
 -- ---- WHAT OPENSMILES MEANS
 -- What OpenSMILES means by a chain whose numbers the reader has is read, as it is held, if the chain is within the limits of text
@@ -133,16 +137,21 @@ MeantIsRead = (u : Chain) → Small u → FitsChain branchLimit u → length (ch
     → (la lb : ℕ) → length meant ≤ placesIn la → countOf meant ≤ slotsIn lb → Turnable (says u)
     → (ns : List Node) × HeldFor u meant ns × (lineOf (chainS u) la lb ≡ doneSaid la lb ns) × (length ns ≡ length meant) × (countOf ns ≡ countOf meant)
 
--- and each limit that is met is one that the meant molecule, its text or a mark exceeds
+-- Within the limit of branches nothing else is answered but 12, 13, 14 and 10, each only where the text is too long, the meant
+-- molecule has more atoms than there are places or more entries than there are slots, or its atom n has such a mark.
 pub data MeantSaid (u : Chain) (meant : List Node) (la lb : ℕ) : Said → Type 0 where
   done : (ns : List Node) → HeldFor u meant ns → MeantSaid u meant la lb (doneSaid la lb ns)
   too-long : textLimit < length (chainS u) → MeantSaid u meant la lb (refusing (answer.TextTooLong (length (chainS u))) la lb)
   no-place : (at : ℕ) → placesIn la < length meant → MeantSaid u meant la lb (refusing (answer.AtomRoom at) la lb)
   no-slot : (at : ℕ) → slotsIn lb < countOf meant → MeantSaid u meant la lb (refusing (answer.BondRoom at) la lb)
-  not-turned : (n : ℕ) → ¬ Turnable (says u) → MeantSaid u meant la lb (refusing (answer.Inversion n) la lb)
+  not-turned : (n : ℕ) → Marked (says u) n → MeantSaid u meant la lb (refusing (answer.Inversion n) la lb)
 
 abbrev pub MeantIsAnswered : Type 0
 MeantIsAnswered = (u : Chain) → Small u → FitsChain branchLimit u → (meant : List Node) → Meant u meant → (la lb : ℕ) → MeantSaid u meant la lb (lineOf (chainS u) la lb)
+
+-- A chain with a number that the reader has not is never read.
+abbrev pub BigIsRefused : Type 0
+BigIsRefused = (u : Chain) → ¬ Small u → (la lb n m : ℕ) → ¬ (lineOf (chainS u) la lb .answer ≡ answer.Done n m)
 
 -- What is read of a strict line is what OpenSMILES means by it, as it is held, unless OpenSMILES forbids the graph.
 abbrev pub ReadIsMeant : Type 0

@@ -18,7 +18,7 @@ use Rattle.reader.specs.Events.{Event, Enter, Join, Pop, Miss, Nest}
 use Rattle.sketch.specs.Sketch.{Held, countOf, lookup, openKind, edgesAt}
 use Rattle.read.specs.declared.Answer.{Answer}
 use Rattle.read.specs.declared.Answer.the-variants as answer
-use Rattle.grammar.specs.Molecule.{Molecule, molecule, agreed, asHeld, told, next, tellAll}
+use Rattle.opensmiles_laws.specs.Molecule.{Molecule, molecule, agreed, asHeld, told, next, tellAll}
 
 -- ---- ROOM
 -- how many atoms there is a place for in a table of so many words, and how many bond entries there is a slot for
@@ -33,16 +33,6 @@ slotsIn lb = lesserOf bondLimit (lb / bondWords)
 pub data Unturnable : AtomKind → Type 0 where
   unturnable : (b : BracketAtom) → ¬ (b .configuration ≡ noConfiguration) → ¬ (b .configuration ≡ th1) → ¬ (b .configuration ≡ th2)
       → ¬ (b .hydrogens ≡ noHydrogens) → ¬ (b .hydrogens ≡ 0) → Unturnable (Bracket b)
-
--- no atom that is bonded to the one before it has such a mark
-unfoldable pub Turnable : List Event → Type 0
-Turnable [] = Unit {0}
-Turnable (Enter Dot k at ∷ es) = Turnable es
-Turnable (Enter (Bond e) k at ∷ es) = ¬ Unturnable k × Turnable es
-Turnable (Join e r at ∷ es) = Turnable es
-Turnable (Pop i ∷ es) = Turnable es
-Turnable (Miss x ∷ es) = Turnable es
-Turnable (Nest at ∷ es) = Turnable es
 
 -- ---- WHAT AN EVENT MEETS
 -- The events before it made a molecule, or none since the two ends of a ring bond didn't agree; and they named n atoms. At an
@@ -74,6 +64,21 @@ counted n (Nest at) = n
 unfoldable pub countAll : ℕ → List Event → ℕ
 countAll n [] = n
 countAll n (e ∷ es) = countAll (counted n e) es
+
+-- The atom of this number is bonded to one before it and has a mark that can't be turned.
+pub record Marked (es : List Event) (n : ℕ) : Type 0 where
+  pub before : List Event
+  pub bond : BondKind
+  pub kind : AtomKind
+  pub at : ℕ
+  pub after : List Event
+  pub is : es ≡ before ++ (Enter (Bond bond) kind at ∷ after)
+  pub number : countAll 0 before ≡ n
+  pub mark : Unturnable kind
+
+-- No mark that has to be turned can't be.
+unfoldable pub Turnable : List Event → Type 0
+Turnable es = (n : ℕ) → ¬ Marked es n
 
 -- none of them meets anything
 unfoldable pub Runs : ℕ → ℕ → Option Molecule → ℕ → List Event → Type 0

@@ -30,13 +30,13 @@ pub data HasTold (p : List ℕ) (es : List Event) : Type 0 where
   nothing : ((m : Making) (v : List ℕ) → ¬ (p ≡ makingS m ++ v)) → es ≡ [] → HasTold p es
   so-far : (m : Making) (v : List ℕ) → p ≡ makingS m ++ v → ((n : Making) (w : List ℕ) → p ≡ makingS n ++ w → length (makingS n) ≤ length (makingS m)) → es ≡ makingE [] dot m → HasTold p es
 
--- The text is not refused for its nesting.
+-- It goes too deep nowhere.
 unfoldable pub Shallow : List ℕ → Type 0
 Shallow s = (m : ℕ) → ¬ TooDeep s m
 
--- It goes too deep at a place, and nowhere before.
-unfoldable pub Deepest : List ℕ → ℕ → Type 0
-Deepest s n = (m : ℕ) → TooDeep s m → n ≤ m
+-- Where it goes too deep it does so here or later.
+unfoldable pub FirstDeep : List ℕ → ℕ → Type 0
+FirstDeep s n = (m : ℕ) → TooDeep s m → n ≤ m
 
 -- All that a text tells: a line within the limit tells its meaning; another text what it has told before the byte that is wrong,
 -- before its end, or before the "(" that is too many.
@@ -44,14 +44,16 @@ pub data Tells (s : List ℕ) (es : List Event) : Type 0 where
   a-line : (t : Line) → spell t ≡ s → Fits branchLimit t → es ≡ meaning t → Tells s es
   to-wrong : (n : ℕ) (r : Refused s n) → Shallow s → HasTold (r .before) es → Tells s es
   to-end : Viable s → ¬ Spelled s → Shallow s → HasTold s es → Tells s es
-  to-deep : (n : ℕ) (d : TooDeep s n) → Deepest s n → HasTold (d .before) es → Tells s es
+  to-deep : (n : ℕ) (d : TooDeep s n) → FirstDeep s n → HasTold (d .before) es → Tells s es
 
--- A character is missing at n, after so much of the text: the text is wrong there; or one byte before, and the place is a late one.
+-- A character is missing at n, after so much of the text: the text is wrong there; or one byte before, and the place is a late one
+-- (departure "late place").
 pub data MissesAt (s : List ℕ) (n : ℕ) : List ℕ → Type 0 where
   wrong-here : (r : Refused s n) → ¬ Late r → MissesAt s n (r .before)
   wrong-late : (m : ℕ) (r : Refused s m) → Late r → lateMissing m (r .behind) ≡ Character n → MissesAt s n (r .before)
 
--- The end came too soon: the whole text can begin a line and is none; or its last byte is wrong, and the place is a late one.
+-- The end came too soon: the whole text can begin a line and is none; or its last byte is wrong, and the place is a late one
+-- (departure "late place, at the end").
 pub data MissesMore (s : List ℕ) : List ℕ → Type 0 where
   ends-here : Viable s → ¬ Spelled s → MissesMore s s
   ends-late : (m : ℕ) (r : Refused s m) → Late r → lateMissing m (r .behind) ≡ EndOfLine → MissesMore s (r .before)

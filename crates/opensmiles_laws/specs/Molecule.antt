@@ -1,6 +1,7 @@
--- What OpenSMILES makes of a line: its atoms, each with its neighbours in the order in which the line names them, and what it
+-- WHAT OPENSMILES MEANS BY A LINE: its atoms, each with its neighbours in the order in which the line names them, and what it
 -- forbids of them; and where the graph that is read departs from that, each departure by its name in the list of differences.
--- Written from a summary of its rules: the joining without the rooms, refusals and failures that the sketch of a graph has beside.
+-- Written from a summary of its rules, without rooms and refusals. A bond that is not written stays elided here: that it is single,
+-- or aromatic between two aromatic atoms, is not said.
 use Prim.Native.Nat.{ℕ, _+_, _≤_}
 use mathlib.Core.Path.{_≡_}
 use mathlib.Core.List.{List, [], _∷_, _++_}
@@ -15,13 +16,11 @@ use Rattle.feature.specs.declared.atom_kind.Inverted.{Inverted}
 use Rattle.feature.specs.declared.atom_kind.Inverted.the-variants.{Turned, Refused}
 use Rattle.feature.specs.declared.bond_kind.BondKind.{BondKind}
 use Rattle.feature.specs.declared.bond_kind.BondKind.the-variants.{Elided, Double}
-use Rattle.graph.specs.State.{inversion, atomRoom, bondRoom}
 use Rattle.reader.specs.declared.lead.Lead.{Lead}
 use Rattle.reader.specs.declared.lead.Lead.the-variants.{Dot, Bond}
 use Rattle.reader.specs.Events.{Event, Enter, Join, Pop, Miss, Nest}
-use Rattle.sketch.specs.Sketch.{To, Open, Edge, Node, Held, None, Failed, Sketch, edge, node, held, upd, edgesAt, addEdge, openKind, fill, lookup, without, leads, firstOpenS, sketchOf, finishS}
+use Rattle.sketch.specs.Sketch.{To, Open, Edge, Node, Held, edge, node, held, upd, edgesAt, addEdge, openKind, fill, lookup, without, leads, firstOpenS}
 use Rattle.grammar.specs.OpenSmiles.{Chain, says}
-use Rattle.build.specs.declared.Built.the-variants.{Done}
 
 -- ---- A MOLECULE IN THE MAKING
 -- The atoms with their neighbours; the atoms that the next one may follow, the last first; the ring numbers used once; how many
@@ -45,7 +44,8 @@ placed m (Bond e) k (s ∷ at) =
     (length (m .atoms) ∷ s ∷ at) (m .opens) (m .joins))
 
 -- The two ends of a ring bond: either may be elided; if neither is, each is the other as seen from its own end. The bond is
--- given as seen from the opening atom.
+-- given as seen from the opening atom. Departure "single and direction": "-" at one end and "/" or "\\" at the other are both
+-- single bonds, and may be taken to agree; here, as in the reader, they don't. Smallest lines: C/1CC-1, C-1CC/1.
 unfoldable pub agreed : BondKind → BondKind → Option BondKind
 agreed k l =
     pick (same k Elided) (some (reverseOf l))
@@ -73,13 +73,16 @@ numbered m e n [] = none
 numbered m e n (s ∷ at) = ringed m e n s (lookup n (m .opens))
 
 -- ---- HOW AN ATOM IS HELD
--- OpenSMILES: as it is written.
+-- OpenSMILES: as it is written. Departure "H0": it means by "[CH0]" what it means by "[C]"; here, as in the reader, the two are
+-- two kinds.
 unfoldable pub asWritten : Lead → AtomKind → AtomKind
 asWritten l k = k
 
 -- Departure "TH marks": an atom that bears hydrogen and follows another is held with the other mark. OpenSMILES' "@" speaks of
--- the neighbours in the order atom before, hydrogen, others; the held mark of the order hydrogen, atom before, others. Without
--- hydrogen, or with no atom before, the two orders are one, and no mark changes.
+-- the neighbours in the order atom before, hydrogen, others; the held mark of the order hydrogen, atom before, others: with one
+-- hydrogen these two marks say the same. Without hydrogen, or with no atom before, the two orders are one, and no mark changes.
+-- Departure "TH marks, two hydrogens": past two hydrogens the atom before would keep its mark, and it is turned all the same.
+-- Smallest line: C[C@H2]F.
 unfoldable pub turnedOr : AtomKind → Inverted → AtomKind
 turnedOr k (Turned j) = j
 turnedOr k Refused = k
@@ -166,36 +169,10 @@ pub record Meant (u : Chain) (ns : List Node) : Type 0 where
   pub rings : firstOpenS ns ≡ none
   pub allowed : Allowed ns
 
--- ---- WHAT IS READ
--- A text is read into tables of so many words: its atoms with their bond entries. The limit of the text is no part of this: what
--- the read call answers is said in opensmiles_laws.
-pub record ReadAs (s : List ℕ) (la lb : ℕ) (ns : List Node) : Type 0 where
-  pub accepted : sketchOf s la lb .refusal ≡ 0
-  pub done : finishS (sketchOf s la lb) ≡ Done
-  pub nodes : sketchOf s la lb .nodes ≡ ns
-
+-- ---- WHAT IS HELD OF IT
 -- What is held of a chain beside what is meant by it: the same neighbours; the kinds as they are held, where they are meant as
 -- they are written.
 pub record HeldFor (u : Chain) (meant ns : List Node) : Type 0 where
   pub around : neighbours ns ≡ neighbours meant
   pub here : kinds ns ≡ kindsTold asHeld (says u)
   pub there : kinds meant ≡ kindsTold asWritten (says u)
-
--- Where the reader stops and OpenSMILES doesn't: the room for atoms (13) and for bond entries (14) is limited; and departure "mark
--- not turned" (10): where a mark other than TH1 and TH2 would have to be turned, the line is refused. Smallest line: C[C@SP1H].
--- These are the numbers; when each is met is said in opensmiles_laws (`Meets`).
-pub data Limited : ℕ → Type 0 where
-  no-place : Limited atomRoom
-  no-slot : Limited bondRoom
-  not-turned : Limited inversion
-
--- A line in the reading, beside its molecule: nothing is refused, the ring bonds' ends agree, and the graph's atoms are the
--- molecule's; or two ends don't agree, or something is missing, and there is no molecule; or a limit is met.
-abbrev pub moleculeIn : Sketch → Molecule
-moleculeIn d = molecule (d .nodes) (d .path) (d .opens) (d .joins)
-
-pub data Alike (d : Sketch) : Option Molecule → Type 0 where
-  alike : d .refusal ≡ 0 → d .failure ≡ None → d .unseen ≡ 0 → Alike d (some (moleculeIn d))
-  disagree : (x y : ℕ) → d .failure ≡ Failed x y → Alike d none
-  missing : ¬ (d .refusal ≡ 0) → Alike d none
-  limited : {o : Option Molecule} → Limited (d .refusal) → Alike d o

@@ -1,5 +1,5 @@
--- A LINE OF OPENSMILES IS READ AS WHAT IT MEANS, but for the departures in meaning: how a mark is held, and graphs that
--- OpenSMILES forbids. Assumes nothing.
+-- A molecule held in one way and in another: the same neighbours, and other kinds alone. So what is held of a chain is what
+-- OpenSMILES means by it. Assumes nothing.
 use Prim.Native.Nat.{ℕ, zero, suc, _+_}
 use mathlib.Core.Path.{_≡_, refl, sym, ap, _∙_, subst}
 use mathlib.Core.List.{List, [], _∷_, _++_, append-assoc, append-nil}
@@ -12,17 +12,9 @@ use Rattle.feature.specs.declared.bond_kind.BondKind.{BondKind}
 use Rattle.reader.specs.declared.lead.Lead.{Lead}
 use Rattle.reader.specs.declared.lead.Lead.the-variants.{Dot, Bond}
 use Rattle.reader.specs.Events.{Event, Enter, Join, Pop, Miss, Nest}
-use Rattle.graph.specs.Limits.{branchLimit}
-use Rattle.build.specs.declared.Built.the-variants as built
-use Rattle.sketch.specs.Sketch.{Edge, Node, Held, Failure, None, Failed, Sketch, node, upd, edgesAt, addEdge, fill, lookup, firstOpenS, ringsSay, saysS, finishS, sketchOf}
-use Rattle.grammar.specs.OpenSmiles.{Chain, chainS, says, Small, FitsChain, Strict}
-use Rattle.grammar.specs.Molecule.{Molecule, molecule, moleculeIn, placed, closed, ringed, numbered, asWritten, asHeld, told, next, tellAll, moleculeOf, neighbours, kinds, kindTold, kindsTold, Allowed, Meant, ReadAs, HeldFor, Alike, alike, disagree, missing, limited}
-use Rattle.grammar.proofs.Joined.{not-limited, says-alike}
-use Rattle.grammar.proofs.Open.{open-says, strict-open}
-use Rattle.grammar.proofs.Verdict.{read-tree}
-use Rattle.grammar.specs.Lines.{Fits}
-use Rattle.grammar.specs.Grammar.{Line, spell}
-use Rattle.reader.specs.Parse.{parse}
+use Rattle.sketch.specs.Sketch.{Edge, Node, Held, node, upd, edgesAt, addEdge, fill, lookup, firstOpenS}
+use Rattle.grammar.specs.OpenSmiles.{Chain, says}
+use Rattle.opensmiles_laws.specs.Molecule.{Molecule, molecule, placed, closed, ringed, numbered, asWritten, asHeld, told, next, tellAll, moleculeOf, neighbours, kinds, kindTold, kindsTold, Allowed, Meant, HeldFor}
 
 -- ---- a molecule without its kinds
 bare : Lead → AtomKind → AtomKind
@@ -254,52 +246,3 @@ held-meant u x i c a =
         there = molecule-kinds asWritten (says u) (o .0) (o .1);
       },
     )
-
--- ---- what is read
--- a build that is done has no failed join and no open entry
-done-closed : (f : Failure) (ns : List Node) → saysS f ns ≡ built.Done → (f ≡ None) × (firstOpenS ns ≡ none)
-unfolding saysS ringsSay
-done-closed None ns h = (refl, by (firstOpenS ns) h)
-  where
-    by : (o : Option ℕ) → ringsSay o ≡ built.Done → o ≡ none
-    by none h = refl
-    by (some j) h = absurd (let z : _≡_ {A = ℕ} 0 1 = cc in omega arith)
-done-closed (Failed x y) ns h = absurd (let z : _≡_ {A = ℕ} 0 1 = cc in omega arith)
-
-settled : (d : Sketch) (o : Option Molecule) → Alike d o → d .refusal ≡ 0 → d .failure ≡ None → o ≡ some (moleculeIn d)
-settled d _ (alike r f u) z e = refl
-settled d none (disagree x y f) z e = absurd (let w : _≡_ {A = ℕ} 0 1 = cc in omega arith)
-settled d none (missing h) z e = absurd (h z)
-settled d o (limited h) z e = absurd (not-limited (d .refusal) h z)
-
-module _ (u : Chain) (p : parse (chainS u) ≡ says u) (la lb : ℕ) where
-  read-as-meant : (ns : List Node) → ReadAs (chainS u) la lb ns → Allowed ns → (meant : List Node) × Meant u meant × HeldFor u meant ns
-  unfolding finishS
-  read-as-meant ns r a =
-      let d = sketchOf (chainS u) la lb in
-      let c = done-closed (d .failure) (d .nodes) (r .done) in
-      let i : moleculeOf asHeld (says u) ≡ some (moleculeIn d) = settled d _ (says-alike u p la lb) (r .accepted) (c .0) in
-      let o = otherwise asHeld asWritten (says u) (moleculeIn d) i in
-      let e : erase (o .0 .atoms) ≡ erase ns = o .2 ∙ ap erase (r .nodes) in (
-        o .0 .atoms,
-        record { whole = o .0; is = o .1; atoms = refl; rings = same-open (o .0 .atoms) (d .nodes) (o .2) ∙ c .1; allowed = same-allowed (o .0 .atoms) ns e a },
-        record {
-          around = same-neighbours ns (o .0 .atoms) (sym e);
-          here = ap kinds (sym (r .nodes)) ∙ molecule-kinds asHeld (says u) (moleculeIn d) i;
-          there = molecule-kinds asWritten (says u) (o .0) (o .1);
-        },
-      )
-
--- ---- THE CLAIMS, of what is read; those of what is meant, and of the read call, are in opensmiles_laws
--- What is read of a chain and is no departure in meaning is what OpenSMILES means by it, as it is held.
-pub read-meant : (u : Chain) → Small u → FitsChain branchLimit u → (la lb : ℕ) (ns : List Node) → ReadAs (chainS u) la lb ns → Allowed ns
-    → (meant : List Node) × Meant u meant × HeldFor u meant ns
-read-meant u h f la lb = read-as-meant u (open-says u h f) la lb
-
--- The same of a strict line: it is spelled as a chain of OpenSMILES, and read as what that means.
-pub strict-meant : (t : Line) → Strict t → Fits branchLimit t → (la lb : ℕ) (ns : List Node) → ReadAs (spell t) la lb ns → Allowed ns
-    → (u : Chain) × (chainS u ≡ spell t) × ((meant : List Node) × Meant u meant × HeldFor u meant ns)
-strict-meant t h f la lb ns r a =
-    let o = strict-open t h in
-    let p : parse (chainS (o .0)) ≡ says (o .0) = ap parse (o .2) ∙ read-tree t f ∙ sym (o .3) in
-    (o .0, o .2, read-as-meant (o .0) p la lb ns (subst (λ (s : List ℕ). ReadAs s la lb ns) (sym (o .2)) r) a)
