@@ -1,14 +1,16 @@
 -- OpenSMILES chains as trees of the grammar: a chain within the reader's numbers is spelled as its tree, which is strict, and
 -- each strict tree is such a chain. Assumes nothing.
-use mathlib.Core.Path.{_≡_, refl, sym, ap, _∙_}
+use mathlib.Core.Path.{_≡_, refl, sym, ap, _∙_, subst}
+use mathlib.Core.Bool.{Bool}
+use lib.Dec.{T}
 use mathlib.Core.List.{List, [], _∷_, _++_, append-assoc, append-nil}
 use mathlib.Core.Option.{Option}
 use Prim.Native.Nat.{ℕ, _≤_}
 use lib.ListN.{length}
 use native.Mathlib.Omega.{arith}
-use Rattle.grammar.specs.OpenSmiles.{Chiral′, mark′, pair′, chiralS′, SmallChiral, Charge′, neutral′, sign′, twice′, digit′, digits′, Atom′, organic′, bracket′, Rings, no-rings, and-ring, Chain, first, then, Branched, branched, Branches, no-branches, and-branch, numberS, chargeS′, classS′, atomS′, ringsS, chainS, branchedS, branchesS, SmallCharge, SmallAtom, Small, SmallBranched, SmallBranches, NoBranch, StrictAtom, Strict}
+use Rattle.grammar.specs.OpenSmiles.{arrangements, named1, named2, Chiral′, flat′, at′, atat′, code1′, code2′, pair′, chiralS′, SmallChiral, Charge′, neutral′, sign′, twice′, digit′, digits′, Atom′, organic′, bracket′, Rings, no-rings, and-ring, Chain, first, then, Branched, branched, Branches, no-branches, and-branch, numberS, chargeS′, classS′, atomS′, ringsS, chainS, branchedS, branchesS, SmallCharge, SmallAtom, Small, SmallBranched, SmallBranches, NoBranch, StrictAtom, Strict}
 use Rattle.grammar.proofs.Table.{test-yes}
-use Rattle.grammar.specs.Grammar.{Digit, Bond, Isotope, iso0, iso1, iso2, iso3, Chiral, flat, code2, valid2, chiralS, head, headS, okay1, okay2, Charge, neutral, sign, twice, num1, num2, chargeS, Map, nomap, m1, m2, m3, mapS, Atom, organic, bracket, Rnum, Link, Line, start, link, ring, branch, isotopeS, atomS, linkS, spell}
+use Rattle.grammar.specs.Grammar.{Digit, Bond, Isotope, iso0, iso1, iso2, iso3, Class, TH, AL, SP, TB, OH, most, valid1, valid2, Chiral, flat, at, atat, code1, code2, chiralS, head, headS, okay1, okay2, Charge, neutral, sign, twice, num1, num2, chargeS, Map, nomap, m1, m2, m3, mapS, Atom, organic, bracket, Rnum, Link, Line, start, link, ring, branch, isotopeS, atomS, linkS, spell}
 use Rattle.grammar.proofs.Machine.{test, done, read}
 use Rattle.grammar.proofs.Reading.{sound, complete}
 
@@ -26,7 +28,11 @@ mapOf (a ∷ b ∷ []) = m2 a b
 mapOf (a ∷ b ∷ c ∷ r) = m3 a b c
 
 unfoldable pub chiralOf : Chiral′ → Chiral
-chiralOf (mark′ c) = c
+chiralOf flat′ = flat
+chiralOf at′ = at
+chiralOf atat′ = atat
+chiralOf (code1′ k d p) = test (valid1 k d) (λ q. code1 k d q) flat
+chiralOf (code2′ k d e p) = test (valid2 k d e) (λ q. code2 k d e q) flat
 chiralOf (pair′ k w d e) = test (valid2 k d e) (λ p. code2 k d e p) flat
 
 unfoldable pub chargeOf : Charge′ → Charge
@@ -76,7 +82,11 @@ map-ok (a ∷ b ∷ c ∷ d ∷ r) h = absurd (omega arith)
 
 pub chiral-ok : (c : Chiral′) → SmallChiral c → chiralS (chiralOf c) ≡ chiralS′ c
 unfolding SmallChiral chiralOf chiralS chiralS′
-chiral-ok (mark′ c) h = refl
+chiral-ok flat′ h = refl
+chiral-ok at′ h = refl
+chiral-ok atat′ h = refl
+chiral-ok (code1′ k d p) h = rw (test-yes (valid1 k d) h (λ p. code1 k d p) flat)
+chiral-ok (code2′ k d e p) h = rw (test-yes (valid2 k d e) h (λ p. code2 k d e p) flat)
 chiral-ok (pair′ k w d e) h = rw (test-yes (valid2 k d e) h (λ p. code2 k d e p) flat)
 
 pub charge-ok : (q : Charge′) → SmallCharge q → chargeS (chargeOf q) ≡ chargeS′ q
@@ -156,10 +166,34 @@ klass (m1 a) = a ∷ []
 klass (m2 a b) = a ∷ b ∷ []
 klass (m3 a b c) = a ∷ b ∷ c ∷ []
 
+-- the templates have the same numbers in both
+pub same-last : (k : Class) → arrangements k ≡ most k
+unfolding arrangements most
+same-last TH = refl
+same-last AL = refl
+same-last SP = refl
+same-last TB = refl
+same-last OH = refl
+
+pub same1 : (k : Class) (d : Digit) → named1 k d ≡ valid1 k d
+unfolding named1 valid1
+same1 k d = rw (same-last k)
+
+pub same2 : (k : Class) (d e : Digit) → named2 k d e ≡ valid2 k d e
+unfolding named2 valid2
+same2 k d e = rw (same-last k)
+
+chiral : Chiral → Chiral′
+chiral flat = flat′
+chiral at = at′
+chiral atat = atat′
+chiral (code1 k d p) = code1′ k d (subst (λ (t : Bool). T t) (sym (same1 k d)) p)
+chiral (code2 k d e p) = code2′ k d e (subst (λ (t : Bool). T t) (sym (same2 k d e)) p)
+
 atom : (a : Atom) → StrictAtom a → Atom′
 unfolding number charge klass StrictAtom
 atom (organic o) k = organic′ o k
-atom (bracket (head i s c h) q m) k = bracket′ (number i) s (mark′ c) h k (charge q) (klass m)
+atom (bracket (head i s c h) q m) k = bracket′ (number i) s (chiral c) h k (charge q) (klass m)
 
 alone : (a : Atom) → StrictAtom a → Branched
 unfolding atom
@@ -202,10 +236,18 @@ charge-back (twice g) = refl
 charge-back (num1 g d p) = test-yes (okay1 d) p (λ p. num1 g d p) neutral
 charge-back (num2 g d e p) = test-yes (okay2 d e) p (λ p. num2 g d e p) neutral
 
+chiral-back : (c : Chiral) → chiralOf (chiral c) ≡ c
+unfolding chiral chiralOf
+chiral-back flat = refl
+chiral-back at = refl
+chiral-back atat = refl
+chiral-back (code1 k d p) = test-yes (valid1 k d) p (λ q. code1 k d q) flat
+chiral-back (code2 k d e p) = test-yes (valid2 k d e) p (λ q. code2 k d e q) flat
+
 atom-back : (a : Atom) (k : StrictAtom a) → atomOf (atom a k) ≡ a
-unfolding atom atomOf chiralOf
+unfolding atom atomOf
 atom-back (organic o) k = refl
-atom-back (bracket (head i s c h) q m) k = rw (number-back, charge-back, klass-back)
+atom-back (bracket (head i s c h) q m) k = rw (number-back, chiral-back, charge-back, klass-back)
 
 ring-back : (u : Chain) (b : Option Bond) (r : Rnum) → NoBranch (lineOf u) → lineOf (addRing u b r) ≡ ring (lineOf u) b r
 unfolding lineOf addRing ringsOf NoBranch
@@ -248,10 +290,18 @@ charge-small (twice g) = tt
 charge-small (num1 g d p) = p
 charge-small (num2 g d e p) = p
 
+chiral-small : (c : Chiral) → SmallChiral (chiral c)
+unfolding chiral SmallChiral
+chiral-small flat = tt
+chiral-small at = tt
+chiral-small atat = tt
+chiral-small (code1 k d p) = p
+chiral-small (code2 k d e p) = p
+
 atom-small : (a : Atom) (k : StrictAtom a) → SmallAtom (atom a k)
-unfolding atom SmallAtom SmallChiral
+unfolding atom SmallAtom
 atom-small (organic o) k = tt
-atom-small (bracket (head i s c h) q m) k = (number-small i, charge-small q, klass-small m, tt)
+atom-small (bracket (head i s c h) q m) k = (number-small i, charge-small q, klass-small m, chiral-small c)
 
 ring-small : (u : Chain) (b : Option Bond) (r : Rnum) → Small u → Small (addRing u b r)
 unfolding addRing Small

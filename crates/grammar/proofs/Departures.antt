@@ -1,5 +1,5 @@
--- Each departure by its name, at the smallest line that shows it: a tree that is read and is no OpenSMILES, or a chain of
--- OpenSMILES that is not read. Assumes nothing.
+-- Each departure of the text by its name, at the smallest line that shows it: a tree that is read and is no OpenSMILES, or a chain
+-- of OpenSMILES that is not read. What the read call says to each line is proved above, in opensmiles_laws. Assumes nothing.
 use Prim.Native.Nat.{ℕ}
 use mathlib.Core.Path.{_≡_, refl, sym, ap, _∙_}
 use mathlib.Core.Bool.{true, false}
@@ -12,13 +12,14 @@ use Rattle.scan.specs.declared.scanner.Missing.the-variants.{EndOfLine, Charact
 use Rattle.reader.specs.Events.{Miss}
 use Rattle.reader.specs.Parse.{parse}
 use Rattle.grammar.specs.Names.{table, without, has1, has2}
-use Rattle.grammar.specs.Grammar.{link, meaning, tells, enter, atomK, bracketK, symbolK, d0, d1, d6, value, digitS, organics, bare1, bare2, organicS, names, known, short, long, symbolS, iso0, isotopeS, flat, TB, class1, class2, valid2, chiralS, bald, H, hcountS, head, headS, plus, signS, neutral, chargeS, okay1, okay2, nomap, mapS, organic, bracket, atomS, ring1, rnumS, bond?S, elided, linkS, Line, start, ring, branch, spell}
+use Rattle.grammar.specs.Grammar.{link, meaning, tells, enter, atomK, bracketK, symbolK, Digit, d0, d1, d2, d3, d6, d9, value, digitS, organics, bare1, bare2, organicS, names, known, short, long, symbolS, iso0, isotopeS, flat, Class, TB, OH, most, class1, class2, valid2, chiralS, bald, H, hcountS, head, headS, Sign, plus, minus, signS, neutral, chargeS, okay1, okay2, nomap, mapS, organic, bracket, atomS, ring1, rnumS, bond?S, elided, linkS, Line, start, ring, branch, spell}
 use Rattle.grammar.proofs.Verdict.{read-tree}
 use Rattle.grammar.proofs.First.{after-line}
+use Rattle.grammar.proofs.Chains.{same-last}
 use Rattle.grammar.proofs.Late.{late, latePart, eaten-late}
 use Rattle.graph.specs.Limits.{branchLimit}
 use Rattle.grammar.specs.Lines.{Fits, Eaten, Late, Ends, Bytes, Refused}
-use Rattle.grammar.specs.OpenSmiles.{openOrganics, openNames, OpenOrganic, OpenSymbol, uncounted, mark′, pair′, chiralS′, paired, SmallChiral, bracket′, neutral′, digit′, digits′, no-rings, Chain, first, branched, no-branches, numberS, chargeS′, classS′, atomS′, ringsS, chainS, Small, SmallCharge, SmallAtom, Strict, StrictAtom, NoBranch, Terminator, space, tab, feed, return, terminatorS}
+use Rattle.grammar.specs.OpenSmiles.{arrangements, openOrganics, openNames, OpenOrganic, OpenSymbol, uncounted, flat′, pair′, chiralS′, paired, SmallChiral, bracket′, neutral′, digit′, digits′, no-rings, Chain, first, branched, no-branches, numberS, chargeS′, classS′, atomS′, ringsS, chainS, Small, SmallCharge, SmallAtom, Strict, StrictAtom, NoBranch, Terminator, space, tab, feed, return, terminatorS}
 use Rattle.grammar.proofs.Machine.{top, ending, digitOf, bondOf, begins, leads, bodyStep}
 use Rattle.grammar.proofs.Table.{seconds, Free, free}
 use Rattle.grammar.proofs.Link.{full, told, toldWhere, toldAround, halt, parse-full}
@@ -41,6 +42,10 @@ more-organics = refl
 pub all-organics : without openOrganics organics ≡ []
 unfolding without organics openOrganics has1 has2
 all-organics = refl
+
+-- the numbers of the templates' arrangements are the same
+pub same-arrangements : (k : Class) → arrangements k ≡ most k
+same-arrangements k = same-last k
 
 -- ---- read, and no OpenSMILES
 
@@ -160,48 +165,61 @@ ringAfter-loose h = h .1
 -- ---- OpenSMILES, and not read
 
 -- "charge zero"
-pub chargeZero : Chain
+pub chargeZero : Sign → Chain
 unfolding has1 has2 names known organics Strict StrictAtom NoBranch OpenOrganic OpenSymbol uncounted openNames openOrganics
-chargeZero = first (branched (bracket′ [] (short (byte "C") tt) (mark′ flat) bald tt (digit′ plus d0) []) no-rings no-branches)
+chargeZero g = first (branched (bracket′ [] (short (byte "C") tt) flat′ bald tt (digit′ g d0) []) no-rings no-branches)
 
-pub chargeZero-spelled : chainS chargeZero ≡ bytes "[C+0]"
+pub chargeZero-spelled : (chainS (chargeZero plus) ≡ bytes "[C+0]") × (chainS (chargeZero minus) ≡ bytes "[C-0]")
 unfolding chargeZero chainS atomS′ ringsS numberS chiralS′ chargeS′ classS′ signS spell atomS organicS headS isotopeS symbolS chiralS hcountS chargeS mapS digitS rnumS bond?S linkS
-chargeZero-spelled = refl
+chargeZero-spelled = (refl, refl)
 
-pub chargeZero-big : ¬ Small chargeZero
+pub chargeZero-big : (g : Sign) → ¬ Small (chargeZero g)
 unfolding chargeZero Small SmallAtom SmallCharge okay1 okay2 value
-chargeZero-big h = h .0 .1
+chargeZero-big g h = h .0 .1
 
 -- "charge ten"
-pub chargeTen : Chain
+pub chargeTen : Sign → Chain
 unfolding has1 has2 names known organics Strict StrictAtom NoBranch OpenOrganic OpenSymbol uncounted openNames openOrganics
-chargeTen = first (branched (bracket′ [] (short (byte "C") tt) (mark′ flat) bald tt (digits′ plus d1 d0) []) no-rings no-branches)
+chargeTen g = first (branched (bracket′ [] (short (byte "C") tt) flat′ bald tt (digits′ g d1 d0) []) no-rings no-branches)
 
-pub chargeTen-spelled : chainS chargeTen ≡ bytes "[C+10]"
+pub chargeTen-spelled : (chainS (chargeTen plus) ≡ bytes "[C+10]") × (chainS (chargeTen minus) ≡ bytes "[C-10]")
 unfolding chargeTen chainS atomS′ ringsS numberS chiralS′ chargeS′ classS′ signS spell atomS organicS headS isotopeS symbolS chiralS hcountS chargeS mapS digitS rnumS bond?S linkS
-chargeTen-spelled = refl
+chargeTen-spelled = (refl, refl)
 
-pub chargeTen-big : ¬ Small chargeTen
+pub chargeTen-big : (g : Sign) → ¬ Small (chargeTen g)
 unfolding chargeTen Small SmallAtom SmallCharge okay1 okay2 value
-chargeTen-big h = h .0 .1
+chargeTen-big g h = h .0 .1
 
 -- "charge above fifteen"
-pub chargeAbove : Chain
+pub chargeAbove : Sign → Chain
 unfolding has1 has2 names known organics Strict StrictAtom NoBranch OpenOrganic OpenSymbol uncounted openNames openOrganics
-chargeAbove = first (branched (bracket′ [] (short (byte "C") tt) (mark′ flat) bald tt (digits′ plus d1 d6) []) no-rings no-branches)
+chargeAbove g = first (branched (bracket′ [] (short (byte "C") tt) flat′ bald tt (digits′ g d1 d6) []) no-rings no-branches)
 
-pub chargeAbove-spelled : chainS chargeAbove ≡ bytes "[C+16]"
+pub chargeAbove-spelled : (chainS (chargeAbove plus) ≡ bytes "[C+16]") × (chainS (chargeAbove minus) ≡ bytes "[C-16]")
 unfolding chargeAbove chainS atomS′ ringsS numberS chiralS′ chargeS′ classS′ signS spell atomS organicS headS isotopeS symbolS chiralS hcountS chargeS mapS digitS rnumS bond?S linkS
-chargeAbove-spelled = refl
+chargeAbove-spelled = (refl, refl)
 
-pub chargeAbove-big : ¬ Small chargeAbove
+pub chargeAbove-big : (g : Sign) → ¬ Small (chargeAbove g)
 unfolding chargeAbove Small SmallAtom SmallCharge okay1 okay2 value
-chargeAbove-big h = h .0 .1
+chargeAbove-big g h = h .0 .1
+
+-- "charge with a leading zero"
+pub chargeLeading : Sign → Digit → Chain
+unfolding has1 has2 names known organics Strict StrictAtom NoBranch OpenOrganic OpenSymbol uncounted openNames openOrganics
+chargeLeading g d = first (branched (bracket′ [] (short (byte "C") tt) flat′ bald tt (digits′ g d0 d) []) no-rings no-branches)
+
+pub chargeLeading-spelled : (chainS (chargeLeading plus d1) ≡ bytes "[C+01]") × (chainS (chargeLeading minus d9) ≡ bytes "[C-09]")
+unfolding chargeLeading chainS atomS′ ringsS numberS chiralS′ chargeS′ classS′ signS spell atomS organicS headS isotopeS symbolS chiralS hcountS chargeS mapS digitS rnumS bond?S linkS
+chargeLeading-spelled = (refl, refl)
+
+pub chargeLeading-big : (g : Sign) (d : Digit) → ¬ Small (chargeLeading g d)
+unfolding chargeLeading Small SmallAtom SmallCharge okay1 okay2 value
+chargeLeading-big g d h = h .0 .1
 
 -- "long isotope"
 pub longIsotope : Chain
 unfolding has1 has2 names known organics Strict StrictAtom NoBranch OpenOrganic OpenSymbol uncounted openNames openOrganics
-longIsotope = first (branched (bracket′ (d1 ∷ d0 ∷ d0 ∷ d0 ∷ []) (short (byte "C") tt) (mark′ flat) bald tt neutral′ []) no-rings no-branches)
+longIsotope = first (branched (bracket′ (d1 ∷ d0 ∷ d0 ∷ d0 ∷ []) (short (byte "C") tt) flat′ bald tt neutral′ []) no-rings no-branches)
 
 pub longIsotope-spelled : chainS longIsotope ≡ bytes "[1000C]"
 unfolding longIsotope chainS atomS′ ringsS numberS chiralS′ chargeS′ classS′ signS spell atomS organicS headS isotopeS symbolS chiralS hcountS chargeS mapS digitS rnumS bond?S linkS
@@ -214,7 +232,7 @@ longIsotope-big h = absurd (omega (arith, h .0 .0))
 -- "long map"
 pub longMap : Chain
 unfolding has1 has2 names known organics Strict StrictAtom NoBranch OpenOrganic OpenSymbol uncounted openNames openOrganics
-longMap = first (branched (bracket′ [] (short (byte "C") tt) (mark′ flat) bald tt neutral′ (d1 ∷ d0 ∷ d0 ∷ d0 ∷ [])) no-rings no-branches)
+longMap = first (branched (bracket′ [] (short (byte "C") tt) flat′ bald tt neutral′ (d1 ∷ d0 ∷ d0 ∷ d0 ∷ [])) no-rings no-branches)
 
 pub longMap-spelled : chainS longMap ≡ bytes "[C:1000]"
 unfolding longMap chainS atomS′ ringsS numberS chiralS′ chargeS′ classS′ signS spell atomS organicS headS isotopeS symbolS chiralS hcountS chargeS mapS digitS rnumS bond?S linkS
@@ -224,18 +242,30 @@ pub longMap-big : ¬ Small longMap
 unfolding longMap Small SmallAtom SmallCharge okay1 okay2 value
 longMap-big h = absurd (omega (arith, h .0 .2))
 
--- "leading zero"
-pub leadingZero : Chain
+-- "leading zero" and "no arrangement": a template, and two digits as written
+pub afterTB : Digit → Digit → Chain
 unfolding has1 has2 names known organics Strict StrictAtom NoBranch OpenOrganic OpenSymbol uncounted openNames openOrganics paired
-leadingZero = first (branched (bracket′ [] (short (byte "C") tt) (pair′ TB tt d0 d1) bald tt neutral′ []) no-rings no-branches)
+afterTB d e = first (branched (bracket′ [] (short (byte "C") tt) (pair′ TB tt d e) bald tt neutral′ []) no-rings no-branches)
 
-pub leadingZero-spelled : chainS leadingZero ≡ bytes "[C@TB01]"
-unfolding leadingZero chainS atomS′ ringsS numberS chiralS′ chargeS′ classS′ class1 class2 symbolS hcountS digitS
-leadingZero-spelled = refl
+pub afterOH : Digit → Digit → Chain
+unfolding has1 has2 names known organics Strict StrictAtom NoBranch OpenOrganic OpenSymbol uncounted openNames openOrganics paired
+afterOH d e = first (branched (bracket′ [] (short (byte "C") tt) (pair′ OH tt d e) bald tt neutral′ []) no-rings no-branches)
 
-pub leadingZero-big : ¬ Small leadingZero
-unfolding leadingZero Small SmallAtom SmallChiral valid2 value
-leadingZero-big h = h .0 .3
+pub leadingZero-spelled : (chainS (afterTB d0 d1) ≡ bytes "[C@TB01]") × (chainS (afterOH d0 d1) ≡ bytes "[C@OH01]")
+unfolding afterTB afterOH chainS atomS′ ringsS numberS chiralS′ chargeS′ classS′ class1 class2 symbolS hcountS digitS
+leadingZero-spelled = (refl, refl)
+
+pub leadingZero-big : (d : Digit) → ¬ Small (afterTB d0 d) × (¬ Small (afterOH d0 d))
+unfolding afterTB afterOH Small SmallAtom SmallChiral valid2 value
+leadingZero-big d = (λ h. h .0 .3, λ h. h .0 .3)
+
+pub unarranged-spelled : (chainS (afterTB d0 d0) ≡ bytes "[C@TB00]") × (chainS (afterTB d2 d1) ≡ bytes "[C@TB21]") × (chainS (afterOH d3 d1) ≡ bytes "[C@OH31]")
+unfolding afterTB afterOH chainS atomS′ ringsS numberS chiralS′ chargeS′ classS′ class1 class2 symbolS hcountS digitS
+unarranged-spelled = (refl, refl, refl)
+
+pub unarranged-big : ¬ Small (afterTB d0 d0) × (¬ Small (afterTB d2 d1)) × (¬ Small (afterOH d3 d1))
+unfolding afterTB afterOH Small SmallAtom SmallChiral valid2 value most
+unarranged-big = (λ h. h .0 .3, λ h. h .0 .3, λ h. h .0 .3)
 
 -- "empty line": an empty chain is the end of the line
 pub empty-line : parse [] ≡ Miss EndOfLine ∷ []

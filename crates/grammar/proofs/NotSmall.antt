@@ -14,8 +14,8 @@ use Rattle.grammar.proofs.Machine.{Part, isotope, signed, charge1, char
 use Rattle.grammar.proofs.Table.{test-yes, test-not, at-second}
 use Rattle.grammar.proofs.Complete.{chain, steps, steps-then, parts, parts-then, now, read-line, digit-of, afterSymbol, afterChiral, read-isotope, read-symbol, past-symbol, read-class, read-chiral, afterHead, afterCharge, read-head, read-sign, read-charge, read-colon, atom-steps, read-open, open-link, open-first}
 use Rattle.grammar.proofs.Reading.{zero-state, read-stuck}
-use Rattle.grammar.specs.OpenSmiles.{Chiral′, mark′, pair′, chiralS′, SmallChiral, Atom′, organic′, bracket′, Charge′, neutral′, sign′, twice′, digit′, digits′, Chain, first, then, Branched, branched, Branches, no-branches, and-branch, Rings, numberS, chargeS′, classS′, atomS′, ringsS, chainS, branchedS, branchesS, Small, SmallBranched, SmallBranches, SmallAtom, SmallCharge, Strict}
-use Rattle.grammar.proofs.Chains.{isotopeOf, chiralOf, chargeOf, atomOf, ringsOf, lineOf, branchesOf, small-read, number-ok, chiral-ok, charge-ok, atom-ok, rings-ok, chain-ok, branches-ok}
+use Rattle.grammar.specs.OpenSmiles.{Chiral′, flat′, at′, atat′, code1′, code2′, pair′, chiralS′, SmallChiral, Atom′, organic′, bracket′, Charge′, neutral′, sign′, twice′, digit′, digits′, Chain, first, then, Branched, branched, Branches, no-branches, and-branch, Rings, numberS, chargeS′, classS′, atomS′, ringsS, chainS, branchedS, branchesS, Small, SmallBranched, SmallBranches, SmallAtom, SmallCharge, Strict}
+use Rattle.grammar.proofs.Chains.{same1, same2, isotopeOf, chiralOf, chargeOf, atomOf, ringsOf, lineOf, branchesOf, small-read, number-ok, chiral-ok, charge-ok, atom-ok, rings-ok, chain-ok, branches-ok}
 
 record PStuck (q : Part) (bs : List ℕ) : Type 0 where
   before : List ℕ
@@ -43,7 +43,11 @@ number-run (a ∷ b ∷ c ∷ d ∷ r) = inr (record { before = digitS a ∷ dig
 
 chiral-run : (i : Isotope) (s : Symbol) (c : Chiral′) → SmallChiral c ⊎ PStuck (afterSymbol i s) (chiralS′ c)
 unfolding SmallChiral chiralS′
-chiral-run i s (mark′ c) = inl tt
+chiral-run i s flat′ = inl tt
+chiral-run i s at′ = inl tt
+chiral-run i s atat′ = inl tt
+chiral-run i s (code1′ k d p) = inl (subst (λ (t : Bool). T t) (same1 k d) p)
+chiral-run i s (code2′ k d e p) = inl (subst (λ (t : Bool). T t) (same2 k d e) p)
 chiral-run i s (pair′ k w d e) = by (valid2 k d e) refl (valid1 k d) refl
   where
     by : (t : Bool) → valid2 k d e ≡ t → (u : Bool) → valid1 k d ≡ u → T (valid2 k d e) ⊎ PStuck (afterSymbol i s) ((byte "@") ∷ class1 k ∷ class2 k ∷ digitS d ∷ digitS e ∷ [])

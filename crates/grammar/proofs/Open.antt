@@ -8,9 +8,9 @@ use lib.ListN.{length}
 use Rattle.graph.specs.Limits.{branchLimit}
 use Rattle.reader.specs.Events.{Event, Enter}
 use Rattle.reader.specs.Parse.{parse}
-use Rattle.grammar.specs.Grammar.{Digit, flat, code2, valid2, chiralK, okay1, okay2, neutral, num1, num2, isotopeK, mapK, chargeK, bracketK, Atom, atomS, atomK, Link, linkS, linkK, dot, Line, start, link, spell, enter, atoms, tells, meaning}
+use Rattle.grammar.specs.Grammar.{Digit, flat, code1, code2, valid1, valid2, chiralK, okay1, okay2, neutral, num1, num2, isotopeK, mapK, chargeK, bracketK, Atom, atomS, atomK, Link, linkS, linkK, dot, Line, start, link, spell, enter, atoms, tells, meaning}
 use Rattle.grammar.specs.Lines.{Fits, Clean, Refused}
-use Rattle.grammar.specs.OpenSmiles.{Chiral′, mark′, pair′, chiralK′, SmallChiral, Charge′, neutral′, sign′, twice′, digit′, digits′, Atom′, organic′, bracket′, Rings, no-rings, and-ring, Chain, first, then, Branched, branched, Branches, no-branches, and-branch, chainS, numberK, chargeK′, atomK′, along, ringsE, chainE, branchedE, branchesE, says, SmallCharge, SmallAtom, Small, SmallBranched, SmallBranches, FitsChain, FitsBranched, FitsBranches, Strict}
+use Rattle.grammar.specs.OpenSmiles.{Chiral′, flat′, at′, atat′, code1′, code2′, pair′, chiralK′, SmallChiral, Charge′, neutral′, sign′, twice′, digit′, digits′, Atom′, organic′, bracket′, Rings, no-rings, and-ring, Chain, first, then, Branched, branched, Branches, no-branches, and-branch, chainS, numberK, chargeK′, atomK′, along, ringsE, chainE, branchedE, branchesE, says, SmallCharge, SmallAtom, Small, SmallBranched, SmallBranches, FitsChain, FitsBranched, FitsBranches, Strict}
 use Rattle.grammar.proofs.Table.{test-yes}
 use Rattle.grammar.proofs.Machine.{done, read}
 use Rattle.grammar.proofs.Reading.{complete, unique, character-refused}
@@ -38,7 +38,11 @@ map-worth (a ∷ b ∷ c ∷ d ∷ r) h = absurd (omega arith)
 
 chiral-worth : (c : Chiral′) → SmallChiral c → chiralK (chiralOf c) ≡ chiralK′ c
 unfolding SmallChiral chiralOf chiralK chiralK′
-chiral-worth (mark′ c) h = refl
+chiral-worth flat′ h = refl
+chiral-worth at′ h = refl
+chiral-worth atat′ h = refl
+chiral-worth (code1′ k d p) h = rw (test-yes (valid1 k d) h (λ p. code1 k d p) flat)
+chiral-worth (code2′ k d e p) h = rw (test-yes (valid2 k d e) h (λ p. code2 k d e p) flat)
 chiral-worth (pair′ k w d e) h = rw (test-yes (valid2 k d e) h (λ p. code2 k d e p) flat)
 
 charge-worth : (q : Charge′) → SmallCharge q → chargeK (chargeOf q) ≡ chargeK′ q

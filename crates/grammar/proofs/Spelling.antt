@@ -12,7 +12,7 @@ use Rattle.feature.proofs.Table.{both-left, both-right}
 use Rattle.grammar.specs.Names.{Name, one, two, has1, has2}
 use Rattle.grammar.specs.Grammar.{Digit, d0, d1, d2, d3, d4, d5, d6, d7, d8, d9, digitS, Bond, single, double, triple, quadruple, aromatic, up, down, bondS, Organic, bare1, bare2, organics, organicS, Symbol, short, long, names, known, symbolS, Isotope, iso0, iso1, iso2, iso3, isotopeS, Chiral, flat, at, atat, code1, code2, Class, TH, AL, SP, TB, OH, class1, class2, chiralS, Hcount, bald, H, Hn, hcountS, Head, head, headS, Sign, plus, minus, signS, Charge, neutral, sign, twice, num1, num2, chargeS, Map, nomap, m1, m2, m3, mapS, Atom, organic, bracket, atomS, Rnum, ring1, ring2, rnumS, bond?S, Link, elided, bond, dot, linkS, Line, start, link, ring, branch, spell}
 use Rattle.grammar.specs.Lines.{Bytes}
-use Rattle.grammar.specs.OpenSmiles.{Chiral′, mark′, pair′, chiralS′, Charge′, neutral′, sign′, twice′, digit′, digits′, Atom′, organic′, bracket′, Rings, no-rings, and-ring, Chain, first, then, Branched, branched, Branches, no-branches, and-branch, numberS, chargeS′, classS′, atomS′, ringsS, chainS, branchedS, branchesS}
+use Rattle.grammar.specs.OpenSmiles.{Chiral′, flat′, at′, atat′, code1′, code2′, pair′, chiralS′, Charge′, neutral′, sign′, twice′, digit′, digits′, Atom′, organic′, bracket′, Rings, no-rings, and-ring, Chain, first, then, Branched, branched, Branches, no-branches, and-branch, numberS, chargeS′, classS′, atomS′, ringsS, chainS, branchedS, branchesS}
 
 bytes-append : (xs ys : List ℕ) → Bytes xs → Bytes ys → Bytes (xs ++ ys)
 unfolding Bytes
@@ -196,7 +196,11 @@ charge′-bytes (digits′ g d e) = (sign-byte g, (digit-byte d, (digit-byte e, 
 
 chiral′-bytes : (c : Chiral′) → Bytes (chiralS′ c)
 unfolding Bytes chiralS′
-chiral′-bytes (mark′ c) = chiral-bytes c
+chiral′-bytes flat′ = tt
+chiral′-bytes at′ = (omega arith, tt)
+chiral′-bytes atat′ = (omega arith, (omega arith, tt))
+chiral′-bytes (code1′ k d p) = (omega arith, (class1-byte k, (class2-byte k, (digit-byte d, tt))))
+chiral′-bytes (code2′ k d e p) = (omega arith, (class1-byte k, (class2-byte k, (digit-byte d, (digit-byte e, tt)))))
 chiral′-bytes (pair′ k w d e) = (omega arith, (class1-byte k, (class2-byte k, (digit-byte d, (digit-byte e, tt)))))
 
 atom′-bytes : (a : Atom′) → Bytes (atomS′ a)

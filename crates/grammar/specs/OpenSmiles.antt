@@ -1,20 +1,23 @@
 -- OpenSMILES, rule by rule: its own tables, its own trees, their spelling and what they say; and where the lines that are
--- read depart from it, each departure by its name in the list of differences. Written from a summary of its rules.
+-- read depart from it, each departure by its name in the list of differences. Written from a summary of its rules. What both have
+-- stands once, in Grammar, and is taken from there: digits, bonds, links, ring numbers, hydrogen counts, signs, the letters of the
+-- templates, how each of these is spelled, and which kind a name or a number stands for. The names, the templates' last numbers and
+-- the digits of numbers and charges are its own.
 use Prim.Native.Nat.{ℕ, _+_, _-_, _*_, _≤_}
 use mathlib.Core.List.{List, [], _∷_, _++_}
 use mathlib.Core.Option.{Option}
 use mathlib.Core.Bool.{Bool, true, false}
-use lib.Dec.{T, eqb}
+use lib.Dec.{T, eqb, leb}
 use lib.ListN.{length}
 use Rattle.feature.specs.Pick.{pick, both}
 use Rattle.feature.specs.Text.{byte}
-use Rattle.feature.specs.Kinds.{noNumber, noCharge}
+use Rattle.feature.specs.Kinds.{noNumber, noCharge, noConfiguration, th1, th2}
 use Rattle.feature.specs.Kinds as kinds
 use Rattle.feature.specs.declared.atom_kind.AtomKind.{AtomKind}
 use Rattle.feature.specs.declared.atom_kind.AtomKind.the-variants.{Bracket}
 use Rattle.reader.specs.Events.{Event, Enter, Pop}
 use Rattle.grammar.specs.Names.{Name, table, has1, has2}
-use Rattle.grammar.specs.Grammar.{Digit, value, digitS, worth, Bond, bond?S, Organic, bare1, bare2, organicS, organicK, Symbol, short, long, symbolS, symbolK, Class, TH, AL, SP, TB, OH, class1, class2, valid2, base, Chiral, chiralS, chiralK, Hcount, bald, H, Hn, hcountS, hcountK, head, Sign, signS, signed, okay1, okay2, Atom, organic, bracket, Rnum, rnumS, Link, linkS, linkK, Line, start, link, ring, branch, join, dot}
+use Rattle.grammar.specs.Grammar.{Digit, value, digitS, worth, Bond, bond?S, Organic, bare1, bare2, organicS, organicK, Symbol, short, long, symbolS, symbolK, Class, TH, AL, SP, TB, OH, class1, class2, valid1, valid2, base, Hcount, bald, H, Hn, hcountS, hcountK, head, Sign, signS, signed, okay1, okay2, Atom, organic, bracket, Rnum, rnumS, Link, linkS, linkK, Line, start, link, ring, branch, join, dot}
 
 -- ---- TABLES
 -- Without brackets: aliphatic_organic, aromatic_organic, "*". Departure "bare At, Ts": the reader takes these two as well.
@@ -53,8 +56,21 @@ pub data Charge′ : Type 0 where
   digit′ : Sign → Digit → Charge′
   digits′ : Sign → Digit → Digit → Charge′
 
--- chiral ::= '@' | '@@' | '@TH1' | .. | '@OH30', the reader's marks; and '@TB' DIGIT DIGIT | '@OH' DIGIT DIGIT, two digits as
--- written, so that "@TB01" is one too (rests on our reading); or nothing
+-- chiral ::= '@' | '@@' | '@TH1' | .. | '@OH30', each template with the numbers of its arrangements; and '@TB' DIGIT DIGIT |
+-- '@OH' DIGIT DIGIT, two digits as written, so that "@TB01" is one too (rests on our reading); or nothing
+unfoldable pub arrangements : Class → ℕ
+arrangements TH = 2
+arrangements AL = 2
+arrangements SP = 3
+arrangements TB = 20
+arrangements OH = 30
+
+unfoldable pub named1 : Class → Digit → Bool
+named1 k d = pick (leb 1 (value d)) (leb (value d) (arrangements k)) false
+
+unfoldable pub named2 : Class → Digit → Digit → Bool
+named2 k d e = pick (leb 1 (value d)) (leb (10 * value d + value e) (arrangements k)) false
+
 unfoldable pub paired : Class → Bool
 paired TH = false
 paired AL = false
@@ -63,7 +79,9 @@ paired TB = true
 paired OH = true
 
 pub data Chiral′ : Type 0 where
-  mark′ : Chiral → Chiral′
+  flat′ at′ atat′ : Chiral′
+  code1′ : (k : Class) (d : Digit) → T (named1 k d) → Chiral′
+  code2′ : (k : Class) (d e : Digit) → T (named2 k d e) → Chiral′
   pair′ : (k : Class) → T (paired k) → Digit → Digit → Chiral′
 
 -- bracket_atom ::= '[' isotope? symbol chiral? hcount? charge? class? ']'; isotope and class have any number of digits.
@@ -108,7 +126,11 @@ numberS [] = []
 numberS (d ∷ ds) = digitS d ∷ numberS ds
 
 unfoldable pub chiralS′ : Chiral′ → List ℕ
-chiralS′ (mark′ c) = chiralS c
+chiralS′ flat′ = []
+chiralS′ at′ = byte "@" ∷ []
+chiralS′ atat′ = byte "@" ∷ byte "@" ∷ []
+chiralS′ (code1′ k d p) = byte "@" ∷ class1 k ∷ class2 k ∷ digitS d ∷ []
+chiralS′ (code2′ k d e p) = byte "@" ∷ class1 k ∷ class2 k ∷ digitS d ∷ digitS e ∷ []
 chiralS′ (pair′ k w d e) = byte "@" ∷ class1 k ∷ class2 k ∷ digitS d ∷ digitS e ∷ []
 
 unfoldable pub chargeS′ : Charge′ → List ℕ
@@ -143,14 +165,18 @@ unfoldable mutual
   branchesS (and-branch bs l c) = branchesS bs ++ (byte "(" ∷ (linkS l ++ (chainS c ++ (byte ")" ∷ []))))
 
 -- ---- MEANING
--- A number is worth its digits, so "@TB01" is "@TB1". "@" is TH1 and "@@" TH2: departure "allenes", where OpenSMILES means AL1 and AL2 on an
--- allene-like centre.
+-- A number is worth its digits, so "@TB01" is "@TB1" and "+01" is "+1". "@" is TH1 and "@@" TH2: departure "allenes", where
+-- OpenSMILES means AL1 and AL2 on an allene-like centre.
 unfoldable pub numberK : List Digit → ℕ
 numberK [] = noNumber
 numberK (d ∷ ds) = worth 0 (d ∷ ds)
 
 unfoldable pub chiralK′ : Chiral′ → ℕ
-chiralK′ (mark′ c) = chiralK c
+chiralK′ flat′ = noConfiguration
+chiralK′ at′ = th1
+chiralK′ atat′ = th2
+chiralK′ (code1′ k d p) = base k + value d
+chiralK′ (code2′ k d e p) = base k + (value d * 10 + value e)
 chiralK′ (pair′ k w d e) = base k + (value d * 10 + value e)
 
 unfoldable pub chargeK′ : Charge′ → ℕ
@@ -190,7 +216,7 @@ unfoldable pub says : Chain → List Event
 says u = chainE [] dot u
 
 -- ---- WHAT OPENSMILES HAS AND THE READER REFUSES
--- Departures "charge zero", "charge ten", "charge above fifteen": these charges are not read.
+-- Departures "charge zero", "charge ten", "charge above fifteen", "charge with a leading zero": these charges are not read.
 unfoldable pub SmallCharge : Charge′ → Type 0
 SmallCharge neutral′ = Unit {0}
 SmallCharge (sign′ g) = Unit {0}
@@ -198,9 +224,14 @@ SmallCharge (twice′ g) = Unit {0}
 SmallCharge (digit′ g d) = T (okay1 d)
 SmallCharge (digits′ g d e) = T (okay2 d e)
 
--- Departure "leading zero": "@TB01" is not read, nor is a number that no arrangement has, as in "@TB00" and "@TB21".
+-- Departures "leading zero" and "no arrangement": "@TB01" is not read, nor is a number that no arrangement has, as in "@TB00",
+-- "@TB21" and "@OH31". The numbers of the arrangements are read, all of them.
 unfoldable pub SmallChiral : Chiral′ → Type 0
-SmallChiral (mark′ c) = Unit {0}
+SmallChiral flat′ = Unit {0}
+SmallChiral at′ = Unit {0}
+SmallChiral atat′ = Unit {0}
+SmallChiral (code1′ k d p) = T (valid1 k d)
+SmallChiral (code2′ k d e p) = T (valid2 k d e)
 SmallChiral (pair′ k w d e) = T (valid2 k d e)
 
 -- Departures "long isotope" and "long map": at most three digits are read.
