@@ -1,9 +1,6 @@
 -- The starred lines of the bench: what each is answered, worked out from the written meanings. Assumes nothing.
-use Prim.Native.Nat.{ℕ, suc}
-use Prim.Native.String.{String}
 use mathlib.Core.Path.{_≡_, refl}
-use mathlib.Core.List.{List, [], _∷_, map}
-use Rattle.feature.specs.Text.{bytes}
+use mathlib.Core.List.{map}
 use Rattle.feature.specs.Names.{placeOf, names, begins, symAc, symCs}
 use Rattle.feature.specs.Kinds.{invertOf}
 use Rattle.feature.specs.Bonds.{codeOf, reverseOf, isDirectional, reconcileOf}
@@ -26,28 +23,11 @@ use Rattle.judge.specs.Judge as judge
 use Rattle.write.specs.Write as write
 use Rattle.read.specs.Read.{refusalOf, builtAnswer}
 use Rattle.read.specs.Line as line
-use Rattle.report.specs.Report.{report, ofRead, ofWritten}
-use Rattle.bench.specs.Asked.{Asked, Reads, Rewrites, Calls, Says, says, writtenAs, rewriteOf, numberGiven, poolGiven, callsFrom, answerOf}
-use Rattle.feature.specs.Text.{bytes}
+use Rattle.report.specs.Report.{ofRead, ofWritten}
+use Rattle.bench.specs.Rows.{rows}
+use Rattle.bench.specs.Asked.{Asked, Says, readAs, writtenAs, rewriteOf, numberGiven, poolGiven, callsFrom, answerOf}
 
-abbrev rows : List (Asked × Says)
-rows =
-    (Reads "", says (report 1 0 0) [])
-    ∷ (Reads "C)", says (report 2 1 0) [])
-    ∷ (Reads "C()", says (report 2 2 0) [])
-    ∷ (Reads "[1234C]", says (report 2 4 0) [])
-    ∷ (Reads "[C+0]", says (report 2 3 0) [])
-    ∷ (Reads "C=1CC#1", says (report 3 2 0) [])
-    ∷ (Reads "C12CC1", says (report 4 1 0) [])
-    ∷ (Rewrites "C1CC1", says (report 0 7 0) (bytes "C(CC1)1"))
-    ∷ (Rewrites "C(.O)N", says (report 0 4 0) (bytes "CN.O"))
-    ∷ (Rewrites "C11", says (report 6 0 0) [])
-    ∷ (Rewrites "C1C1", says (report 8 0 1) [])
-    ∷ (Rewrites "C1CC[C@H]1F", says (report 0 16 0) (bytes "C([C@@H](CC1)F)1"))
-    ∷ (Calls ((0, 1) ∷ (2, 3) ∷ (2, 3) ∷ (0, 1) ∷ (4, 5) ∷ (6, 7) ∷ []), says (report 0 0 0) (1 ∷ 2 ∷ 2 ∷ 1 ∷ 1 ∷ 4 ∷ []))
-    ∷ []
-
--- each is answered so
+-- EACH IS ANSWERED SO, and leaves this
 pub rows-said : map (λ (r : Asked × Says). answerOf (r .0)) rows ≡ map (λ (r : Asked × Says). r .1) rows
-unfolding placeOf names begins peekAt digitOf digitAt missingAt bracketAt aromaticOf aliphaticOf optionalAt organicAt starAt orElse otherAt atomAt markWidth rnumAt afterCharge afterConfiguration afterHydrogens afterIsotope afterMap afterSymbol chargeAt closeAt configurationAt configured digitStep hydrogensAt insideAt isotopeAt mapAt numberAt signedAt slip symbolAt symbolOf fifteenAt shortAt longAt lateAt lesserOf ledAt bodyOf bodyAt missP foundP atomP ringP unionBy unionP unitBy unitP lineP closeP branchP bodies endP parse sketchOf runS stepS enterS numberS missedS rootS extendS bondedS joinS ringS openedS closedS firstOf numberOf countOf upd addEdge edgesAt openKind waits fillEdges fill lookup without invertOf reverseOf reconcileOf isDirectional codeOf openHere openIn firstOpenS ringsSay saysS finishS leftS refusalOf builtAnswer atomTable bondTable edgeTable targetOf padded inRange bracketInRange invertBracket kindOf words.bracketPair words.pairOf words.wordsOf words.listOf words.plainOf words.bracketOf words.loadOf words.loadAt words.entryOf words.bondOf words.bondAt bondOf bondAt spell.digits spell.numberText spell.nameText spell.symbolText spell.templateText spell.markedText spell.configurationText spell.hydrogensText spell.chargeText spell.mapText spell.bracketText spell.organic spell.kindText spell.atomText spell.bondText spell.rnumText sumOf startsOf pool.opens pool.numberOf pool.slot pool.grown pool.counterOf pool.nextOf pool.openOf pool.closeOf pool.calledOf pool.pairOf pool.hitOf lineOf dotText addPiece onLast wrapped popPieces writeEvent writeEvents kindOr sureKind kindIn degreeIn bondIn isRefused isFixed turnedOr even saidAs scanIn judgedBack wayOf walk.popsOf walk.rootOf walk.leftIn walk.numberedOf walk.ringOf walk.enteredOf walk.enterOf walk.bondTurn walk.entryOf walk.atomOf walk.turnOf walk.stepOf walk.walkTo walk.eventsOf walk.turnsOf words.isHeld judge.isEntry words.isAtom judge.bondStands judge.atomsFrom judge.bondsFrom judge.afterAtoms judge.badRecord write.walkIn write.saidIn write.refusalOf write.atomRoom write.bondRoom write.putLine write.concluded write.graphWritten write.writeOf line.wholeOf line.graphOf line.lineOf ofRead ofWritten writtenAs rewriteOf numberGiven poolGiven callsFrom answerOf
+unfolding placeOf names begins peekAt digitOf digitAt missingAt bracketAt aromaticOf aliphaticOf optionalAt organicAt starAt orElse otherAt atomAt markWidth rnumAt afterCharge afterConfiguration afterHydrogens afterIsotope afterMap afterSymbol chargeAt closeAt configurationAt configured digitStep hydrogensAt insideAt isotopeAt mapAt numberAt signedAt slip symbolAt symbolOf fifteenAt shortAt longAt lateAt lesserOf ledAt bodyOf bodyAt missP foundP atomP ringP unionBy unionP unitBy unitP lineP closeP branchP bodies endP parse sketchOf runS stepS enterS numberS missedS rootS extendS bondedS joinS ringS openedS closedS firstOf numberOf countOf upd addEdge edgesAt openKind waits fillEdges fill lookup without invertOf reverseOf reconcileOf isDirectional codeOf openHere openIn firstOpenS ringsSay saysS finishS leftS refusalOf builtAnswer atomTable bondTable edgeTable targetOf padded inRange bracketInRange invertBracket kindOf words.bracketPair words.pairOf words.wordsOf words.listOf words.plainOf words.bracketOf words.loadOf words.loadAt words.entryOf words.bondOf words.bondAt bondOf bondAt spell.digits spell.numberText spell.nameText spell.symbolText spell.templateText spell.markedText spell.configurationText spell.hydrogensText spell.chargeText spell.mapText spell.bracketText spell.organic spell.kindText spell.atomText spell.bondText spell.rnumText sumOf startsOf pool.opens pool.numberOf pool.slot pool.grown pool.counterOf pool.nextOf pool.openOf pool.closeOf pool.calledOf pool.pairOf pool.hitOf lineOf dotText addPiece onLast wrapped popPieces writeEvent writeEvents kindOr sureKind kindIn degreeIn bondIn isRefused isFixed turnedOr even saidAs scanIn judgedBack wayOf walk.popsOf walk.rootOf walk.leftIn walk.numberedOf walk.ringOf walk.enteredOf walk.enterOf walk.bondTurn walk.entryOf walk.atomOf walk.turnOf walk.stepOf walk.walkTo walk.eventsOf walk.turnsOf words.isHeld judge.isEntry words.isAtom judge.bondStands judge.atomsFrom judge.bondsFrom judge.afterAtoms judge.badRecord write.walkIn write.saidIn write.refusalOf write.atomRoom write.bondRoom write.putLine write.concluded write.graphWritten write.writeOf line.wholeOf line.graphOf line.lineOf ofRead ofWritten readAs writtenAs rewriteOf numberGiven poolGiven callsFrom answerOf
 rows-said = refl

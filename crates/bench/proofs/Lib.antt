@@ -1,2 +1,2 @@
--- The table and its claim.
+-- The claim that covers the table of specs/Rows.
 pub mod Bench

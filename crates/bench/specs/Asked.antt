@@ -1,8 +1,7 @@
--- What the bench asks, and what the calls' own definitions say to it.
+-- What the bench asks, and what the calls' own definitions say to it, with all that they leave in what was lent.
 use Prim.Native.Nat.{ℕ}
 use Prim.Native.String.{String}
 use mathlib.Core.List.{List, [], _∷_}
-use lib.ListN.{take}
 use lib.Dec.{eqb}
 use Rattle.feature.specs.Pick.{pick}
 use Rattle.feature.specs.Text.{bytes}
@@ -22,28 +21,31 @@ pub data Asked : Type 0 where
   Rewrites : String → Asked
   Calls : List (ℕ × ℕ) → Asked
 
--- a report, and what was written, or the numbers handed out
+-- a report, and what is left: the tables of atoms and bonds, and what was written after them; or the numbers handed out
 pub record Says : Type 0 where
   pub told : Report
-  pub given : List ℕ
+  pub given : List (List ℕ)
 
-abbrev pub says : Report → List ℕ → Says
+abbrev pub says : Report → List (List ℕ) → Says
 says r l = record { told = r; given = l }
 
 -- the words and bytes that are lent
 abbrev pub lent : ℕ
 lent = 40
 
--- what was written: as many bytes as the report says
-unfoldable pub writtenAs : Left → Says
-writtenAs l = says (ofWritten (l .answer)) (take (ofWritten (l .answer) .first) (l .out))
+-- a line that was read
+unfoldable pub readAs : Said → Says
+readAs s = says (ofRead (s .answer)) (s .atoms ∷ s .bonds ∷ [])
 
--- a line that was read is written
+-- and is written
+unfoldable pub writtenAs : Said → Left → Says
+writtenAs s l = says (ofWritten (l .answer)) (s .atoms ∷ s .bonds ∷ l .out ∷ [])
+
 unfoldable pub rewriteOf : Said → Says
 rewriteOf s =
     pick (eqb (ofRead (s .answer) .number) 0)
-    (writtenAs (writeOf lent (s .atoms) (ofRead (s .answer) .first) (s .bonds) (ofRead (s .answer) .second)))
-    (says (ofRead (s .answer)) [])
+    (writtenAs s (writeOf lent (s .atoms) (ofRead (s .answer) .first) (s .bonds) (ofRead (s .answer) .second)))
+    (readAs s)
 
 -- the number that a call of a pool is answered, 0 for none, and the pool after it
 unfoldable pub numberGiven : Given → ℕ
@@ -61,6 +63,6 @@ callsFrom p pairs (c ∷ calls) =
     ∷ callsFrom (poolGiven p (hitOf p pairs (c .0) (c .1) .answer)) (hitOf p pairs (c .0) (c .1) .left) calls
 
 unfoldable pub answerOf : Asked → Says
-answerOf (Reads s) = says (ofRead (lineOf (bytes s) lent lent .answer)) []
+answerOf (Reads s) = readAs (lineOf (bytes s) lent lent)
 answerOf (Rewrites s) = rewriteOf (lineOf (bytes s) lent lent)
-answerOf (Calls cs) = says (report 0 0 0) (callsFrom emptyOf (zeros pairWords) cs)
+answerOf (Calls cs) = says (report 0 0 0) (callsFrom emptyOf (zeros pairWords) cs ∷ [])
