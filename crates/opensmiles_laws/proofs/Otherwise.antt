@@ -4,7 +4,7 @@ use Prim.Native.Nat.{ℕ, zero, suc, _+_, _≤_}
 use mathlib.Core.Path.{_≡_, refl, sym, ap, _∙_, subst}
 use mathlib.Core.Bool.{Bool, true, false}
 use mathlib.Core.List.{List, [], _∷_, map}
-use mathlib.Core.Option.{none}
+use mathlib.Core.Option.{none, some}
 use native.Mathlib.Omega.{arith}
 use Rattle.feature.specs.Pick.{pick}
 use Rattle.feature.specs.Text.{byte, bytes}
@@ -19,8 +19,10 @@ use Rattle.graph.specs.Limits.{lesserOf}
 use Rattle.reader.specs.Parse.{ledAt, bodyOf, bodyAt, missP, foundP, atomP, ringP, unionBy, unionP, unitBy, unitP, lineP, closeP, branchP, bodies, endP, parse}
 use Rattle.sketch.specs.Sketch.{To, Edge, Node, edge, node, leads, numberOf, countOf, upd, edgesAt, addEdge, waits, openKind, fillEdges, fill, lookup, without, rootS, bondedS, extendS, openedS, closedS, firstOf, ringS, joinS, enterS, numberS, judgedS, missedS, stepS, runS, sketchOf, openHere, openIn, firstOpenS, ringsSay, saysS, finishS, leftS}
 use Rattle.read.specs.Read.{Said, refusalOf, builtAnswer}
-use Rattle.read.specs.Line.{wholeOf, graphOf, lineOf}
-use Rattle.grammar.specs.Grammar.{d1, bare1, organics, ring1, elided, organicS, organicK, digitS, rnumS, rnumK, bond?S, bond?K, linkS, linkK, join, value, aromatics, aliphatics}
+use Rattle.read.specs.declared.Answer.the-variants as answer
+use Rattle.read.specs.Line.{refusing, wholeOf, graphOf, lineOf}
+use Rattle.grammar.specs.Grammar.{d1, value, Atom, organic, bracket, bare1, organics, organicS, organicK, known, short, symbolS, iso0, isotopeS, SP, most, valid1, class1, class2, code1, chiralS, H, hcountS, head, headS, neutral, chargeS, nomap, mapS, atomS, ring1, rnumS, rnumK, double, triple, bondS, bond?S, bond?K, elided, linkS, linkK, digitS, Line, start, link, ring, spell, join, aromatics, aliphatics}
+use Rattle.grammar.specs.Grammar as grammar
 use Rattle.grammar.specs.Names.{place1, has1}
 use Rattle.grammar.specs.OpenSmiles.{openOrganics, OpenOrganic, Atom′, organic′, no-rings, and-ring, Chain, first, then, branched, no-branches, atomS′, atomK′, ringsS, chainS, ringsE, chainE, says}
 use Rattle.opensmiles_laws.specs.Molecule.{placed, agreed, closed, ringed, numbered, asWritten, told, next, tellAll, moleculeOf, Meant, timesTo, JoinedToItself, JoinedTwice, Allowed, alleneLike}
@@ -31,6 +33,29 @@ use Rattle.opensmiles_laws.proofs.Held.{atomsIn}
 pub departures-said : map (λ (r : List ℕ × Said). lineOf (r .0) room room) rows ≡ map (λ (r : List ℕ × Said). r .1) rows
 unfolding placeOf names begins peekAt digitOf digitAt missingAt bracketAt aromaticOf aliphaticOf optionalAt organicAt starAt orElse otherAt atomAt markWidth rnumAt afterCharge afterConfiguration afterHydrogens afterIsotope afterMap afterSymbol chargeAt closeAt configurationAt configured digitStep hydrogensAt insideAt isotopeAt mapAt numberAt signedAt slip symbolAt symbolOf fifteenAt shortAt longAt lateAt squareAt alleneAt bondOf bondAt lesserOf ledAt bodyOf bodyAt missP foundP atomP ringP unionBy unionP unitBy unitP lineP closeP branchP bodies endP parse numberOf countOf upd edgesAt addEdge waits openKind fillEdges fill lookup without rootS bondedS extendS openedS closedS firstOf ringS joinS enterS numberS missedS stepS runS sketchOf openHere openIn firstOpenS ringsSay saysS finishS invertOf invertBracket codeOf reverseOf isDirectional reconcileOf wantedAt octahedralAt trigonalAt judgedS leftS refusalOf builtAnswer wholeOf graphOf lineOf
 departures-said = refl
+
+-- SPELLINGS OF TREES THAT ARE NOT DONE: a ring that is open, two ends that don't agree, a mark that can't be turned
+bareC : Atom
+unfolding has1 organics
+bareC = organic (bare1 (byte "C") tt)
+
+pub openRing : Line
+openRing = ring (start bareC) none (ring1 d1)
+
+pub unlikeEnds : Line
+unlikeEnds = ring (link (link (ring (start bareC) (some double) (ring1 d1)) elided bareC) elided bareC) (some triple) (ring1 d1)
+
+pub squareH : Line
+unfolding has1 grammar.names known valid1 value most
+squareH = link (start bareC) elided (bracket (head iso0 (short (byte "C") tt) (code1 SP d1 tt) H) neutral nomap)
+
+pub trees-spelled : (spell openRing ≡ bytes "C1") × (spell unlikeEnds ≡ bytes "C=1CC#1") × (spell squareH ≡ bytes "C[C@SP1H]")
+unfolding bareC openRing unlikeEnds squareH spell atomS organicS headS isotopeS symbolS chiralS class1 class2 hcountS chargeS mapS digitS rnumS bond?S bondS linkS
+trees-spelled = (refl, refl, refl)
+
+pub trees-answered : (lineOf (bytes "C1") room room ≡ refusing (answer.Rnum 0) room room) × (lineOf (bytes "C=1CC#1") room room ≡ refusing (answer.Join 2 0) room room) × (lineOf (bytes "C[C@SP1H]") room room ≡ refusing (answer.Inversion 1) room room)
+unfolding placeOf names begins peekAt digitOf digitAt missingAt bracketAt aromaticOf aliphaticOf optionalAt organicAt starAt orElse otherAt atomAt markWidth rnumAt afterCharge afterConfiguration afterHydrogens afterIsotope afterMap afterSymbol chargeAt closeAt configurationAt configured digitStep hydrogensAt insideAt isotopeAt mapAt numberAt signedAt slip symbolAt symbolOf fifteenAt shortAt longAt lateAt squareAt alleneAt bondOf bondAt lesserOf ledAt bodyOf bodyAt missP foundP atomP ringP unionBy unionP unitBy unitP lineP closeP branchP bodies endP parse numberOf countOf upd edgesAt addEdge waits openKind fillEdges fill lookup without rootS bondedS extendS openedS closedS firstOf ringS joinS enterS numberS missedS stepS runS sketchOf openHere openIn firstOpenS ringsSay saysS finishS invertOf invertBracket codeOf reverseOf isDirectional reconcileOf wantedAt octahedralAt trigonalAt judgedS leftS refusalOf builtAnswer wholeOf graphOf lineOf
+trees-answered = (refl, refl, refl)
 
 -- a chain whose molecule is forbidden means nothing
 unmeant : (u : Chain) (bad : List Node) → atomsIn (moleculeOf asWritten (says u)) ≡ bad → ¬ Allowed bad → (ns : List Node) → ¬ Meant u ns

@@ -1,6 +1,7 @@
 -- WHAT THE READ CALL ANSWERS to a text of bytes and to tables of la and lb words: each answer by when it is given, in the words
 -- of the grammar and of OpenSMILES' molecule. The read call is proved to be what `lineOf` says (crates/read), and `lineOf` is held to
--- `When` and `SaidAs` here: exactly, so no answer is given at another time, and none is missing.
+-- `When` and `SaidAs` here: exactly, so no answer is given at another time, and none is missing. `Bytes` is all that is asked of a
+-- text, and a slice of bytes is one; a name of two letters is looked up by one number, which two larger words can feign.
 use Prim.Native.Nat.{ℕ, _<_, _≤_}
 use mathlib.Core.Path.{_≡_}
 use mathlib.Core.List.{List}
