@@ -17,8 +17,9 @@ use Rattle.ways.specs.Ways.{isRefused, isFixed, turnedOr, even, saidAs, scanIn,
 use Rattle.walk.specs.Walk.{Walk, popsOf, rootOf, leftIn, numberedOf, ringOf, enteredOf, enterOf, bondTurn, entryOf, atomOf, turnOf, stepOf, walkTo, eventsOf, turnsOf}
 use Rattle.write.specs.Write.{pairWords}
 use Rattle.trek.specs.Trek.{fresh, degrees}
-use Rattle.renumber.specs.Renumber.{Backed, Simple, othersOf, parentEntry, doneOf, reread, edgeOf, nodeOf, orderOf, renumbered, told, Built}
-use Rattle.renumber.specs.Marks.{Tetrahedral}
+use Rattle.renumber.specs.Renumber.{Backed, Simple, told, Built}
+use Rattle.renumber.specs.Renumbered.{othersOf, parentEntry, doneOf, edgeOf, nodeOf, byWalk, firstAtoms, renumbered}
+use Rattle.renumber.specs.Marks.{Tetrahedral, bearsHydrogen, otherMark, toggled, oddIndex, backKind}
 use Rattle.renumber.proofs.Trip.{graph-trip}
 
 abbrev carbon : AtomKind
@@ -42,8 +43,8 @@ unfolding words.listOf words.wordsOf words.pairOf words.bracketPair words.loadAt
 not-refused = refl
 
 -- atom 1 comes back with its mark toggled and its bond to atom 0 first
-ring-renumbered : renumbered ring walked ≡ node carbon (edge Single (To 1) ∷ edge Up (To 2) ∷ []) ∷ node (marked 2) (edge Single (To 0) ∷ edge Single (To 2) ∷ []) ∷ node carbon (edge Single (To 1) ∷ edge Down (To 0) ∷ []) ∷ []
-unfolding words.listOf words.wordsOf words.pairOf words.bracketPair words.loadAt words.loadOf words.plainOf words.bracketOf words.bondAt words.bondOf words.entryOf kindOf codeOf reverseOf bracketInRange inRange invertBracket invertOf pool.opens pool.numberOf pool.slot pool.grown pool.counterOf pool.nextOf pool.openOf pool.closeOf pool.calledOf pool.pairOf pool.hitOf kindOr sureKind kindIn degreeIn bondIn isRefused isFixed turnedOr even saidAs scanIn judgedBack wayOf popsOf rootOf leftIn numberedOf ringOf enteredOf enterOf bondTurn entryOf atomOf turnOf stepOf walkTo turnsOf othersOf parentEntry doneOf reread edgeOf nodeOf orderOf renumbered
+ring-renumbered : renumbered ring (byWalk walked) ≡ node carbon (edge Single (To 1) ∷ edge Up (To 2) ∷ []) ∷ node (marked 2) (edge Single (To 0) ∷ edge Single (To 2) ∷ []) ∷ node carbon (edge Single (To 1) ∷ edge Down (To 0) ∷ []) ∷ []
+unfolding words.listOf words.wordsOf words.pairOf words.bracketPair words.loadAt words.loadOf words.plainOf words.bracketOf words.bondAt words.bondOf words.entryOf kindOf codeOf reverseOf bracketInRange inRange invertBracket invertOf pool.opens pool.numberOf pool.slot pool.grown pool.counterOf pool.nextOf pool.openOf pool.closeOf pool.calledOf pool.pairOf pool.hitOf kindOr sureKind kindIn degreeIn bondIn isRefused isFixed turnedOr even saidAs scanIn judgedBack wayOf popsOf rootOf leftIn numberedOf ringOf enteredOf enterOf bondTurn entryOf atomOf turnOf stepOf walkTo turnsOf othersOf parentEntry doneOf bearsHydrogen otherMark toggled oddIndex backKind edgeOf nodeOf firstAtoms renumbered
 ring-renumbered = refl
 
 -- ---- the hypotheses
@@ -68,7 +69,6 @@ ring-simple : Simple ring
 unfolding words.listOf words.wordsOf words.pairOf words.bracketPair words.bondAt words.bondOf words.entryOf kindOf reverseOf sureKind bondIn degreeIn
 ring-simple = record {
   some = omega arith;
-  known = each-entry (λ (a i : ℕ). bondOf ring a i .to < 3) (omega arith) (omega arith) (omega arith) (omega arith) (omega arith) (omega arith);
   apart = each-entry (λ (a i : ℕ). bondOf ring a i .to ≡ a → ⊥) (λ z. omega arith) (λ z. omega arith) (λ z. omega arith) (λ z. omega arith) (λ z. omega arith) (λ z. omega arith);
   once = λ a i j ha hi hj. each-entry (λ (a i : ℕ). (j : ℕ) → j < degreeAt ring a → bondOf ring a i .to ≡ bondOf ring a j .to → i ≡ j)
       (below-two (λ (j : ℕ). bondOf ring 0 0 .to ≡ bondOf ring 0 j .to → 0 ≡ j) (λ z. refl) (λ z. absurd (omega arith)))

@@ -4,20 +4,18 @@ use mathlib.Core.Path.{_≡_, sym, ap, _∙_}
 use mathlib.Core.List.{List, map}
 use Prim.Native.Nat.{ℕ, _/_, _≤_, _<_}
 use native.Mathlib.Omega.{arith}
-use lib.ListN.{length, getD}
-use Rattle.feature.specs.Pick.{pick, both}
+use lib.ListN.{length}
 use Rattle.record.specs.Words.{atomWords, bondWords}
 use Rattle.graph.specs.Limits.{atomLimit, bondLimit, lesserOf}
 use Rattle.reader.specs.Events.{Event}
 use Rattle.reader.specs.Parse.{parse}
-use Rattle.sketch.specs.Sketch.{numberOf, countOf, startS, runS, sketchOf, leftS}
-use Rattle.ways.specs.Graph.{Graph, kindAt}
-use Rattle.walk.specs.Walk.{Walk}
+use Rattle.sketch.specs.Sketch.{numberOf, countOf, startS, runS, sketchOf, atomTable, bondTable, padded}
+use Rattle.ways.specs.Graph.{kindAt}
 use Rattle.write.specs.declared.answer.Written.the-variants.{Done}
 use Rattle.write.specs.Write.{graphOf, walkOf, saidOf, left, writeOf}
 use Rattle.renumber.specs.Renumber.{Simple, told, unplaced, Renumbers, ComesBack}
-use Rattle.renumber.specs.Marks.{Tetrahedral, bearsHydrogen, toggled, oddIndex}
-use Rattle.renumber.proofs.Marks.{mark-toggled}
+use Rattle.renumber.specs.Renumbered.{byWalk, renumbered}
+use Rattle.renumber.specs.Marks.{Tetrahedral}
 use Rattle.renumber.proofs.Trip.{renumbered-length}
 use Rattle.renumber.proofs.Written.{entries, table-numbers, table-count, placed-trip, was-done}
 use Rattle.renumber.proofs.Tables.{tables-renumber}
@@ -26,35 +24,35 @@ module _ (room : ℕ) (atoms : List ℕ) (n : ℕ) (bonds : List ℕ) (m len : �
     (W : Simple (graphOf n atoms bonds)) (T : (a : ℕ) → a < n → Tetrahedral (kindAt (graphOf n atoms bonds) a))
     (e : writeOf room atoms n bonds m ≡ left (Done len) out) where
   -- events that differ from those of the walk only in their places
-  pub events-come-back : (places slots : ℕ) → n ≤ places → m ≤ slots → (es : List Event) → map unplaced es ≡ told (saidOf atoms n bonds m) → (la lb : ℕ)
-      → ComesBack (graphOf n atoms bonds) (walkOf atoms n bonds m) (runS (startS places slots) es) n m la lb
-  unfolding numberOf leftS
-  events-come-back places slots hp hs es h la lb =
+  pub events-come-back : (places slots : ℕ) → n ≤ places → m ≤ slots → (es : List Event) → map unplaced es ≡ told (saidOf atoms n bonds m)
+      → ComesBack (graphOf n atoms bonds) (byWalk (walkOf atoms n bonds m)) (runS (startS places slots) es) n m
+  unfolding numberOf
+  events-come-back places slots hp hs es h =
       let d = was-done room atoms n bonds m len out e in
       let b = placed-trip atoms bonds n m (d .few) (d .good) W T (d .fine) places slots hp hs es h in
-      let N = table-numbers atoms bonds n m (d .few) (d .good) W T (d .fine) in
       let c = table-count atoms bonds n m (d .few) (d .good) W T (d .fine) in
-      let q = entries atoms bonds n m (d .few) (d .good) W T (d .fine) in
-      let g = graphOf n atoms bonds in
-      let w = walkOf atoms n bonds m in
       record {
         built = b;
-        numbers = N;
-        atoms = omega (arith, ap length (b .nodes), renumbered-length g w, b .unseen);
+        atoms = omega (arith, ap length (b .nodes), renumbered-length (graphOf n atoms bonds) (byWalk (walkOf atoms n bonds m)), b .unseen);
         entries = ap countOf (b .nodes) ∙ c;
-        graph = rw (b .says, b .nodes) (tables-renumber g w N T (d .few) (c ∙ sym q) (omega (arith, d .most)) la lb);
       }
 
   -- a text
   pub text-comes-back : (s : List ℕ) → map unplaced (parse s) ≡ told (saidOf atoms n bonds m)
       → (la lb : ℕ) → n ≤ lesserOf atomLimit (la / atomWords) → m ≤ lesserOf bondLimit (lb / bondWords)
-      → ComesBack (graphOf n atoms bonds) (walkOf atoms n bonds m) (sketchOf s la lb) n m la lb
+      → ComesBack (graphOf n atoms bonds) (byWalk (walkOf atoms n bonds m)) (sketchOf s la lb) n m
   unfolding sketchOf
   text-comes-back s h la lb hp hs =
-      events-come-back (lesserOf atomLimit (la / atomWords)) (lesserOf bondLimit (lb / bondWords)) hp hs (parse s) h la lb
+      events-come-back (lesserOf atomLimit (la / atomWords)) (lesserOf bondLimit (lb / bondWords)) hp hs (parse s) h
 
--- and an atom's mark is toggled exactly if it bears hydrogen and its parent's bond stood at an odd index
-pub kind-comes-back : (g h : Graph) (w : Walk) → Renumbers g h w → (v : ℕ) → v < g .size → Tetrahedral (kindAt g (getD (w .walked) v 0))
-    → kindAt h v ≡ pick (both (bearsHydrogen (kindAt g (getD (w .walked) v 0))) (oddIndex (getD (w .back) (getD (w .walked) v 0) 0))) (toggled (kindAt g (getD (w .walked) v 0))) (kindAt g (getD (w .walked) v 0))
-kind-comes-back g h w r v q t =
-    r .kind v q ∙ mark-toggled (kindAt g (getD (w .walked) v 0)) (getD (w .back) (getD (w .walked) v 0) 0) t
+  -- and the tables of the renumbered graph, with any zeros after them, hold that graph
+  pub tables-hold : (la lb : ℕ)
+      → Renumbers (graphOf n atoms bonds)
+      (graphOf n (padded la (atomTable (renumbered (graphOf n atoms bonds) (byWalk (walkOf atoms n bonds m))))) (padded lb (bondTable (renumbered (graphOf n atoms bonds) (byWalk (walkOf atoms n bonds m))))))
+      (byWalk (walkOf atoms n bonds m))
+  tables-hold la lb =
+      let d = was-done room atoms n bonds m len out e in
+      let N = table-numbers atoms bonds n m (d .few) (d .good) W T (d .fine) in
+      let c = table-count atoms bonds n m (d .few) (d .good) W T (d .fine) in
+      let q = entries atoms bonds n m (d .few) (d .good) W T (d .fine) in
+      tables-renumber (graphOf n atoms bonds) (byWalk (walkOf atoms n bonds m)) N T (d .few) (c ∙ sym q) (omega (arith, d .most)) la lb

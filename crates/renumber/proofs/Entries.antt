@@ -10,7 +10,8 @@ use lib.Dec.{leb}
 use borrow.Author.Tests.{eq-eqb, ne-eqb, leb-true, leb-false}
 use Rattle.feature.specs.Bonds.{reverseOf}
 use Rattle.ways.specs.Graph.{Bond, Graph, degreeAt, bondOf}
-use Rattle.renumber.specs.Renumber.{Backed, Simple, othersOf, parentEntry, doneOf, entriesOf}
+use Rattle.renumber.specs.Renumber.{Backed, Simple}
+use Rattle.renumber.specs.Renumbered.{othersOf, parentEntry, doneOf, entriesOf}
 use Rattle.renumber.proofs.Lists.{same-refl, same-eq, same-ne, true≢false, by-eq, by-bool, or-true, or-true-left}
 use Rattle.renumber.proofs.View.{hasT, kindT, NodupB, bnil, bcons}
 use Rattle.renumber.proofs.Opens.{hasT-app}
@@ -208,11 +209,10 @@ module _ (g : Graph) (S : Simple g) (v b : ℕ) (small : v < g .size) (hb : b �
       (λ q. rw (done-step g v b n q) (nodup-snoc (doneOf g v b n) (bondOf g v n) (done-nodup n (omega arith)) (done-fresh n h q)))
 
 -- the entry of t towards s has the reverse of the kind of the entry of s towards t
-pub reverse-kind : (g : Graph) → Simple g → (s i t b n : ℕ) → s < g .size → i < degreeAt g s → bondOf g s i .to ≡ t → n ≤ degreeAt g t → b ≤ degreeAt g t
+pub reverse-kind : (g : Graph) → Simple g → (s i t b n : ℕ) → s < g .size → i < degreeAt g s → bondOf g s i .to ≡ t → t < g .size → n ≤ degreeAt g t → b ≤ degreeAt g t
     → hasT s (doneOf g t b n) ≡ true → kindT s (doneOf g t b n) ≡ reverseOf (bondOf g s i .kind)
-reverse-kind g S s i t b n hs hi e hn hb h =
+reverse-kind g S s i t b n hs hi e ht hn hb h =
     let k : Backed g s t (bondOf g s i) = subst (λ (x : ℕ). Backed g s x (bondOf g s i)) e (S .backed s i hs hi) in
-    let ht : t < g .size = subst (λ (x : ℕ). x < g .size) e (S .known s i hs hi) in
     let f = first {Q = Behind g t b n} s (doneOf g t b n) (done-all g t b n hn hb) h in
     let p : f .fact .place ≡ k .place = S .once t (f .fact .place) (k .place) ht (f .fact .within) (k .within) (ap (λ (x : Bond). x .to) (sym (f .fact .is)) ∙ f .leads ∙ sym (k .leads)) in
     f .kind ∙ ap (λ (x : Bond). x .kind) (f .fact .is) ∙ ap (λ (j : ℕ). bondOf g t j .kind) p ∙ k .reversed

@@ -1,24 +1,28 @@
--- Kinds with no configuration but TH1 or TH2: their mark can always be turned, and what comes back of it.
+-- The rule for marks serves: of a kind with no configuration but TH1 or TH2 the mark can always be turned, and a kind that is said
+-- and built again is the kind that comes back.
 use mathlib.Core.Path.{_≡_, refl, sym, ap, _∙_}
 use mathlib.Core.Logic.{_≢_}
 use mathlib.Core.Bool.{Bool, true, false}
 use Prim.Native.Nat.{ℕ, _-_, _%_, _≤_}
 use native.Mathlib.Omega.{arith}
 use lib.Dec.{eqb}
-use borrow.Author.Tests.{eq-eqb, ne-eqb}
+use borrow.Author.Tests.{eq-eqb, ne-eqb, eqb-true}
 use Rattle.feature.specs.Pick.{pick, both, neither}
-use Rattle.feature.specs.Kinds.{noHydrogens, marked, invertBracket, invertOf}
+use Rattle.feature.specs.Kinds.{noHydrogens, noConfiguration, th1, th2, marked, bracketInRange, inRange, invertBracket, invertOf}
 use Rattle.feature.specs.declared.atom_kind.BracketAtom.{BracketAtom}
 use Rattle.feature.specs.declared.atom_kind.AtomKind.{AtomKind}
 use Rattle.feature.specs.declared.atom_kind.AtomKind.the-variants.{Star, Aliphatic, Aromatic, Bracket}
+use Rattle.feature.specs.declared.atom_kind.Inverted.{Inverted}
 use Rattle.feature.specs.declared.atom_kind.Inverted.the-variants.{Turned}
+use Rattle.feature.proofs.Cases.{by-test}
+use Rattle.feature.proofs.Ranges.{good, ranged}
+use Rattle.survive.specs.Survive.{configurationSurvives, fieldsSurvive, survives}
 use Rattle.ways.specs.Ways.{isRefused, isFixed, turnedOr, even, saidAs}
-use Rattle.renumber.specs.Renumber.{reread}
-use Rattle.renumber.specs.Marks.{Tetrahedral, bearsHydrogen, otherMark, toggled, oddIndex}
+use Rattle.renumber.specs.Marks.{Tetrahedral, bearsHydrogen, otherMark, toggled, oddIndex, backKind, MarksServe}
 use Rattle.renumber.proofs.Lists.{by-eq, by-bool}
 
 -- the mark toggled where the atom bears hydrogen
-pub turned : AtomKind → AtomKind
+turned : AtomKind → AtomKind
 turned k = pick (bearsHydrogen k) (toggled k) k
 
 mark-same : (b : BracketAtom) (c : ℕ) → c ≡ b .configuration → Bracket (marked b c) ≡ Bracket b
@@ -36,7 +40,7 @@ mark-two : (c : ℕ) → c ≡ 2 → otherMark c ≡ 1
 unfolding otherMark
 mark-two c e = rw e
 
-pub mark-small : (c : ℕ) → c ≤ 2 → otherMark c ≤ 2
+mark-small : (c : ℕ) → c ≤ 2 → otherMark c ≤ 2
 mark-small c h =
     by-eq c 0 (λ e. rw (mark-none c e) h)
     (λ n. by-eq c 1 (λ e. rw (mark-one c e) (omega arith)) (λ m. rw (mark-two c (omega arith)) (omega arith)))
@@ -62,14 +66,14 @@ invert-bracket b h =
     simp (ne-eqb (b .configuration) 0 n, ne-eqb (b .hydrogens) noHydrogens m, ne-eqb (b .hydrogens) 0 l, ne-eqb (b .configuration) 1 o, eq-eqb (b .configuration) 2 e, mark-two (b .configuration) e)))))
 
 -- the mark of such a kind can be turned
-pub invert-is : (k : AtomKind) → Tetrahedral k → invertOf k ≡ Turned (turned k)
+invert-is : (k : AtomKind) → Tetrahedral k → invertOf k ≡ Turned (turned k)
 unfolding invertOf turned bearsHydrogen
 invert-is Star h = refl
 invert-is (Aliphatic n) h = refl
 invert-is (Aromatic n) h = refl
 invert-is (Bracket b) h = invert-bracket b h
 
-pub never-fixed : (k : AtomKind) → Tetrahedral k → isFixed k ≡ false
+never-fixed : (k : AtomKind) → Tetrahedral k → isFixed k ≡ false
 unfolding isFixed isRefused
 never-fixed k h = rw (invert-is k h)
 
@@ -82,7 +86,7 @@ turned-stays (Bracket b) h =
     by-bool (pick (eqb (b .hydrogens) noHydrogens) false (neither (eqb (b .hydrogens) 0)))
     (λ q. rw q (mark-small (b .configuration) h)) (λ q. rw q h)
 
-pub turned-twice : (k : AtomKind) → Tetrahedral k → turned (turned k) ≡ k
+turned-twice : (k : AtomKind) → Tetrahedral k → turned (turned k) ≡ k
 unfolding turned bearsHydrogen toggled
 turned-twice Star h = refl
 turned-twice (Aliphatic n) h = refl
@@ -100,32 +104,11 @@ said-odd : (k : AtomKind) (b : ℕ) → Tetrahedral k → even b ≡ false → s
 unfolding saidAs turnedOr
 said-odd k b h e = rw (e, invert-is k h)
 
-pub reread-root : (k : AtomKind) (b : ℕ) → b ≡ 0 → reread k b ≡ k
-unfolding reread
-reread-root k b e = rw (eq-eqb b 0 e)
-
-reread-even : (k : AtomKind) (b : ℕ) → Tetrahedral k → b ≢ 0 → even b ≡ true → reread k b ≡ turned k
-unfolding reread turnedOr
-reread-even k b h n e = rw (ne-eqb b 0 n, said-even k b e, invert-is k h)
-
-reread-odd : (k : AtomKind) (b : ℕ) → Tetrahedral k → b ≢ 0 → even b ≡ false → reread k b ≡ k
-unfolding reread turnedOr
-reread-odd k b h n e = rw (ne-eqb b 0 n, said-odd k b h e, invert-is (turned k) (turned-stays k h)) (turned-twice k h)
-
--- what the builder makes of an atom as it is said
-pub said-inverts : (k : AtomKind) (b : ℕ) → Tetrahedral k → b ≢ 0 → invertOf (saidAs k b) ≡ Turned (reread k b)
-said-inverts k b h n =
-    by-bool (even b)
-    (λ e. ap invertOf (said-even k b e) ∙ invert-is k h ∙ ap Turned (sym (reread-even k b h n e)))
-    (λ e. ap invertOf (said-odd k b h e) ∙ invert-is (turned k) (turned-stays k h) ∙ ap Turned (turned-twice k h ∙ sym (reread-odd k b h n e)))
-
 said-root : (k : AtomKind) → saidAs k 0 ≡ k
 unfolding saidAs even
 said-root k = refl
 
-pub said-first : (k : AtomKind) (b : ℕ) → b ≡ 0 → saidAs k 0 ≡ reread k b
-said-first k b e = said-root k ∙ sym (reread-root k b e)
-
+-- ---- what comes back
 even-before : (b : ℕ) → b ≢ 0 → even b ≡ neither (even (b - 1))
 unfolding even
 even-before b n =
@@ -133,20 +116,85 @@ even-before b n =
     (λ e. rw (eq-eqb (b % 2) 0 e, ne-eqb ((b - 1) % 2) 0 (λ z. omega arith)))
     (λ e. rw (ne-eqb (b % 2) 0 e, eq-eqb ((b - 1) % 2) 0 (omega arith)))
 
--- ---- the law: the mark is toggled exactly if the atom bears hydrogen and its parent's bond stood at an odd index
-pub mark-toggled : (k : AtomKind) (b : ℕ) → Tetrahedral k → reread k b ≡ pick (both (bearsHydrogen k) (oddIndex b)) (toggled k) k
+-- a place from 1 is even where its index is odd
+odd-index : (b : ℕ) → b ≢ 0 → oddIndex b ≡ even b
 unfolding oddIndex
-mark-toggled k b h =
-    by-eq b 0
-    (λ e. reread-root k b e ∙ sym (rw (eq-eqb b 0 e) (quiet (bearsHydrogen k))))
-    (λ n. by-bool (even b)
-    (λ e. reread-even k b h n e ∙ sym (rw (ne-eqb b 0 n, sym (even-before b n) ∙ e) (loud (bearsHydrogen k) refl)))
-    (λ e. reread-odd k b h n e ∙ sym (rw (ne-eqb b 0 n, sym (even-before b n) ∙ e) (quiet (bearsHydrogen k)))))
-  where
-    quiet : (q : Bool) → pick (both q false) (toggled k) k ≡ k
-    quiet true = refl
-    quiet false = refl
+odd-index b n = rw (ne-eqb b 0 n, sym (even-before b n))
 
-    loud : (q : Bool) → bearsHydrogen k ≡ q → pick (both q true) (toggled k) k ≡ turned k
-    loud true e = unfold turned in rw e
-    loud false e = unfold turned in rw e
+back-quiet : (k : AtomKind) (b : ℕ) → oddIndex b ≡ false → backKind k b ≡ k
+unfolding backKind
+back-quiet k b e = rw e (go (bearsHydrogen k))
+  where
+    go : (q : Bool) → pick (both q false) (toggled k) k ≡ k
+    go true = refl
+    go false = refl
+
+back-loud : (k : AtomKind) (b : ℕ) → oddIndex b ≡ true → backKind k b ≡ turned k
+unfolding backKind turned
+back-loud k b e = rw e (go (bearsHydrogen k))
+  where
+    go : (q : Bool) → pick (both q true) (toggled k) k ≡ pick q (toggled k) k
+    go true = refl
+    go false = refl
+
+back-root : (k : AtomKind) → backKind k 0 ≡ k
+unfolding oddIndex
+back-root k = back-quiet k 0 refl
+
+-- what the builder makes of an atom as it is said
+said-built : (k : AtomKind) (b : ℕ) → Tetrahedral k → b ≢ 0 → invertOf (saidAs k b) ≡ Turned (backKind k b)
+said-built k b h n =
+    by-bool (even b)
+    (λ e. ap invertOf (said-even k b e) ∙ invert-is k h ∙ ap Turned (sym (back-loud k b (odd-index b n ∙ e))))
+    (λ e. ap invertOf (said-odd k b h e) ∙ invert-is (turned k) (turned-stays k h) ∙ ap Turned (turned-twice k h ∙ sym (back-quiet k b (odd-index b n ∙ e))))
+
+-- ---- ranges
+toggled-range : (k : AtomKind) → Tetrahedral k → inRange k ≡ true → inRange (toggled k) ≡ true
+unfolding toggled
+toggled-range Star t h = h
+toggled-range (Aliphatic n) t h = h
+toggled-range (Aromatic n) t h = h
+toggled-range (Bracket b) t h =
+    let w = good (Bracket b) h in
+    let m = mark-small (b .configuration) t in
+    ranged (Bracket (marked b (otherMark (b .configuration))))
+    (record { isotope = w .isotope; symbol = w .symbol; configuration = omega arith; hydrogens = w .hydrogens; charge = w .charge; map = w .map })
+
+back-range : (k : AtomKind) (b : ℕ) → Tetrahedral k → inRange k ≡ true → inRange (backKind k b) ≡ true
+unfolding backKind
+back-range k b t h = by-bool (both (bearsHydrogen k) (oddIndex b)) (λ q. rw q (toggled-range k t h)) (λ q. rw q h)
+
+-- ---- what survives
+-- a mark of TH1 or TH2 in place of the other
+mark-survives : (b : BracketAtom) (c d : ℕ) → b .configuration ≡ c → bracketInRange (marked b d) ≡ bracketInRange (marked b c) → configurationSurvives d ≡ configurationSurvives c
+    → survives (Bracket b) ≡ true → survives (Bracket (marked b d)) ≡ true
+unfolding survives fieldsSurvive
+mark-survives b c d e r f h = rw (r, f) (rw e at h)
+
+turned-survives : (k : AtomKind) → survives k ≡ true → survives (turnedOr k (invertOf k)) ≡ true
+unfolding turnedOr invertOf invertBracket bracketInRange configurationSurvives
+turned-survives Star h = h
+turned-survives (Aliphatic n) h = h
+turned-survives (Aromatic n) h = h
+turned-survives (Bracket b) h =
+    let P : Inverted → Type 0 = λ x. survives (turnedOr (Bracket b) x) ≡ true in
+    by-test P (eqb (b .configuration) noConfiguration) (λ q. h)
+    (λ q. by-test P (eqb (b .hydrogens) noHydrogens) (λ q. h)
+    (λ q. by-test P (eqb (b .hydrogens) 0) (λ q. h)
+    (λ q. by-test P (eqb (b .configuration) th1) (λ e. mark-survives b th1 th2 (eqb-true _ _ e) refl refl h)
+    (λ q. by-test P (eqb (b .configuration) th2) (λ e. mark-survives b th2 th1 (eqb-true _ _ e) refl refl h)
+    (λ q. h)))))
+
+said-survives : (k : AtomKind) (b : ℕ) → survives k ≡ true → survives (saidAs k b) ≡ true
+unfolding saidAs
+said-survives k b h = by-test (λ (x : AtomKind). survives x ≡ true) (even b) (λ q. h) (λ q. turned-survives k h)
+
+-- ---- the law
+pub marks-serve : MarksServe
+marks-serve = record {
+  root = λ k. said-root k ∙ sym (back-root k);
+  free = never-fixed;
+  built = said-built;
+  held = back-range;
+  kept = said-survives;
+}

@@ -1,5 +1,5 @@
--- The pool serves: the words of a pool hold the open pairs, open numbers are distinct, and a call for an open pair closes it with
--- the number that opened it.
+-- The pool serves: the words of a pool hold the open pairs, open numbers are distinct and at most 99, and a call for an open pair
+-- closes it with the number that opened it.
 use mathlib.Core.Path.{_≡_, refl, sym, ap, ap₂, _∙_, subst}
 use mathlib.Core.Logic.{_≢_}
 use mathlib.Core.List.{List, [], _∷_}
@@ -222,6 +222,9 @@ module _ (p : Pool) (pairs : List ℕ) (P : List Pair) (H : Holds p pairs P) (g 
           let b = H .below (x .num) (in-num x P (f .member)) in
           hit-is p pairs s t ∙ rw (found-x, ne-eqb (x .num) 0 (λ z. omega arith))
 
+      close-small : x .num ≤ highest
+      close-small = omega (arith, H .below (x .num) (in-num x P (look-in P t s x l .member)) .1, H .high)
+
       close-holds : Holds (pool (counterOf p) (x .num)) (slot pairs (x .num) 0 0 0) (del t s P)
       close-holds =
           let f = look-in P t s x l in
@@ -295,7 +298,7 @@ module _ (p : Pool) (pairs : List ℕ) (P : List Pair) (H : Holds p pairs P) (g 
           by-bool (ltb highest (nextOf p))
           (λ q. full pairs (hit-is p pairs s t ∙ rw (found-none, q)))
           (λ q. number (pool (counterOf p) 0) (slot pairs (nextOf p) 1 (loOf s t) (hiOf s t)) (nextOf p)
-          (hit-is p pairs s t ∙ rw (found-none, q)) (next-facts .2) (open-holds (ltb-false highest (nextOf p) q)))
+          (hit-is p pairs s t ∙ rw (found-none, q)) (ltb-false highest (nextOf p) q) (next-facts .2) (open-holds (ltb-false highest (nextOf p) q)))
 
 pub pool-serves : Serves Holds
 unfolding numIn
@@ -310,6 +313,6 @@ pool-serves = record {
     spare = λ h. absurd (h refl);
   };
   closes = λ p pairs P s t x H g a l l′.
-      record { after = pool (counterOf p) (x .num); words = slot pairs (x .num) 0 0 0; is = close-is p pairs P H g s t a x l l′; holds = close-holds p pairs P H g s t a x l l′ };
+      record { after = pool (counterOf p) (x .num); words = slot pairs (x .num) 0 0 0; is = close-is p pairs P H g s t a x l l′; small = close-small p pairs P H g s t a x l l′; holds = close-holds p pairs P H g s t a x l l′ };
   opens = λ p pairs P s t H g a l l′. open-is p pairs P H g s t a l l′;
 }

@@ -1,9 +1,10 @@
--- Over a simple graph a walk is refused only where a mark would have to be turned and can't be, or where no ring number is left.
+-- Over a simple graph a walk is refused only where a target is no atom, where a mark would have to be turned and can't be, or where
+-- no ring number is left.
 use mathlib.Core.Path.{_≡_, refl, sym, subst}
 use mathlib.Core.Logic.{_≢_}
 use mathlib.Core.List.{List}
 use mathlib.Core.Bool.{Bool, true, false}
-use Prim.Native.Nat.{ℕ, zero, suc, _+_, _<_}
+use Prim.Native.Nat.{ℕ, zero, suc, _+_, _≤_, _<_}
 use native.Mathlib.Omega.{arith}
 use lib.ListN.{getD}
 use lib.Dec.{leb, eqb}
@@ -15,20 +16,21 @@ use Rattle.ways.specs.declared.entry.Way.{Way}
 use Rattle.ways.specs.Graph.{Bond, Graph, kindAt, degreeAt, bondOf}
 use Rattle.ways.specs.Ways.{isFixed, even, inversion}
 use Rattle.walk.specs.declared.walker.Walker.{Walker}
-use Rattle.walk.specs.Walk.{Walk, Turn, quiet, moved, tookAt, leftIn, rootOf, leaveOf, numberedOf, ringOf, enteredOf, enterOf, bondTurn, entryOf, atomOf, turnOf, stepOf, walkTo, ringNumbers}
+use Rattle.walk.specs.Walk.{Walk, Turn, quiet, moved, tookAt, leftIn, rootOf, leaveOf, numberedOf, ringOf, enteredOf, enterOf, bondTurn, entryOf, atomOf, turnOf, stepOf, walkTo, unknownTarget, ringNumbers}
 use Rattle.trek.specs.Trek.{Room, fresh}
 use Rattle.feature.proofs.Cases.{by-test}
 use Rattle.trek.proofs.Moves.{turn-moves}
 use Rattle.trek.proofs.Sound.{Sound, sound-start, step-sound, up-within}
-use Rattle.renumber.specs.Renumber.{Simple}
+use Rattle.renumber.specs.Renumber.{Simple, Known}
 use Rattle.renumber.specs.Marks.{Tetrahedral}
 use Rattle.renumber.proofs.Lists.{true≢false}
-use Rattle.renumber.proofs.Marks.{never-fixed}
+use Rattle.renumber.proofs.Marks.{marks-serve}
 use Rattle.renumber.proofs.Ways.{way-is}
 
--- none, want of a ring number, or a mark that can't be turned
+-- none, an entry whose target is no atom, want of a ring number, or a mark that can't be turned
 pub data Only (g : Graph) (r : ℕ) : Type 0 where
   none : r ≡ 0 → Only g r
+  unknown : r ≡ unknownTarget → (a i : ℕ) → a < g .size → i < degreeAt g a → g .size ≤ bondOf g a i .to → Only g r
   numbers : r ≡ ringNumbers → Only g r
   mark : r ≡ inversion → (t : ℕ) → t < g .size → isFixed (kindAt g t) ≡ true → Only g r
 
@@ -64,29 +66,25 @@ module _ (g : Graph) (W : Simple g) (w : Walk) (dep : ℕ) (snd : Sound g w dep)
     hs : s0 < g .size
     hs = up-within (snd .stands r)
 
-    ht : e0 .to < g .size
-    ht = W .known s0 i0 hs more
-
     given-only : (x : Given) (pairs : List ℕ) → O (numberedOf (tookAt w s0 i0) (e0 .kind) s0 (e0 .to) x pairs)
     unfolding numberedOf
     given-only Full pairs = numbers refl
     given-only (Number p n) pairs = none fine
 
-    enter-only : O (enterOf g (tookAt w s0 i0) (e0 .kind) s0 (e0 .to))
+    enter-only : e0 .to < g .size → O (enterOf g (tookAt w s0 i0) (e0 .kind) s0 (e0 .to))
     unfolding enterOf enteredOf
-    enter-only =
+    enter-only ht =
         let k = W .backed s0 i0 hs more in
-        subst (λ (y : Way). O (enteredOf g (tookAt w s0 i0) (e0 .kind) (e0 .to) y)) (sym (way-is g W s0 i0 (e0 .to) hs more refl k))
+        subst (λ (y : Way). O (enteredOf g (tookAt w s0 i0) (e0 .kind) (e0 .to) y)) (sym (way-is g W s0 i0 (e0 .to) ht refl k))
         (by-test (λ (y : Way). O (enteredOf g (tookAt w s0 i0) (e0 .kind) (e0 .to) y)) (both (isFixed (kindAt g (e0 .to))) (even (k .place)))
         (λ q. mark refl (e0 .to) ht (both-left _ _ q)) (λ q. none fine))
 
     bond-only : O (bondTurn g (tookAt w s0 i0) s0 e0)
     unfolding bondTurn ringOf
     bond-only =
-        let h = ht in
-        by-test O (leb (g .size) (e0 .to)) (λ z. absurd (omega (arith, leb-true (g .size) (e0 .to) z)))
+        by-test O (leb (g .size) (e0 .to)) (λ z. unknown refl s0 i0 hs more (leb-true (g .size) (e0 .to) z))
         (λ z. by-test O (eqb (e0 .to) s0) (λ y. absurd (W .apart s0 i0 hs more (eqb-true _ _ y)))
-        (λ y. by-test O (eqb (getD (w .met) (e0 .to) 0) 0) (λ x. enter-only) (λ x. given-only _ _)))
+        (λ y. by-test O (eqb (getD (w .met) (e0 .to) 0) 0) (λ x. enter-only (leb-false _ _ z)) (λ x. given-only _ _)))
 
     entry-only : O (entryOf g w s0 i0)
     unfolding entryOf
@@ -107,17 +105,19 @@ turns-only g W (suc t) w dep s o =
     (λ q. let m = turn-moves g w dep in turns-only g W t (turnOf g w .after) (m .0) (step-sound s (m .1)) (turn-only g W w dep s (eqb-true _ _ q)))
     (λ q. turns-only g W t w dep s o)
 
--- so a walk over a simple graph is never refused with 5 to 9, whatever its turns and its pool's words
+-- so a walk over a simple graph is never refused with 6 to 9, and with 5 only at a target that is no atom, whatever its turns and
+-- its pool's words
 pub only-refusals : (g : Graph) → Simple g → (lm lw lb lt : ℕ) (pairs : List ℕ) → Room g lm lb lt → (t : ℕ) → Only g (walkTo g t (fresh lm lw lb lt pairs) .at .refusal)
 only-refusals g W lm lw lb lt pairs r t =
     turns-only g W t (fresh lm lw lb lt pairs) 0 (sound-start g lm lw lb lt pairs r) (none refl)
 
--- and not with 10 where no kind has a configuration but TH1 or TH2
-pub rings-only : (g : Graph) → Simple g → ((a : ℕ) → a < g .size → Tetrahedral (kindAt g a)) → (lm lw lb lt : ℕ) (pairs : List ℕ) → Room g lm lb lt → (t : ℕ)
+-- and not with 5 where every target is an atom, nor with 10 where no kind has a configuration but TH1 or TH2
+pub rings-only : (g : Graph) → Simple g → Known g → ((a : ℕ) → a < g .size → Tetrahedral (kindAt g a)) → (lm lw lb lt : ℕ) (pairs : List ℕ) → Room g lm lb lt → (t : ℕ)
     → walkTo g t (fresh lm lw lb lt pairs) .at .refusal ≢ 0 → walkTo g t (fresh lm lw lb lt pairs) .at .refusal ≡ ringNumbers
-rings-only g W T lm lw lb lt pairs r t h = go (only-refusals g W lm lw lb lt pairs r t)
+rings-only g W K T lm lw lb lt pairs r t h = go (only-refusals g W lm lw lb lt pairs r t)
   where
     go : Only g (walkTo g t (fresh lm lw lb lt pairs) .at .refusal) → walkTo g t (fresh lm lw lb lt pairs) .at .refusal ≡ ringNumbers
     go (none e) = absurd (h e)
+    go (unknown e a i l q f) = absurd (omega (arith, f, K a i l q))
     go (numbers e) = e
-    go (mark e a l f) = absurd (true≢false f (never-fixed (kindAt g a) (T a l)))
+    go (mark e a l f) = absurd (true≢false f (marks-serve .free (kindAt g a) (T a l)))

@@ -18,7 +18,9 @@ use Rattle.walk.specs.declared.walker.Walker.{Walker}
 use Rattle.walk.specs.Walk.{Walk, passed, backAt, atEnd, ringed, moved, pooled, metAt, tookAt}
 use Rattle.trek.proofs.Moves.{parentOf}
 use Rattle.renumber.specs.Opened.{same}
-use Rattle.renumber.specs.Renumber.{Backed, Simple, doneOf, reread, orderOf}
+use Rattle.renumber.specs.Renumber.{Backed, Simple}
+use Rattle.renumber.specs.Renumbered.{doneOf, firstAtoms}
+use Rattle.renumber.specs.Marks.{backKind}
 use Rattle.renumber.proofs.Lists.{memb, idx, Nodup, same-ne, eq-of-same, true≢false, by-eq, by-bool, or-elim, idx-app, idx-new, nodup-snoc, memb-left, memb-new, memb-old, ne-of-memb, not-new, memb-cons, memb-there, memb-here}
 use Rattle.renumber.proofs.View.{hasT, push, push-same, push-other}
 use Rattle.renumber.proofs.Opens.{hasT-push}
@@ -30,7 +32,11 @@ unfoldable pub doneIn : Graph → List ℕ → List ℕ → ℕ → List Bond
 doneIn g back taken v = doneOf g v (getD back v 0) (getD taken v 0)
 
 unfoldable pub kindBy : Graph → List ℕ → ℕ → AtomKind
-kindBy g back v = reread (kindAt g v) (getD back v 0)
+kindBy g back v = backKind (kindAt g v) (getD back v 0)
+
+-- the first n atoms in walk order
+abbrev pub orderOf : List ℕ → ℕ → List ℕ
+orderOf walked n = firstAtoms (λ v. getD walked v 0) n
 
 -- the mark of an atom in the table of those met
 unfoldable pub mark : ℕ → List ℕ → ℕ
@@ -146,7 +152,7 @@ enter-done g back taken t b x rb h k nb q = fun-ext (λ v. by-eq v t
     ∙ sym (push-other t x (λ v. doneOf g v (getD back v 0) (getD taken v 0)) v e)))
 
 order-kept : (walked : List ℕ) (i v n : ℕ) → n ≤ i → orderOf (set walked i v) n ≡ orderOf walked n
-unfolding orderOf
+unfolding firstAtoms
 order-kept walked i v zero h = refl
 order-kept walked i v (suc n) h =
     ap₂ (λ (l : List ℕ) (x : ℕ). l ++ (x ∷ [])) (order-kept walked i v n (omega arith)) (getD-set-other walked i n v 0 (λ z. omega arith))
@@ -311,7 +317,7 @@ module _ {g : Graph} {w : Walk} {o fr : List ℕ} (S : Sta g w o fr) where
     length-next = length-append o (t ∷ []) ∙ add-one (length o)
 
     order-next : orderOf (set (w .walked) (w .at .count) t) (length (o ++ (t ∷ []))) ≡ o ++ (t ∷ [])
-    unfolding orderOf
+    unfolding firstAtoms
     order-next =
         let rw′ : length o < length (w .walked) = omega (arith, S .wide) in
         rw (length-next, S .count)
@@ -356,15 +362,12 @@ module _ {g : Graph} {w : Walk} {o fr : List ℕ} (S : Sta g w o fr) where
         }
 
 -- a new atom entered from the standing one, whose entry at hand is taken
-module _ {g : Graph} {w : Walk} {o fr : List ℕ} (S : Sta g w o fr) (W : Simple g)
+module _ {g : Graph} {w : Walk} {o fr : List ℕ} (S : Sta g w o fr)
     (rt : w .at .here < length (w .taken)) (r : w .at .standing ≡ true) (more : getD (w .taken) (w .at .here) 0 < degreeAt g (w .at .here))
     (apart : getD (w .back) (w .at .here) 0 ≢ getD (w .taken) (w .at .here) 0 + 1)
-    (t : ℕ) (to : bondOf g (w .at .here) (getD (w .taken) (w .at .here) 0) .to ≡ t)
+    (t : ℕ) (to : bondOf g (w .at .here) (getD (w .taken) (w .at .here) 0) .to ≡ t) (ht : t < g .size)
     (rm : t < length (w .met)) (rb : t < length (w .back)) (mt : memb t o ≡ false) (few : length o < g .size)
     (k : Backed g (w .at .here) t (bondOf g (w .at .here) (getD (w .taken) (w .at .here) 0))) where
-  ht : t < g .size
-  ht = subst (λ (x : ℕ). x < g .size) to (W .known (w .at .here) (getD (w .taken) (w .at .here) 0) (S .small (w .at .here) (here-held S r)) more)
-
   back-bond : bondOf g t (suc (k .place) - 1) ≡ bond (reverseOf (bondOf g (w .at .here) (getD (w .taken) (w .at .here) 0) .kind)) (w .at .here)
   back-bond =
       let z : suc (k .place) - 1 ≡ k .place = omega arith in

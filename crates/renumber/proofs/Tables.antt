@@ -7,14 +7,12 @@ use Prim.Native.Nat.{ℕ, zero, suc, _+_, _-_, _*_, _^_, _%_, _≤_, _<_}
 use native.Mathlib.Omega.{arith}
 use lib.ListN.{length, getD, replicate, length-map, length-replicate}
 use lib.Seq.{getD-append-add, getD-set-same, getD-set-other}
-use Rattle.feature.specs.Pick.{both}
-use Rattle.feature.specs.Kinds.{inRange, marked}
+use Rattle.feature.specs.Kinds.{inRange}
 use Rattle.feature.specs.Bonds.{codeOf, kindOf, sureKind}
 use Rattle.feature.specs.declared.atom_kind.AtomKind.{AtomKind}
-use Rattle.feature.specs.declared.atom_kind.AtomKind.the-variants.{Star, Aliphatic, Aromatic, Bracket}
+use Rattle.feature.specs.declared.atom_kind.AtomKind.the-variants.{Star}
 use Rattle.feature.specs.declared.bond_kind.BondKind.{BondKind}
 use Rattle.feature.specs.declared.bond_kind.BondKind.the-variants.{Elided}
-use Rattle.feature.proofs.Ranges.{good, ranged}
 use Rattle.record.specs.declared.Loaded.{Loaded}
 use Rattle.record.specs.declared.Loaded.the-variants as loaded
 use Rattle.record.specs.Words as words
@@ -25,15 +23,15 @@ use Rattle.build.specs.Build as build
 use Rattle.build.proofs.Degrees.{startsOf-length}
 use Rattle.sketch.specs.Sketch.{To, Edge, Node, edge, node, countOf, atomTable, targetOf, edgeTable, bondTable, padded}
 use Rattle.ways.specs.Graph.{Bond, Graph, kindAt, degreeAt, bondOf, bond, entryAt, kindOr, kindIn, degreeIn, bondIn}
-use Rattle.walk.specs.Walk.{Walk}
 use Rattle.write.specs.Write.{zeros, graphOf}
 use Rattle.trek.specs.Trek.{degrees}
-use Rattle.renumber.specs.Renumber.{entriesOf, reread, edgeOf, nodeOf, orderOf, renumbered, numberedAs, Numbering, Renumbers}
-use Rattle.renumber.specs.Marks.{Tetrahedral, bearsHydrogen, otherMark, toggled, oddIndex}
-use Rattle.renumber.proofs.Lists.{by-eq, by-bool}
+use Rattle.renumber.specs.Renumber.{numberedAs, Numbering, Renumbers}
+use Rattle.renumber.specs.Renumbered.{entriesOf, edgeOf, nodeOf, Numbers, firstAtoms, renumbered}
+use Rattle.renumber.specs.Marks.{Tetrahedral, backKind}
+use Rattle.renumber.proofs.Lists.{by-eq}
 use Rattle.renumber.proofs.Entries.{entries-length}
-use Rattle.renumber.proofs.Marks.{mark-toggled, mark-small}
-use Rattle.renumber.proofs.Trip.{order-length, order-at, renumbered-length}
+use Rattle.renumber.proofs.Marks.{marks-serve}
+use Rattle.renumber.proofs.Trip.{atoms-length, atoms-at, renumbered-length}
 
 abbrev noEdge : Edge
 noEdge = edge Elided (To 0)
@@ -144,82 +142,67 @@ unfolding kindOr inRange
 held-range (loaded.Held k) h = h k refl
 held-range loaded.Bad h = refl
 
-kind-range : (g : Graph) (a : ℕ) → inRange (kindAt g a) ≡ true
+pub kind-range : (g : Graph) (a : ℕ) → inRange (kindAt g a) ≡ true
 unfolding kindIn words.loadAt
 kind-range g a = held-range _ (λ k e. only _ _ k e .0)
 
-toggled-range : (k : AtomKind) → Tetrahedral k → inRange k ≡ true → inRange (toggled k) ≡ true
-unfolding toggled
-toggled-range Star t h = h
-toggled-range (Aliphatic n) t h = h
-toggled-range (Aromatic n) t h = h
-toggled-range (Bracket b) t h =
-    let w = good (Bracket b) h in
-    let m = mark-small (b .configuration) t in
-    ranged (Bracket (marked b (otherMark (b .configuration))))
-    (record { isotope = w .isotope; symbol = w .symbol; configuration = omega arith; hydrogens = w .hydrogens; charge = w .charge; map = w .map })
-
-reread-range : (k : AtomKind) (b : ℕ) → Tetrahedral k → inRange k ≡ true → inRange (reread k b) ≡ true
-reread-range k b t h =
-    rw (mark-toggled k b t) (by-bool (both (bearsHydrogen k) (oddIndex b)) (λ q. rw q (toggled-range k t h)) (λ q. rw q h))
-
 -- ---- the law
-module _ (g : Graph) (w : Walk) (N : Numbering g w) (T : (a : ℕ) → a < g .size → Tetrahedral (kindAt g a)) (limit : g .size ≤ atomLimit)
-    (count : countOf (renumbered g w) ≡ degrees g (g .size)) (few : degrees g (g .size) < 2 ^ 32) (la lb : ℕ) where
+module _ (g : Graph) (p : Numbers) (N : Numbering g p) (T : (a : ℕ) → a < g .size → Tetrahedral (kindAt g a)) (limit : g .size ≤ atomLimit)
+    (count : countOf (renumbered g p) ≡ degrees g (g .size)) (few : degrees g (g .size) < 2 ^ 32) (la lb : ℕ) where
   abbrev h : Graph
-  h = graphOf (g .size) (padded la (atomTable (renumbered g w))) (padded lb (bondTable (renumbered g w)))
+  h = graphOf (g .size) (padded la (atomTable (renumbered g p))) (padded lb (bondTable (renumbered g p)))
 
-  node-at : (v : ℕ) → v < g .size → getD (renumbered g w) v noNode ≡ nodeOf g w (getD (w .walked) v 0)
+  node-at : (v : ℕ) → v < g .size → getD (renumbered g p) v noNode ≡ nodeOf g p (p .atom v)
   unfolding renumbered
   node-at v q =
-      at-map (nodeOf g w) (orderOf (w .walked) (g .size)) v 0 noNode (omega (arith, order-length (w .walked) (g .size)))
-      ∙ ap (nodeOf g w) (order-at (w .walked) (g .size) v q)
+      at-map (nodeOf g p) (firstAtoms (p .atom) (g .size)) v 0 noNode (omega (arith, atoms-length (p .atom) (g .size)))
+      ∙ ap (nodeOf g p) (atoms-at (p .atom) (g .size) v q)
 
-  in-nodes : (v : ℕ) → v < g .size → v < length (renumbered g w)
-  in-nodes v q = omega (arith, renumbered-length g w)
+  in-nodes : (v : ℕ) → v < g .size → v < length (renumbered g p)
+  in-nodes v q = omega (arith, renumbered-length g p)
 
-  kind-at : (v : ℕ) → v < g .size → kindAt h v ≡ reread (kindAt g (getD (w .walked) v 0)) (getD (w .back) (getD (w .walked) v 0) 0)
+  kind-at : (v : ℕ) → v < g .size → kindAt h v ≡ backKind (kindAt g (p .atom v)) (p .parent (p .atom v))
   unfolding kindIn words.loadAt padded nodeOf kindOr
   kind-at v q =
-      let a : ℕ = getD (w .walked) v 0 in
-      let k : AtomKind = reread (kindAt g a) (getD (w .back) a 0) in
-      let r = atom-words (renumbered g w) (replicate (la - length (atomTable (renumbered g w))) 0) v (in-nodes v q) in
-      let e : getD (renumbered g w) v noNode .kind ≡ k = ap (λ (n : Node). n .kind) (node-at v q) in
+      let a : ℕ = p .atom v in
+      let k : AtomKind = backKind (kindAt g a) (p .parent a) in
+      let r = atom-words (renumbered g p) (replicate (la - length (atomTable (renumbered g p))) 0) v (in-nodes v q) in
+      let e : getD (renumbered g p) v noNode .kind ≡ k = ap (λ (n : Node). n .kind) (node-at v q) in
       ap₂ (λ (x y : ℕ). kindOr (words.loadOf x y)) (r .0 ∙ ap (λ (x : AtomKind). words.wordsOf x .first) e) (r .1 ∙ ap (λ (x : AtomKind). words.wordsOf x .second) e)
-      ∙ ap kindOr (load-words k (reread-range (kindAt g a) (getD (w .back) a 0) (T a (N .within v q)) (kind-range g a)))
+      ∙ ap kindOr (load-words k (marks-serve .held (kindAt g a) (p .parent a) (T a (N .within v q)) (kind-range g a)))
 
-  edges-at : (v : ℕ) → v < g .size → getD (renumbered g w) v noNode .edges ≡ map (edgeOf (w .met)) (entriesOf g (getD (w .walked) v 0) (getD (w .back) (getD (w .walked) v 0) 0))
+  edges-at : (v : ℕ) → v < g .size → getD (renumbered g p) v noNode .edges ≡ map (edgeOf (p .number)) (entriesOf g (p .atom v) (p .parent (p .atom v)))
   unfolding nodeOf
   edges-at v q = ap (λ (n : Node). n .edges) (node-at v q)
 
-  edges-long : (v : ℕ) → v < g .size → length (getD (renumbered g w) v noNode .edges) ≡ degreeAt g (getD (w .walked) v 0)
+  edges-long : (v : ℕ) → v < g .size → length (getD (renumbered g p) v noNode .edges) ≡ degreeAt g (p .atom v)
   edges-long v q =
-      ap length (edges-at v q) ∙ length-map (entriesOf g (getD (w .walked) v 0) (getD (w .back) (getD (w .walked) v 0) 0)) _
-      ∙ entries-length g (getD (w .walked) v 0) (getD (w .back) (getD (w .walked) v 0) 0) (N .parent (getD (w .walked) v 0))
+      ap length (edges-at v q) ∙ length-map (entriesOf g (p .atom v) (p .parent (p .atom v))) _
+      ∙ entries-length g (p .atom v) (p .parent (p .atom v)) (N .parent (p .atom v))
 
-  degree-at : (v : ℕ) → v < g .size → degreeAt h v ≡ degreeAt g (getD (w .walked) v 0)
+  degree-at : (v : ℕ) → v < g .size → degreeAt h v ≡ degreeAt g (p .atom v)
   unfolding degreeIn padded
   degree-at v q =
-      atom-words (renumbered g w) (replicate (la - length (atomTable (renumbered g w))) 0) v (in-nodes v q) .2 ∙ edges-long v q
+      atom-words (renumbered g p) (replicate (la - length (atomTable (renumbered g p))) 0) v (in-nodes v q) .2 ∙ edges-long v q
 
-  entry-at : (v i : ℕ) → v < g .size → i < degreeAt g (getD (w .walked) v 0)
-      → bondOf h v i ≡ numberedAs (w .met) (getD (entriesOf g (getD (w .walked) v 0) (getD (w .back) (getD (w .walked) v 0) 0)) i (bond Elided 0))
+  entry-at : (v i : ℕ) → v < g .size → i < degreeAt g (p .atom v)
+      → bondOf h v i ≡ numberedAs (p .number) (getD (entriesOf g (p .atom v) (p .parent (p .atom v))) i (bond Elided 0))
   unfolding bondIn padded edgeOf numberedAs targetOf
   entry-at v i q k =
-      let a : ℕ = getD (w .walked) v 0 in
-      let es : List Bond = entriesOf g a (getD (w .back) a 0) in
+      let a : ℕ = p .atom v in
+      let es : List Bond = entriesOf g a (p .parent a) in
       let x : Bond = getD es i (bond Elided 0) in
-      let l : i < length (getD (renumbered g w) v noNode .edges) = rw (edges-long v q) k in
-      let le : i < length es = rw (entries-length g a (getD (w .back) a 0) (N .parent a)) k in
-      let r = bond-table (renumbered g w) (replicate (lb - length (bondTable (renumbered g w))) 0) v i (in-nodes v q) l in
-      let e : getD (getD (renumbered g w) v noNode .edges) i noEdge ≡ edgeOf (w .met) x =
-      ap (λ (y : List Edge). getD y i noEdge) (edges-at v q) ∙ at-map (edgeOf (w .met)) es i (bond Elided 0) noEdge le in
-      let s : getD (h .first) v 0 ≡ before (renumbered g w) v =
-      starts-are (g .size) (padded la (atomTable (renumbered g w))) (zeros atomLimit) v (rw (length-replicate {A = ℕ} atomLimit 0) limit) q
-      ∙ sum-is (renumbered g w) (replicate (la - length (atomTable (renumbered g w))) 0) v (omega (arith, in-nodes v q)) (omega arith) in
-      ap (λ (y : ℕ). entryAt (padded lb (bondTable (renumbered g w))) ((y + i) * 2)) s
+      let l : i < length (getD (renumbered g p) v noNode .edges) = rw (edges-long v q) k in
+      let le : i < length es = rw (entries-length g a (p .parent a) (N .parent a)) k in
+      let r = bond-table (renumbered g p) (replicate (lb - length (bondTable (renumbered g p))) 0) v i (in-nodes v q) l in
+      let e : getD (getD (renumbered g p) v noNode .edges) i noEdge ≡ edgeOf (p .number) x =
+      ap (λ (y : List Edge). getD y i noEdge) (edges-at v q) ∙ at-map (edgeOf (p .number)) es i (bond Elided 0) noEdge le in
+      let s : getD (h .first) v 0 ≡ before (renumbered g p) v =
+      starts-are (g .size) (padded la (atomTable (renumbered g p))) (zeros atomLimit) v (rw (length-replicate {A = ℕ} atomLimit 0) limit) q
+      ∙ sum-is (renumbered g p) (replicate (la - length (atomTable (renumbered g p))) 0) v (omega (arith, in-nodes v q)) (omega arith) in
+      ap (λ (y : ℕ). entryAt (padded lb (bondTable (renumbered g p))) ((y + i) * 2)) s
       ∙ ap₂ (λ (y z : ℕ). bond (sureKind (kindOf y)) z) (r .0 ∙ ap (λ (y : Edge). codeOf (y .kind)) e) (r .1 ∙ ap (λ (y : Edge). targetOf (y .target)) e)
-      ∙ ap (λ (k : BondKind). bond k (getD (w .met) (x .to) 0 - 1)) (sure-code (x .kind))
+      ∙ ap (λ (k : BondKind). bond k (p .number (x .to))) (sure-code (x .kind))
 
-  pub tables-renumber : Renumbers g h w
+  pub tables-renumber : Renumbers g h p
   tables-renumber = record { size = refl; kind = kind-at; degree = degree-at; entry = entry-at }

@@ -6,31 +6,30 @@ use mathlib.Core.Option.{Option, none}
 use mathlib.Core.Bool.{Bool, true, false, not, _&&_}
 use Prim.Native.Nat.{ℕ, zero, suc, _-_, _≤_, _<_}
 use native.Mathlib.Omega.{arith}
-use native.Mathlib.Numerals.{add-one}
 use lib.ListN.{length, getD, replicate, length-append, length-map, length-replicate}
 use borrow.Author.Tests.{eq-eqb, ne-eqb}
-use Rattle.feature.specs.Pick.{pick, both}
 use Rattle.pool.specs.declared.Pool.{Pool}
+use Rattle.writer.specs.Line.{Event, Root, Extend, Join, Pop}
 use Rattle.sketch.specs.Sketch.{To, Edge, Sketch, node, startS, runS, countOf, openHere, openIn, firstOpenS, ringsSay, saysS, finishS}
 use Rattle.ways.specs.Graph.{Bond, Graph, kindAt, degreeAt, bondOf}
-use Rattle.walk.specs.Walk.{Walk, Turn, stepOf, turnOf, walkTo, eventsOf, turnsOf, ringNumbers}
+use Rattle.walk.specs.Walk.{Walk, Turn, stepOf, turnOf, walkTo, eventsOf, turnsOf}
 use Rattle.write.specs.Write.{pairWords}
 use Rattle.trek.specs.Trek.{Room, fresh, degrees, Finished}
 use Rattle.trek.proofs.Moves.{turn-moves}
 use Rattle.trek.proofs.Sums.{zeros-at}
 use Rattle.trek.proofs.Sound.{Sound, sound-start, step-sound}
 use Rattle.trek.proofs.Ended as trek
-use Rattle.renumber.specs.Opened.{Pair, look, joinIn, Serves, dnil}
-use Rattle.renumber.specs.Renumber.{Simple, Backed, entriesOf, reread, edgeOf, nodeOf, orderOf, renumbered, told, Numbering, Built}
-use Rattle.renumber.specs.Marks.{Tetrahedral, bearsHydrogen, toggled, oddIndex}
+use Rattle.renumber.specs.Opened.{Pair, look, joinIn, Serves, dnil, Numbered}
+use Rattle.renumber.specs.Renumber.{Simple, Known, Backed, told, Numbering, Built}
+use Rattle.renumber.specs.Renumbered.{entriesOf, edgeOf, nodeOf, Numbers, byWalk, firstAtoms, renumbered}
+use Rattle.renumber.specs.Marks.{Tetrahedral, backKind}
 use Rattle.renumber.proofs.Lists.{memb, idx, Nodup, nil, cons, same-refl, same-eq, same-ne, true≢false, by-eq, map-same, idx-lt, memb-here, memb-there}
 use Rattle.renumber.proofs.View.{hasT, tgt, encT, aim, view, enc-same, look-here, pair-this}
 use Rattle.renumber.proofs.Opens.{Pol, fnil, from-first, isSome, heldOf}
 use Rattle.renumber.proofs.Entries.{Behind, first, done-all, done-has, done-length, done-nothing, entries-length}
-use Rattle.renumber.proofs.Marks.{mark-toggled}
 use Rattle.renumber.proofs.Counts.{view-count-all}
 use Rattle.renumber.proofs.Follows.{idxs, run-app, told-app}
-use Rattle.renumber.proofs.State.{doneIn, kindBy, mark, mark-in, Sta, is-met}
+use Rattle.renumber.proofs.State.{doneIn, kindBy, orderOf, mark, mark-in, Sta, is-met}
 use Rattle.renumber.proofs.Turns.{Inv, Result, goes, stops, one-turn}
 use Rattle.renumber.proofs.Pool.{Holds, pool-serves}
 
@@ -40,10 +39,17 @@ unfolding walkTo stepOf
 refused-stays g zero w h = refl
 refused-stays g (suc t) w h = rw (ne-eqb (w .at .refusal) 0 h) (refused-stays g t w h)
 
--- after any number of turns the builder has followed, or the walk was stopped for want of a ring number
+numbered-app : (xs ys : List Event) → Numbered xs → Numbered ys → Numbered (xs ++ ys)
+numbered-app [] ys h k = k
+numbered-app (Root a ∷ xs) ys h k = numbered-app xs ys h k
+numbered-app (Extend b a ∷ xs) ys h k = numbered-app xs ys h k
+numbered-app (Join b n ∷ xs) ys h k = (h .0, numbered-app xs ys (h .1) k)
+numbered-app (Pop d ∷ xs) ys h k = numbered-app xs ys h k
+
+-- after any number of turns the builder has followed, or the walk was refused
 pub data Walked (H : Pool → List ℕ → List Pair → Type 0) (g : Graph) (b : Sketch) (t : ℕ) (w : Walk) : Type 0 where
-  follows : Inv H g (walkTo g t w) (runS b (told (eventsOf g t w))) → Walked H g b t w
-  stopped : walkTo g t w .at .refusal ≡ ringNumbers → Walked H g b t w
+  follows : Inv H g (walkTo g t w) (runS b (told (eventsOf g t w))) → Numbered (eventsOf g t w) → Walked H g b t w
+  stopped : walkTo g t w .at .refusal ≢ 0 → Walked H g b t w
 
 module _ (H : Pool → List ℕ → List Pair → Type 0) (Q : Serves H) (g : Graph) (W : Simple g) (T : (a : ℕ) → a < g .size → Tetrahedral (kindAt g a)) where
   step-is : (w : Walk) → w .at .refusal ≡ 0 → stepOf g w ≡ turnOf g w
@@ -51,25 +57,27 @@ module _ (H : Pool → List ℕ → List Pair → Type 0) (Q : Serves H) (g : Gr
   step-is w h = rw (eq-eqb (w .at .refusal) 0 h)
 
   -- one turn, then the others
-  then-walked : (t : ℕ) (w : Walk) (b : Sketch) (x : Turn) → stepOf g w ≡ x → Walked H g (runS b (told (x .said))) t (x .after) → Walked H g b (suc t) w
+  then-walked : (t : ℕ) (w : Walk) (b : Sketch) (x : Turn) → stepOf g w ≡ x → Numbered (x .said) → Walked H g (runS b (told (x .said))) t (x .after) → Walked H g b (suc t) w
   unfolding walkTo eventsOf
-  then-walked t w b x e (follows I) =
+  then-walked t w b x e h (follows I k) =
       follows (subst (λ (y : Turn). Inv H g (walkTo g t (y .after)) (runS b (told (y .said ++ eventsOf g t (y .after))))) (sym e)
       (subst (λ (c : Sketch). Inv H g (walkTo g t (x .after)) c) (sym (ap (runS b) (told-app (x .said) (eventsOf g t (x .after))) ∙ run-app b (told (x .said)) (told (eventsOf g t (x .after))))) I))
-  then-walked t w b x e (stopped r) = stopped (subst (λ (y : Turn). walkTo g t (y .after) .at .refusal ≡ ringNumbers) (sym e) r)
+      (subst (λ (y : Turn). Numbered (y .said ++ eventsOf g t (y .after))) (sym e) (numbered-app (x .said) (eventsOf g t (x .after)) h k))
+  then-walked t w b x e h (stopped r) = stopped (subst (λ (y : Turn). walkTo g t (y .after) .at .refusal ≢ 0) (sym e) r)
 
-  stop-walked : (t : ℕ) (w : Walk) (b : Sketch) (x : Turn) → stepOf g w ≡ x → x .after .at .refusal ≡ ringNumbers → Walked H g b (suc t) w
+  stop-walked : (t : ℕ) (w : Walk) (b : Sketch) (x : Turn) → stepOf g w ≡ x → x .after .at .refusal ≢ 0 → Walked H g b (suc t) w
+  unfolding walkTo
   stop-walked t w b x e r =
-      then-walked t w b x e (stopped (ap (λ (v : Walk). v .at .refusal) (refused-stays g t (x .after) (λ z. let y : ringNumbers ≡ 0 = sym r ∙ z in omega arith)) ∙ r))
+      stopped (subst (λ (y : Turn). walkTo g t (y .after) .at .refusal ≢ 0) (sym e) (λ z. r (ap (λ (v : Walk). v .at .refusal) (sym (refused-stays g t (x .after) r)) ∙ z)))
 
   next-walked : (t : ℕ) (w : Walk) (b : Sketch) (n : ℕ) → Sound g (turnOf g w .after) n → stepOf g w ≡ turnOf g w
       → ((v : Walk) (c : Sketch) (m : ℕ) → Sound g v m → Inv H g v c → Walked H g c t v) → Result H g b (turnOf g w) → Walked H g b (suc t) w
-  next-walked t w b n s e f (goes I) = then-walked t w b (turnOf g w) e (f (turnOf g w .after) (runS b (told (turnOf g w .said))) n s I)
+  next-walked t w b n s e f (goes I h) = then-walked t w b (turnOf g w) e h (f (turnOf g w .after) (runS b (told (turnOf g w .said))) n s I)
   next-walked t w b n s e f (stops r) = stop-walked t w b (turnOf g w) e r
 
   pub turns-walked : (t : ℕ) (w : Walk) (b : Sketch) (dep : ℕ) → Sound g w dep → Inv H g w b → Walked H g b t w
   unfolding walkTo eventsOf told runS
-  turns-walked zero w b dep s I = follows I
+  turns-walked zero w b dep s I = follows I tt
   turns-walked (suc t) w b dep s I =
       let m = turn-moves g w dep in
       next-walked t w b (m .0) (step-sound s (m .1)) (step-is w (I .fine)) (turns-walked t) (one-turn H Q g W T w b dep s I)
@@ -88,7 +96,7 @@ module _ (H : Pool → List ℕ → List Pair → Type 0) (Q : Serves H) (g : Gr
   has-start v x = rw (done-start v)
 
   sta-start : Sta g w0 [] []
-  unfolding mark memb orderOf
+  unfolding mark memb firstAtoms
   sta-start = record {
     nod = nil;
     count = refl;
@@ -150,10 +158,10 @@ idx-at zero (cons {x = y} {l = o} k n) h = rw (same-refl y)
 idx-at (suc v) (cons {x = y} {l = o} k n) h =
     rw (same-ne (getD o v 0) y (λ e. true≢false (at-memb o v (omega arith)) (rw e k))) (ap suc (idx-at v n (omega arith)))
 
-pub order-length : (walked : List ℕ) (n : ℕ) → length (orderOf walked n) ≡ n
-unfolding orderOf
-order-length walked zero = refl
-order-length walked (suc n) = length-append (orderOf walked n) (getD walked n 0 ∷ []) ∙ omega (arith, order-length walked n)
+pub atoms-length : (atom : ℕ → ℕ) (n : ℕ) → length (firstAtoms atom n) ≡ n
+unfolding firstAtoms
+atoms-length atom zero = refl
+atoms-length atom (suc n) = length-append (firstAtoms atom n) (atom n ∷ []) ∙ omega (arith, atoms-length atom n)
 
 at-last : (o : List ℕ) (x : ℕ) → getD (o ++ (x ∷ [])) (length o) 0 ≡ x
 at-last [] x = refl
@@ -164,13 +172,13 @@ at-left [] m v h = absurd (omega arith)
 at-left (y ∷ o) m zero h = refl
 at-left (y ∷ o) m (suc v) h = at-left o m v (omega arith)
 
-pub order-at : (walked : List ℕ) (n v : ℕ) → v < n → getD (orderOf walked n) v 0 ≡ getD walked v 0
-unfolding orderOf
-order-at walked zero v h = absurd (omega arith)
-order-at walked (suc n) v h =
+pub atoms-at : (atom : ℕ → ℕ) (n v : ℕ) → v < n → getD (firstAtoms atom n) v 0 ≡ atom v
+unfolding firstAtoms
+atoms-at atom zero v h = absurd (omega arith)
+atoms-at atom (suc n) v h =
     by-eq v n
-    (λ e. rw e (ap (λ (i : ℕ). getD (orderOf walked n ++ (getD walked n 0 ∷ [])) i 0) (sym (order-length walked n)) ∙ at-last (orderOf walked n) (getD walked n 0)))
-    (λ e. at-left (orderOf walked n) (getD walked n 0 ∷ []) v (omega (arith, order-length walked n)) ∙ order-at walked n v (omega arith))
+    (λ e. rw e (ap (λ (i : ℕ). getD (firstAtoms atom n ++ (atom n ∷ [])) i 0) (sym (atoms-length atom n)) ∙ at-last (firstAtoms atom n) (atom n)))
+    (λ e. at-left (firstAtoms atom n) (atom n ∷ []) v (omega (arith, atoms-length atom n)) ∙ atoms-at atom n v (omega arith))
 
 not-lone : (p q : Bool) → p && not q ≡ true → (p ≡ true → q ≡ true) → ⊥
 not-lone true true h f = true≢false h refl
@@ -178,15 +186,15 @@ not-lone true false h f = true≢false (f refl) refl
 not-lone false q h f = true≢false h refl
 
 -- no entry is open
-first-none : (met : List ℕ) (es : List Bond) (q : Option ℕ) → openIn (map (edgeOf met) es) q ≡ q
+first-none : (number : ℕ → ℕ) (es : List Bond) (q : Option ℕ) → openIn (map (edgeOf number) es) q ≡ q
 unfolding openIn edgeOf openHere
-first-none met [] q = refl
-first-none met (e ∷ es) q = first-none met es q
+first-none number [] q = refl
+first-none number (e ∷ es) q = first-none number es q
 
-none-open : (g : Graph) (w : Walk) (l : List ℕ) → firstOpenS (map (nodeOf g w) l) ≡ none
+none-open : (g : Graph) (p : Numbers) (l : List ℕ) → firstOpenS (map (nodeOf g p) l) ≡ none
 unfolding firstOpenS nodeOf
-none-open g w [] = refl
-none-open g w (a ∷ l) = first-none (w .met) (entriesOf g a (getD (w .back) a 0)) (firstOpenS (map (nodeOf g w) l)) ∙ none-open g w l
+none-open g p [] = refl
+none-open g p (a ∷ l) = first-none (p .number) (entriesOf g a (p .parent a)) (firstOpenS (map (nodeOf g p) l)) ∙ none-open g p l
 
 module _ (H : Pool → List ℕ → List Pair → Type 0) (g : Graph) (W : Simple g) (w : Walk) (b : Sketch) (I : Inv H g w b) (F : Finished g w) where
   all-met : (a : ℕ) → a < g .size → memb a (I .order) ≡ true
@@ -199,6 +207,12 @@ module _ (H : Pool → List ℕ → List Pair → Type 0) (g : Graph) (W : Simpl
   end-done : (v : ℕ) → memb v (I .order) ≡ true → doneIn g (w .back) (w .taken) v ≡ entriesOf g v (getD (w .back) v 0)
   unfolding doneIn
   end-done v m = rw (all-taken v m)
+
+  -- every entry is behind the walk, so every target was met
+  pub end-known : Known g
+  end-known a i ha hi =
+      let m : memb a (I .order) ≡ true = all-met a ha in
+      I .sta .small _ (I .sta .seen a (bondOf g a i .to) (rw (end-done a m) (done-has g a (getD (w .back) a 0) (degreeAt g a) i hi)))
 
   -- the entry at the other end is behind the walk too
   end-back : (v x : ℕ) → memb v (I .order) ≡ true → hasT x (doneIn g (w .back) (w .taken) v) ≡ true → hasT v (doneIn g (w .back) (w .taken) x) ≡ true
@@ -232,47 +246,48 @@ module _ (H : Pool → List ℕ → List Pair → Type 0) (g : Graph) (W : Simpl
   end-length : length (I .order) ≡ g .size
   end-length = sym (I .sta .count) ∙ F .count
 
-  end-node : (v : ℕ) → memb v (I .order) ≡ true → nodeOf g w v ≡ view (kindBy g (w .back)) (I .order) [] (doneIn g (w .back) (w .taken)) v
+  end-node : (v : ℕ) → memb v (I .order) ≡ true → nodeOf g (byWalk w) v ≡ view (kindBy g (w .back)) (I .order) [] (doneIn g (w .back) (w .taken)) v
   unfolding nodeOf view kindBy aim tgt look edgeOf encT
   end-node v m =
       let l : List Bond = entriesOf g v (getD (w .back) v 0) in
-      rw (end-done v m) (ap (λ (es : List Edge). node (reread (kindAt g v) (getD (w .back) v 0)) es) (edges l (λ x h. I .sta .seen v x (rw (end-done v m) h))))
+      rw (end-done v m) (ap (λ (es : List Edge). node (backKind (kindAt g v) (getD (w .back) v 0)) es) (edges l (λ x h. I .sta .seen v x (rw (end-done v m) h))))
     where
-      edges : (l : List Bond) → ((x : ℕ) → hasT x l ≡ true → memb x (I .order) ≡ true) → map (edgeOf (w .met)) l ≡ map (encT (aim (I .order) [] v)) l
+      edges : (l : List Bond) → ((x : ℕ) → hasT x l ≡ true → memb x (I .order) ≡ true) → map (edgeOf (byWalk w .number)) l ≡ map (encT (aim (I .order) [] v)) l
       edges l h = enc-same (λ (x : ℕ). To (getD (w .met) x 0 - 1)) (aim (I .order) [] v) l (λ x k.
           let e : getD (w .met) x 0 ≡ suc (idx x (I .order)) = I .sta .met x ∙ mark-in x (I .order) (h x k) in
           ap To (omega arith))
 
-  pub end-built : Built b (renumbered g w)
+  pub end-built : Built b (renumbered g (byWalk w))
   unfolding renumbered finishS saysS ringsSay
   end-built =
-      let K : b .nodes ≡ map (nodeOf g w) (orderOf (w .walked) (g .size)) =
+      let K : b .nodes ≡ map (nodeOf g (byWalk w)) (orderOf (w .walked) (g .size)) =
       I .bld .gr
       ∙ ap (λ (P : List Pair). map (view (kindBy g (w .back)) (I .order) P (doneIn g (w .back) (w .taken))) (I .order)) end-shut
-      ∙ sym (map-same (view (kindBy g (w .back)) (I .order) [] (doneIn g (w .back) (w .taken))) (nodeOf g w) (I .order) end-node)
-      ∙ ap (map (nodeOf g w)) (sym end-order) in
+      ∙ sym (map-same (view (kindBy g (w .back)) (I .order) [] (doneIn g (w .back) (w .taken))) (nodeOf g (byWalk w)) (I .order) end-node)
+      ∙ ap (map (nodeOf g (byWalk w))) (sym end-order) in
       record {
         refusal = I .bld .fine;
         failure = I .bld .noerr;
         opens = I .bld .ops ∙ ap (map (heldOf (I .order))) end-shut;
         unseen = I .bld .counted;
         nodes = K;
-        says = ap₂ saysS (I .bld .noerr) K ∙ ap ringsSay (none-open g w (orderOf (w .walked) (g .size)));
+        says = ap₂ saysS (I .bld .noerr) K ∙ ap ringsSay (none-open g (byWalk w) (orderOf (w .walked) (g .size)));
       }
 
-  pub end-numbers : Numbering g w
+  pub end-numbers : Numbering g (byWalk w)
   end-numbers =
       let o : List ℕ = I .order in
       let num : (a : ℕ) → a < g .size → getD (w .met) a 0 ≡ suc (idx a o) = λ a h. I .sta .met a ∙ mark-in a o (all-met a h) in
-      let walked : (v : ℕ) → v < g .size → getD (w .walked) v 0 ≡ getD o v 0 = λ v h. sym (order-at (w .walked) (g .size) v h) ∙ ap (λ (l : List ℕ). getD l v 0) end-order in
+      let walked : (v : ℕ) → v < g .size → getD (w .walked) v 0 ≡ getD o v 0 = λ v h. sym (atoms-at (λ v. getD (w .walked) v 0) (g .size) v h) ∙ ap (λ (l : List ℕ). getD l v 0) end-order in
       let in-range : (a : ℕ) → a < g .size → idx a o < g .size = λ a h. omega (arith, idx-lt a o (all-met a h), end-length) in
       record {
-        numbered = λ a h. (omega (arith, num a h), omega (arith, num a h, in-range a h));
+        number = λ a h. omega (arith, num a h, in-range a h);
         atom = λ a h. let e : getD (w .met) a 0 - 1 ≡ idx a o = omega (arith, num a h) in
             ap (λ (i : ℕ). getD (w .walked) i 0) e ∙ walked (idx a o) (in-range a h) ∙ at-idx a o (all-met a h);
         within = λ v h. rw (walked v h) (I .sta .small (getD o v 0) (at-memb o v (omega (arith, end-length))));
-        number = λ v h. rw (walked v h) (I .sta .met (getD o v 0) ∙ mark-in (getD o v 0) o (at-memb o v (omega (arith, end-length)))
-            ∙ ap suc (idx-at v (I .sta .nod) (omega (arith, end-length))) ∙ sym (add-one v));
+        numbered = λ v h. rw (walked v h)
+            (let e : getD (w .met) (getD o v 0) 0 ≡ suc v = I .sta .met (getD o v 0) ∙ mark-in (getD o v 0) o (at-memb o v (omega (arith, end-length)))
+            ∙ ap suc (idx-at v (I .sta .nod) (omega (arith, end-length))) in omega arith);
         parent = I .sta .backs;
       }
 
@@ -299,14 +314,21 @@ module _ (g : Graph) (W : Simple g) (T : (a : ℕ) → a < g .size → Tetrahedr
   finished = trek.ended g lm lw lb lt (replicate pairWords 0) room m few fine
 
   module _ (places slots : ℕ) (enough : g .size ≤ places) (entries : degrees g (g .size) ≤ slots) where
+    walked : Walked Holds g (startS places slots) turns start
+    walked =
+        turns-walked Holds pool-serves g W T turns start (startS places slots) 0
+        (sound-start g lm lw lb lt (replicate pairWords 0) room) (inv-start Holds pool-serves g lm lw lb lt wide places slots enough entries)
+
     followed : Walked Holds g (startS places slots) turns start → Inv Holds g (walkTo g turns start) (runS (startS places slots) (told (eventsOf g turns start)))
-    followed (follows I) = I
-    followed (stopped r) = absurd (let z : ringNumbers ≡ 0 = sym r ∙ fine in omega arith)
+    followed (follows I h) = I
+    followed (stopped r) = absurd (r fine)
+
+    numbered : Walked Holds g (startS places slots) turns start → Numbered (eventsOf g turns start)
+    numbered (follows I h) = h
+    numbered (stopped r) = absurd (r fine)
 
     invariant : Inv Holds g (walkTo g turns start) (runS (startS places slots) (told (eventsOf g turns start)))
-    invariant =
-        followed (turns-walked Holds pool-serves g W T turns start (startS places slots) 0
-        (sound-start g lm lw lb lt (replicate pairWords 0) room) (inv-start Holds pool-serves g lm lw lb lt wide places slots enough entries))
+    invariant = followed walked
 
 -- A simple graph whose kinds have no configuration but TH1 or TH2, walked without refusal: what the walk says, told to a builder
 -- with room for its atoms and entries, builds the graph renumbered in walk order.
@@ -316,7 +338,7 @@ pub graph-trip : (g : Graph) → Simple g → ((a : ℕ) → a < g .size → Tet
     → walkTo g (turnsOf (g .size) m) (fresh lm lw lb lt (replicate pairWords 0)) .at .refusal ≡ 0
     → (places slots : ℕ) → g .size ≤ places → degrees g (g .size) ≤ slots
     → Built (runS (startS places slots) (told (eventsOf g (turnsOf (g .size) m) (fresh lm lw lb lt (replicate pairWords 0)))))
-    (renumbered g (walkTo g (turnsOf (g .size) m) (fresh lm lw lb lt (replicate pairWords 0))))
+    (renumbered g (byWalk (walkTo g (turnsOf (g .size) m) (fresh lm lw lb lt (replicate pairWords 0)))))
 graph-trip g W T lm lw lb lt room wide m few fine places slots enough entries =
     end-built Holds g W (walkTo g (turnsOf (g .size) m) (fresh lm lw lb lt (replicate pairWords 0))) _
     (invariant g W T lm lw lb lt room wide m few fine places slots enough entries) (finished g W T lm lw lb lt room wide m few fine)
@@ -326,9 +348,29 @@ pub walk-numbers : (g : Graph) → Simple g → ((a : ℕ) → a < g .size → T
     → (lm lw lb lt : ℕ) → Room g lm lb lt → g .size ≤ lw
     → (m : ℕ) → degrees g (g .size) ≤ m
     → walkTo g (turnsOf (g .size) m) (fresh lm lw lb lt (replicate pairWords 0)) .at .refusal ≡ 0
-    → Numbering g (walkTo g (turnsOf (g .size) m) (fresh lm lw lb lt (replicate pairWords 0)))
+    → Numbering g (byWalk (walkTo g (turnsOf (g .size) m) (fresh lm lw lb lt (replicate pairWords 0))))
 walk-numbers g W T lm lw lb lt room wide m few fine =
     end-numbers Holds g W (walkTo g (turnsOf (g .size) m) (fresh lm lw lb lt (replicate pairWords 0))) _
+    (invariant g W T lm lw lb lt room wide m few fine (g .size) (degrees g (g .size)) (omega arith) (omega arith)) (finished g W T lm lw lb lt room wide m few fine)
+
+-- Every ring number that is said has a text.
+pub walk-numbered : (g : Graph) → Simple g → ((a : ℕ) → a < g .size → Tetrahedral (kindAt g a))
+    → (lm lw lb lt : ℕ) → Room g lm lb lt → g .size ≤ lw
+    → (m : ℕ) → degrees g (g .size) ≤ m
+    → walkTo g (turnsOf (g .size) m) (fresh lm lw lb lt (replicate pairWords 0)) .at .refusal ≡ 0
+    → Numbered (eventsOf g (turnsOf (g .size) m) (fresh lm lw lb lt (replicate pairWords 0)))
+walk-numbered g W T lm lw lb lt room wide m few fine =
+    numbered g W T lm lw lb lt room wide m few fine (g .size) (degrees g (g .size)) (omega arith) (omega arith)
+    (walked g W T lm lw lb lt room wide m few fine (g .size) (degrees g (g .size)) (omega arith) (omega arith))
+
+-- No target is anything but an atom.
+pub walk-known : (g : Graph) → Simple g → ((a : ℕ) → a < g .size → Tetrahedral (kindAt g a))
+    → (lm lw lb lt : ℕ) → Room g lm lb lt → g .size ≤ lw
+    → (m : ℕ) → degrees g (g .size) ≤ m
+    → walkTo g (turnsOf (g .size) m) (fresh lm lw lb lt (replicate pairWords 0)) .at .refusal ≡ 0
+    → Known g
+walk-known g W T lm lw lb lt room wide m few fine =
+    end-known Holds g W (walkTo g (turnsOf (g .size) m) (fresh lm lw lb lt (replicate pairWords 0))) _
     (invariant g W T lm lw lb lt room wide m few fine (g .size) (degrees g (g .size)) (omega arith) (omega arith)) (finished g W T lm lw lb lt room wide m few fine)
 
 -- There are as many entries as before,
@@ -336,19 +378,13 @@ pub renumbered-count : (g : Graph) → Simple g → ((a : ℕ) → a < g .size �
     → (lm lw lb lt : ℕ) → Room g lm lb lt → g .size ≤ lw
     → (m : ℕ) → degrees g (g .size) ≤ m
     → walkTo g (turnsOf (g .size) m) (fresh lm lw lb lt (replicate pairWords 0)) .at .refusal ≡ 0
-    → countOf (renumbered g (walkTo g (turnsOf (g .size) m) (fresh lm lw lb lt (replicate pairWords 0)))) ≡ degrees g (g .size)
+    → countOf (renumbered g (byWalk (walkTo g (turnsOf (g .size) m) (fresh lm lw lb lt (replicate pairWords 0))))) ≡ degrees g (g .size)
 renumbered-count g W T lm lw lb lt room wide m few fine =
     let I = invariant g W T lm lw lb lt room wide m few fine (g .size) (degrees g (g .size)) (omega arith) (omega arith) in
     let F = finished g W T lm lw lb lt room wide m few fine in
     ap countOf (sym (end-built Holds g W _ _ I F .nodes)) ∙ end-count Holds g W _ _ I F
 
 -- and as many atoms
-pub renumbered-length : (g : Graph) (w : Walk) → length (renumbered g w) ≡ g .size
+pub renumbered-length : (g : Graph) (p : Numbers) → length (renumbered g p) ≡ g .size
 unfolding renumbered
-renumbered-length g w = length-map (orderOf (w .walked) (g .size)) _ ∙ order-length (w .walked) (g .size)
-
--- the kind of a renumbered atom
-pub node-kind : (g : Graph) (w : Walk) (a : ℕ) → Tetrahedral (kindAt g a)
-    → nodeOf g w a .kind ≡ pick (both (bearsHydrogen (kindAt g a)) (oddIndex (getD (w .back) a 0))) (toggled (kindAt g a)) (kindAt g a)
-unfolding nodeOf
-node-kind g w a h = mark-toggled (kindAt g a) (getD (w .back) a 0) h
+renumbered-length g p = length-map (firstAtoms (p .atom) (g .size)) _ ∙ atoms-length (p .atom) (g .size)

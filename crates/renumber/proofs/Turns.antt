@@ -1,4 +1,4 @@
--- One turn of a walk over a simple graph: the builder follows, or no ring number is left.
+-- One turn of a walk over a simple graph: the builder follows, or the walk is refused.
 use mathlib.Core.Path.{_≡_, refl, sym, ap, _∙_, subst}
 use mathlib.Core.Logic.{_≢_}
 use mathlib.Core.List.{List, [], _∷_, _++_, map}
@@ -16,7 +16,7 @@ use Rattle.feature.specs.Bonds.{reverseOf}
 use Rattle.feature.specs.declared.atom_kind.AtomKind.{AtomKind}
 use Rattle.feature.specs.declared.atom_kind.Inverted.the-variants.{Turned}
 use Rattle.pool.specs.declared.Pool.{Pool}
-use Rattle.pool.specs.Pairs.{Hits, hitOf}
+use Rattle.pool.specs.Pairs.{Hits, highest, hitOf}
 use Rattle.reader.specs.declared.lead.Lead.the-variants as lead
 use Rattle.reader.specs.Events as reader
 use Rattle.writer.specs.Line.{Event, Root, Extend, Join}
@@ -25,19 +25,19 @@ use Rattle.ways.specs.declared.entry.Way.{Way}
 use Rattle.ways.specs.Graph.{Bond, Graph, kindAt, degreeAt, bondOf, bond}
 use Rattle.ways.specs.Ways.{saidAs}
 use Rattle.walk.specs.declared.walker.Walker.{Walker}
-use Rattle.walk.specs.Walk.{Walk, Turn, turn, quiet, passed, ringed, moved, pooled, metAt, tookAt, popsOf, popsThen, leftIn, rootOf, leaveOf, numberedOf, ringOf, enteredOf, enterOf, bondTurn, entryOf, atomOf, turnOf, ringNumbers}
+use Rattle.walk.specs.Walk.{Walk, Turn, turn, quiet, passed, ringed, moved, pooled, metAt, tookAt, popsOf, popsThen, leftIn, rootOf, leaveOf, numberedOf, ringOf, enteredOf, enterOf, bondTurn, entryOf, atomOf, turnOf}
 use Rattle.trek.specs.Trek.{degrees}
 use Rattle.feature.proofs.Cases.{by-test}
 use Rattle.trek.proofs.Sound.{Sound}
 use Rattle.trek.proofs.Fits.{count-below}
-use Rattle.renumber.specs.Opened.{Pair, pair, look, del, numIn, joinIn, Opens, full, number, Serves}
-use Rattle.renumber.specs.Renumber.{Backed, Simple, reread, toldAs, told}
-use Rattle.renumber.specs.Marks.{Tetrahedral}
+use Rattle.renumber.specs.Opened.{Pair, pair, look, del, numIn, joinIn, Opens, full, number, Serves, Numbered}
+use Rattle.renumber.specs.Renumber.{Backed, Simple, toldAs, told}
+use Rattle.renumber.specs.Marks.{Tetrahedral, backKind}
 use Rattle.renumber.proofs.Lists.{memb, by-bool, memb-there}
 use Rattle.renumber.proofs.View.{hasT, kindT, NodupB, view, push}
 use Rattle.renumber.proofs.Opens.{Pol, shut, opened-has, pol-extend, pol-open, pol-close, froms-snoc}
 use Rattle.renumber.proofs.Entries.{done-length, done-nodup, reverse-kind}
-use Rattle.renumber.proofs.Marks.{never-fixed, said-inverts, said-first}
+use Rattle.renumber.proofs.Marks.{marks-serve}
 use Rattle.renumber.proofs.Ways.{way-enters}
 use Rattle.renumber.proofs.Counts.{view-count}
 use Rattle.renumber.proofs.Follows.{Bld, Entry, run-one, run-pops, bld-pops, bld-left, bld-ended, bld-root, bld-extend, bld-open, bld-close}
@@ -55,8 +55,13 @@ pub record Inv (H : Pool → List ℕ → List Pair → Type 0) (g : Graph) (w :
   pub fine : w .at .refusal ≡ 0
 
 pub data Result (H : Pool → List ℕ → List Pair → Type 0) (g : Graph) (b : Sketch) (x : Turn) : Type 0 where
-  goes : Inv H g (x .after) (runS b (told (x .said))) → Result H g b x
-  stops : x .after .at .refusal ≡ ringNumbers → Result H g b x
+  goes : Inv H g (x .after) (runS b (told (x .said))) → Numbered (x .said) → Result H g b x
+  stops : x .after .at .refusal ≢ 0 → Result H g b x
+
+-- pops change no numbers
+said-pops : (p : ℕ) (e : Event) → Numbered (e ∷ []) → Numbered (popsThen p e)
+unfolding popsOf
+said-pops p e h = by-test (λ (x : List Event). Numbered (x ++ (e ∷ []))) (eqb p 0) (λ q. h) (λ q. h)
 
 by-look {ℓ} : {X : Type ℓ} (q : Option Pair) → (q ≡ none → X) → ((x : Pair) → q ≡ some x → X) → X
 by-look none f g = f refl
@@ -72,11 +77,11 @@ sta-nodup : {g : Graph} {w : Walk} {o fr : List ℕ} → Simple g → Sta g w o 
 unfolding doneIn
 sta-nodup {g} {w} W S t ht = done-nodup g W t (getD (w .back) t 0) ht (S .backs t) (getD (w .taken) t 0) (S .takes t)
 
-sta-reverse : {g : Graph} {w : Walk} {o fr : List ℕ} → Simple g → Sta g w o fr → (s i : ℕ) → s < g .size → i < degreeAt g s
+sta-reverse : {g : Graph} {w : Walk} {o fr : List ℕ} → Simple g → Sta g w o fr → (s i : ℕ) → s < g .size → i < degreeAt g s → bondOf g s i .to < g .size
     → hasT s (doneIn g (w .back) (w .taken) (bondOf g s i .to)) ≡ true → kindT s (doneIn g (w .back) (w .taken) (bondOf g s i .to)) ≡ reverseOf (bondOf g s i .kind)
 unfolding doneIn
-sta-reverse {g} {w} W S s i hs hi h =
-    reverse-kind g W s i (bondOf g s i .to) (getD (w .back) (bondOf g s i .to) 0) (getD (w .taken) (bondOf g s i .to) 0) hs hi refl (S .takes (bondOf g s i .to)) (S .backs (bondOf g s i .to)) h
+sta-reverse {g} {w} W S s i hs hi ht h =
+    reverse-kind g W s i (bondOf g s i .to) (getD (w .back) (bondOf g s i .to) 0) (getD (w .taken) (bondOf g s i .to) 0) hs hi refl ht (S .takes (bondOf g s i .to)) (S .backs (bondOf g s i .to)) h
 
 none-leads : (x : ℕ) (l : List Bond) → l ≡ [] → hasT x l ≡ false
 unfolding hasT
@@ -95,7 +100,7 @@ module _ (H : Pool → List ℕ → List Pair → Type 0) (Q : Serves H) (g : Gr
 
   still-turn : R (quiet w)
   unfolding runS told
-  still-turn = goes I
+  still-turn = goes I tt
 
   skip-turn : R (quiet (moved w (passed (w .at))))
   unfolding runS told
@@ -108,7 +113,7 @@ module _ (H : Pool → List ℕ → List Pair → Type 0) (Q : Serves H) (g : Gr
     hold = I .hold;
     bld = I .bld;
     fine = I .fine;
-  })
+  }) tt
 
   new-root : w .at .standing ≡ false → w .at .next < g .size → getD (w .met) (w .at .next) 0 ≡ 0
       → R (turn (metAt w (passed (w .at)) (w .at .next) 0) (Root (saidAs (kindAt g (w .at .next)) 0) ∷ []))
@@ -126,8 +131,8 @@ module _ (H : Pool → List ℕ → List Pair → Type 0) (Q : Serves H) (g : Gr
       let D : doneIn g (set (w .back) i 0) (w .taken) ≡ d0 = root-done g (w .back) (w .taken) i rb (S .unback i mi) in
       let κ′ : ℕ → AtomKind = kindBy g (set (w .back) i 0) in
       let B : Bld g κ0 [] (w .at .pend) o d0 P b = subst (λ (f : List ℕ). Bld g κ0 f (w .at .pend) o d0 P b) (S .rest r) (I .bld) in
-      let kq : (v : ℕ) → v ≢ i → κ′ v ≡ κ0 v = λ v q. ap (reread (kindAt g v)) (getD-set-other (w .back) i v 0 0 q) in
-      let ki : k ≡ κ′ i = said-first (kindAt g i) (getD (set (w .back) i 0) i 0) (getD-set-same (w .back) i 0 0 rb) in
+      let kq : (v : ℕ) → v ≢ i → κ′ v ≡ κ0 v = λ v q. ap (backKind (kindAt g v)) (getD-set-other (w .back) i v 0 0 q) in
+      let ki : k ≡ κ′ i = marks-serve .root (kindAt g i) ∙ ap (backKind (kindAt g i)) (sym (getD-set-same (w .back) i 0 0 rb)) in
       let B′ = bld-root g κ0 o d0 P i (w .at .pend) b k κ′ kq ki mi (done-new S i mi) (S .seen) (I .pol .froms) few B in
       goes (record {
         order = o ++ (i ∷ []);
@@ -139,7 +144,7 @@ module _ (H : Pool → List ℕ → List Pair → Type 0) (Q : Serves H) (g : Gr
         bld = subst (λ (d : ℕ → List Bond). Bld g κ′ (i ∷ []) zero (o ++ (i ∷ [])) d P (runS b (reader.Enter lead.Dot k 0 ∷ []))) (sym D)
             (subst (λ (x : Sketch). Bld g κ′ (i ∷ []) zero (o ++ (i ∷ [])) d0 P x) (sym (run-one b (reader.Enter lead.Dot k 0) (B .fine))) B′);
         fine = I .fine;
-      })
+      }) tt
 
   root-turn : w .at .standing ≡ false → R (rootOf g w)
   unfolding rootOf
@@ -161,7 +166,7 @@ module _ (H : Pool → List ℕ → List Pair → Type 0) (Q : Serves H) (g : Gr
         hold = I .hold;
         bld = bld-ended g κ0 (I .order) d0 (I .opened) (I .frame) (w .at .pend) b (I .bld);
         fine = I .fine;
-      }))
+      }) tt)
       (λ q.
       let n : getD (w .back) (w .at .here) 0 ≢ 0 = eqb-false _ _ q in
       let A = line-above (I .sta .line r) n in
@@ -176,7 +181,7 @@ module _ (H : Pool → List ℕ → List Pair → Type 0) (Q : Serves H) (g : Gr
         bld = subst (λ (n : ℕ). Bld g κ0 (A .rest) n (I .order) d0 (I .opened) b) (sym (add-one (w .at .pend)))
             (bld-left g κ0 (I .order) d0 (I .opened) (w .at .here) (A .rest) (w .at .pend) b B);
         fine = I .fine;
-      }))
+      }) tt)
 
   -- at an entry
   module _ (r : w .at .standing ≡ true) (more : getD (w .taken) (w .at .here) 0 < degreeAt g (w .at .here)) where
@@ -211,7 +216,7 @@ module _ (H : Pool → List ℕ → List Pair → Type 0) (Q : Serves H) (g : Gr
           hold = I .hold;
           bld = subst (λ (d : ℕ → List Bond). Bld g κ0 (I .frame) (w .at .pend) (I .order) d (I .opened) b) (sym D) (I .bld);
           fine = I .fine;
-        })
+        }) tt
 
     module _ (q : getD (w .back) s0 0 ≢ i0 + 1) where
       D1 : doneIn g (w .back) (set (w .taken) s0 (i0 + 1)) ≡ push s0 e0 d0
@@ -258,11 +263,11 @@ module _ (H : Pool → List ℕ → List Pair → Type 0) (Q : Serves H) (g : Gr
           let o′ : List ℕ = o ++ (t ∷ []) in
           let bb : Bond = bond (reverseOf (e0 .kind)) s0 in
           let d2 : ℕ → List Bond = push t bb (push s0 e0 d0) in
-          let S′ = sta-enters S W rt r more q t refl rm rb mt few k in
-          let D = entered-done S W rt r more q t refl rm rb mt few k in
-          let kq : (v : ℕ) → v ≢ t → κ′ v ≡ κ0 v = λ v z. ap (reread (kindAt g v)) (getD-set-other (w .back) t v c 0 z) in
+          let S′ = sta-enters S rt r more q t refl ht rm rb mt few k in
+          let D = entered-done S rt r more q t refl ht rm rb mt few k in
+          let kq : (v : ℕ) → v ≢ t → κ′ v ≡ κ0 v = λ v z. ap (backKind (kindAt g v)) (getD-set-other (w .back) t v c 0 z) in
           let kt : invertOf (saidAs (kindAt g t) c) ≡ Turned (κ′ t) =
-          said-inverts (kindAt g t) c (T t ht) (λ z. omega arith) ∙ ap (λ (x : ℕ). Turned (reread (kindAt g t) x)) (sym (getD-set-same (w .back) t c 0 rb)) in
+          marks-serve .built (kindAt g t) c (T t ht) (λ z. omega arith) ∙ ap (λ (x : ℕ). Turned (backKind (kindAt g t) x)) (sym (getD-set-same (w .back) t c 0 rb)) in
           let u : d0 t ≡ [] = done-new S t mt in
           let room : countOf (map (view κ′ o′ P d2) o′) ≤ degrees g (g .size) =
           subst (λ (d : ℕ → List Bond). countOf (map (view κ′ o′ P d) o′) ≤ degrees g (g .size)) D (sta-count S′ κ′ P) in
@@ -280,22 +285,22 @@ module _ (H : Pool → List ℕ → List Pair → Type 0) (Q : Serves H) (g : Gr
                 (subst (λ (d : ℕ → List Bond). Bld g κ′ (t ∷ I .frame) zero o′ d P (stepS b0 (reader.Enter (lead.Bond (e0 .kind)) (saidAs (kindAt g t) c) 0))) (sym D)
                 (subst (λ (f : List ℕ). Bld g κ′ (t ∷ f) zero o′ d2 P (stepS b0 (reader.Enter (lead.Bond (e0 .kind)) (saidAs (kindAt g t) c) 0))) (sym is-fs) B′));
             fine = I .fine;
-          })
+          }) (said-pops (w .at .pend) (Extend (e0 .kind) (saidAs (kindAt g t) c)) tt)
 
       enter-turn : getD (w .met) (e0 .to) 0 ≡ 0 → e0 .to < g .size → R (enterOf g w1 (e0 .kind) s0 (e0 .to))
       unfolding enterOf enteredOf
       enter-turn m ht =
           let k = W .backed s0 i0 hs more in
           subst (λ (y : Way). R (enteredOf g w1 (e0 .kind) (e0 .to) y))
-          (sym (way-enters g W s0 i0 (e0 .to) hs more refl (never-fixed (kindAt g (e0 .to)) (T (e0 .to) ht)) k))
+          (sym (way-enters g W s0 i0 (e0 .to) ht refl (marks-serve .free (kindAt g (e0 .to)) (T (e0 .to) ht)) k))
           (enter-goes k m ht)
 
       -- a ring number
       module _ (mt : memb (e0 .to) (I .order) ≡ true) where
-        close-goes : (x : Pair) → look (I .opened) (e0 .to) s0 ≡ some x → (p : Pool) (pairs : List ℕ) → H p pairs (del (e0 .to) s0 (I .opened))
+        close-goes : (x : Pair) → look (I .opened) (e0 .to) s0 ≡ some x → (p : Pool) (pairs : List ℕ) → x .num ≤ highest → H p pairs (del (e0 .to) s0 (I .opened))
             → R (turn (moved (pooled w1 pairs) (ringed (w .at) p)) (popsThen (w .at .pend) (Join (e0 .kind) (x .num))))
         unfolding toldAs
-        close-goes x l p pairs h =
+        close-goes x l p pairs small h =
             let S = I .sta in
             let o : List ℕ = I .order in
             let P : List Pair = I .opened in
@@ -305,7 +310,7 @@ module _ (H : Pool → List ℕ → List Pair → Type 0) (Q : Serves H) (g : Gr
             let ht : t < g .size = S .small t mt in
             let nt : NodupB (d0 t) = sta-nodup W S t ht in
             let back : kindT s0 (d0 t) ≡ reverseOf (e0 .kind) =
-            sta-reverse W S s0 i0 hs more has in
+            sta-reverse W S s0 i0 hs more ht has in
             let P′ : List Pair = del t s0 P in
             let S′ = sta-joins S rt r more q pairs p mt in
             let room : countOf (map (view κ0 o P′ (push s0 e0 d0)) o) ≤ degrees g (g .size) =
@@ -322,13 +327,13 @@ module _ (H : Pool → List ℕ → List Pair → Type 0) (Q : Serves H) (g : Gr
                   (subst (λ (d : ℕ → List Bond). Bld g κ0 (I .frame) zero o d P′ (stepS b0 (reader.Join (e0 .kind) (x .num) 0))) (sym D1)
                   (subst (λ (f : List ℕ). Bld g κ0 f zero o (push s0 e0 d0) P′ (stepS b0 (reader.Join (e0 .kind) (x .num) 0))) (sym is-fs) B′));
               fine = I .fine;
-            })
+            }) (said-pops (w .at .pend) (Join (e0 .kind) (x .num)) (small, tt))
 
-        open-goes : look (I .opened) (e0 .to) s0 ≡ none → (p : Pool) (pairs : List ℕ) (n : ℕ) → numIn n (I .opened) ≡ false
+        open-goes : look (I .opened) (e0 .to) s0 ≡ none → (p : Pool) (pairs : List ℕ) (n : ℕ) → n ≤ highest → numIn n (I .opened) ≡ false
             → ((j : ℕ) → H p pairs (pair s0 (e0 .to) n j ∷ I .opened))
             → R (turn (moved (pooled w1 pairs) (ringed (w .at) p)) (popsThen (w .at .pend) (Join (e0 .kind) n)))
         unfolding toldAs
-        open-goes l p pairs n new h =
+        open-goes l p pairs n small new h =
             let S = I .sta in
             let o : List ℕ = I .order in
             let P : List Pair = I .opened in
@@ -351,15 +356,15 @@ module _ (H : Pool → List ℕ → List Pair → Type 0) (Q : Serves H) (g : Gr
                   (subst (λ (d : ℕ → List Bond). Bld g κ0 (I .frame) zero o d P′ (stepS b0 (reader.Join (e0 .kind) n 0))) (sym D1)
                   (subst (λ (f : List ℕ). Bld g κ0 f zero o (push s0 e0 d0) P′ (stepS b0 (reader.Join (e0 .kind) n 0))) (sym is-fs) B′));
               fine = I .fine;
-            })
+            }) (said-pops (w .at .pend) (Join (e0 .kind) n) (small, tt))
 
         abbrev Rings : Hits → Type 0
         Rings h = R (numberedOf w1 (e0 .kind) s0 (e0 .to) (h .answer) (h .left))
 
         opens-turn : look (I .opened) (e0 .to) s0 ≡ none → Opens H (w .at .pool) (w .pairs) (I .opened) s0 (e0 .to) → Rings (hitOf (w .at .pool) (w .pairs) s0 (e0 .to))
         unfolding numberedOf
-        opens-turn l (full words e) = subst (λ (h : Hits). Rings h) (sym e) (stops refl)
-        opens-turn l (number p pairs n e new h) = subst (λ (h : Hits). Rings h) (sym e) (open-goes l p pairs n new h)
+        opens-turn l (full words e) = subst (λ (h : Hits). Rings h) (sym e) (stops (λ z. omega arith))
+        opens-turn l (number p pairs n e small new h) = subst (λ (h : Hits). Rings h) (sym e) (open-goes l p pairs n small new h)
 
         ring-turn : R (ringOf w1 (e0 .kind) s0 (e0 .to))
         unfolding ringOf numberedOf
@@ -368,16 +373,15 @@ module _ (H : Pool → List ℕ → List Pair → Type 0) (Q : Serves H) (g : Gr
             by-look (look (I .opened) (e0 .to) s0)
             (λ l. opens-turn l (Q .opens (w .at .pool) (w .pairs) (I .opened) s0 (e0 .to) (I .hold) (I .pol .good) (E0 .apart) l l′))
             (λ x l. let c = Q .closes (w .at .pool) (w .pairs) (I .opened) s0 (e0 .to) x (I .hold) (I .pol .good) (E0 .apart) l l′ in
-            subst (λ (h : Hits). Rings h) (sym (c .is)) (close-goes x l (c .after) (c .words) (c .holds)))
+            subst (λ (h : Hits). Rings h) (sym (c .is)) (close-goes x l (c .after) (c .words) (c .small) (c .holds)))
 
       bond-turn : R (bondTurn g w1 s0 e0)
       unfolding bondTurn
       bond-turn =
-          let ht : e0 .to < g .size = W .known s0 i0 hs more in
-          by-test R (leb (g .size) (e0 .to)) (λ z. absurd (omega (arith, leb-true (g .size) (e0 .to) z)))
+          by-test R (leb (g .size) (e0 .to)) (λ z. stops (λ y. omega arith))
           (λ z. by-test R (eqb (e0 .to) s0) (λ y. absurd (W .apart s0 i0 hs more (eqb-true _ _ y)))
           (λ y. by-test R (eqb (getD (w .met) (e0 .to) 0) 0)
-          (λ x. enter-turn (eqb-true _ _ x) ht)
+          (λ x. enter-turn (eqb-true _ _ x) (leb-false _ _ z))
           (λ x. ring-turn (is-met (I .sta) (e0 .to) (eqb-false _ _ x)))))
 
     entry-turn : R (entryOf g w s0 i0)

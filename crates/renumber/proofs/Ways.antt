@@ -1,5 +1,5 @@
 -- In a simple graph a new atom has one entry back to the source, which is the reverse: so it can be entered.
-use mathlib.Core.Path.{_≡_, refl, sym, ap, _∙_, subst}
+use mathlib.Core.Path.{_≡_, refl, sym, ap, _∙_}
 use mathlib.Core.Logic.{_≢_}
 use mathlib.Core.List.{List}
 use mathlib.Core.Bool.{Bool, false}
@@ -35,17 +35,16 @@ module _ (bonds first : List ℕ) (t s : ℕ) where
       (λ q. rw (ne-eqb (bondIn bonds first t i .to) s (λ z. q (u i (omega arith) z))) (scan-finds fixed i j (omega arith) e (λ x h z. u x (omega arith) z)))
 
 -- the entry i of s leads to t: t is entered by its entry back, unless its mark would have to be turned and can't be
-pub way-is : (g : Graph) → Simple g → (s i t : ℕ) → s < g .size → i < degreeAt g s → bondOf g s i .to ≡ t
+pub way-is : (g : Graph) → Simple g → (s i t : ℕ) → t < g .size → bondOf g s i .to ≡ t
     → (k : Backed g s t (bondOf g s i)) → wayOf g (bondOf g s i .kind) s t ≡ pick (both (isFixed (kindAt g t)) (even (k .place))) (Refuses inversion t 0) (Enters (suc (k .place)))
 unfolding wayOf judgedBack
-way-is g S s i t hs hi e k =
-    let ht : t < g .size = subst (λ (x : ℕ). x < g .size) e (S .known s i hs hi) in
+way-is g S s i t ht e k =
     let z : suc (k .place) - 1 ≡ k .place = omega arith in
     ap (judgedBack g (bondOf g s i .kind) s t)
     (scan-finds (g .bonds) (g .first) t s (isFixed (kindAt g t)) (degreeAt g t) (k .place) (k .within) (k .leads) (λ x h y. S .once t x (k .place) ht h (k .within) (y ∙ sym (k .leads))))
     ∙ by-bool (both (isFixed (kindAt g t)) (even (k .place))) (λ q. rw q)
     (λ q. rw (q, ne-eqb (suc (k .place)) 0 (λ y. omega arith), z, eq-eqb (codeOf (bondOf g t (k .place) .kind)) (codeOf (reverseOf (bondOf g s i .kind))) (ap codeOf (k .reversed))))
 
-pub way-enters : (g : Graph) → Simple g → (s i t : ℕ) → s < g .size → i < degreeAt g s → bondOf g s i .to ≡ t → isFixed (kindAt g t) ≡ false
+pub way-enters : (g : Graph) → Simple g → (s i t : ℕ) → t < g .size → bondOf g s i .to ≡ t → isFixed (kindAt g t) ≡ false
     → (k : Backed g s t (bondOf g s i)) → wayOf g (bondOf g s i .kind) s t ≡ Enters (suc (k .place))
-way-enters g S s i t hs hi e f k = way-is g S s i t hs hi e k ∙ rw f
+way-enters g S s i t ht e f k = way-is g S s i t ht e k ∙ rw f

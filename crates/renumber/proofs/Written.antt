@@ -25,9 +25,11 @@ use Rattle.write.specs.Write.{zeros, graphOf, walkIn, saidIn, walkOf, saidOf, l
 use Rattle.trek.specs.Trek.{Room, degrees}
 use Rattle.feature.proofs.Cases.{by-test}
 use Rattle.trek.proofs.Judged.{judged-degrees}
-use Rattle.renumber.specs.Renumber.{Simple, renumbered, told, unplaced, Numbering, Built}
+use Rattle.renumber.specs.Renumber.{Simple, Known, told, unplaced, Numbering, Built}
+use Rattle.renumber.specs.Renumbered.{byWalk, renumbered}
 use Rattle.renumber.specs.Marks.{Tetrahedral}
-use Rattle.renumber.proofs.Trip.{graph-trip, walk-numbers, renumbered-count}
+use Rattle.renumber.specs.Opened.{Numbered}
+use Rattle.renumber.proofs.Trip.{graph-trip, walk-numbers, walk-numbered, walk-known, renumbered-count}
 use Rattle.renumber.proofs.Places.{places-free}
 
 -- ---- tables in which the judge finds nothing bad
@@ -41,28 +43,36 @@ module _ (atoms bonds : List ℕ) (n m : ℕ) (few : n ≤ atomLimit) (good : ba
   entries = judged-degrees n m atoms bonds _ good
 
   pub table-trip : (places slots : ℕ) → n ≤ places → m ≤ slots
-      → Built (runS (startS places slots) (told (saidOf atoms n bonds m))) (renumbered (graphOf n atoms bonds) (walkOf atoms n bonds m))
+      → Built (runS (startS places slots) (told (saidOf atoms n bonds m))) (renumbered (graphOf n atoms bonds) (byWalk (walkOf atoms n bonds m)))
   unfolding walkIn saidIn
   table-trip places slots hp hs =
       graph-trip (graphOf n atoms bonds) W T atomLimit atomLimit atomLimit atomLimit table-room few m (omega (arith, entries)) fine places slots hp (omega (arith, entries))
 
-  pub table-numbers : Numbering (graphOf n atoms bonds) (walkOf atoms n bonds m)
+  pub table-numbers : Numbering (graphOf n atoms bonds) (byWalk (walkOf atoms n bonds m))
   unfolding walkIn
   table-numbers = walk-numbers (graphOf n atoms bonds) W T atomLimit atomLimit atomLimit atomLimit table-room few m (omega (arith, entries)) fine
 
-  pub table-count : countOf (renumbered (graphOf n atoms bonds) (walkOf atoms n bonds m)) ≡ m
+  pub table-known : Known (graphOf n atoms bonds)
+  unfolding walkIn
+  table-known = walk-known (graphOf n atoms bonds) W T atomLimit atomLimit atomLimit atomLimit table-room few m (omega (arith, entries)) fine
+
+  pub table-numbered : Numbered (saidOf atoms n bonds m)
+  unfolding walkIn saidIn
+  table-numbered = walk-numbered (graphOf n atoms bonds) W T atomLimit atomLimit atomLimit atomLimit table-room few m (omega (arith, entries)) fine
+
+  pub table-count : countOf (renumbered (graphOf n atoms bonds) (byWalk (walkOf atoms n bonds m))) ≡ m
   unfolding walkIn
   table-count =
       renumbered-count (graphOf n atoms bonds) W T atomLimit atomLimit atomLimit atomLimit table-room few m (omega (arith, entries)) fine ∙ entries
 
   -- the same for events of a reader, which say where they stood in a text
   pub placed-trip : (places slots : ℕ) → n ≤ places → m ≤ slots → (es : List reader.Event) → map unplaced es ≡ told (saidOf atoms n bonds m)
-      → Built (runS (startS places slots) es) (renumbered (graphOf n atoms bonds) (walkOf atoms n bonds m))
+      → Built (runS (startS places slots) es) (renumbered (graphOf n atoms bonds) (byWalk (walkOf atoms n bonds m)))
   placed-trip places slots hp hs es e =
       let b = table-trip places slots hp hs in
       let same : runS (startS places slots) es ≡ runS (startS places slots) (map unplaced es) =
       places-free (startS places slots) es (ap (λ (x : List reader.Event). runS (startS places slots) x .refusal) e ∙ b .refusal) in
-      subst (λ (d : Sketch). Built d (renumbered (graphOf n atoms bonds) (walkOf atoms n bonds m))) (sym (same ∙ ap (runS (startS places slots)) e)) b
+      subst (λ (d : Sketch). Built d (renumbered (graphOf n atoms bonds) (byWalk (walkOf atoms n bonds m)))) (sym (same ∙ ap (runS (startS places slots)) e)) b
 
 -- ---- what a write that is done says
 bonds-most : (bonds : List ℕ) (held k e : ℕ) → bondsFrom bonds held k e ≤ e + k
@@ -170,7 +180,7 @@ pub written-trip : (room : ℕ) (atoms : List ℕ) (n : ℕ) (bonds : List ℕ) 
     → Simple (graphOf n atoms bonds) → ((a : ℕ) → a < n → Tetrahedral (kindAt (graphOf n atoms bonds) a))
     → writeOf room atoms n bonds m ≡ left (Done len) out
     → (places slots : ℕ) → n ≤ places → m ≤ slots → (es : List reader.Event) → map unplaced es ≡ told (saidOf atoms n bonds m)
-    → Built (runS (startS places slots) es) (renumbered (graphOf n atoms bonds) (walkOf atoms n bonds m)) × Numbering (graphOf n atoms bonds) (walkOf atoms n bonds m)
+    → Built (runS (startS places slots) es) (renumbered (graphOf n atoms bonds) (byWalk (walkOf atoms n bonds m))) × Numbering (graphOf n atoms bonds) (byWalk (walkOf atoms n bonds m))
 written-trip room atoms n bonds m len out W T e places slots hp hs es h =
     let d = was-done room atoms n bonds m len out e in
     (placed-trip atoms bonds n m (d .few) (d .good) W T (d .fine) places slots hp hs es h, table-numbers atoms bonds n m (d .few) (d .good) W T (d .fine))

@@ -1,3 +1,4 @@
 pub mod Renumber
+pub mod Renumbered
 pub mod Opened
 pub mod Marks

@@ -1,6 +1,6 @@
--- The pairs of atoms whose ring number is open, and what is asked of a pool: open numbers are distinct, and a call for an open
--- pair closes it with the number that opened it.
-use Prim.Native.Nat.{ℕ}
+-- The pairs of atoms whose ring number is open, and what is asked of a pool: open numbers are distinct, a call for an open pair
+-- closes it with the number that opened it, and no number is over 99. Another pool is another proof of `Serves`.
+use Prim.Native.Nat.{ℕ, _≤_}
 use mathlib.Core.Path.{_≡_}
 use mathlib.Core.Logic.{_≢_}
 use mathlib.Core.List.{List, [], _∷_}
@@ -11,7 +11,8 @@ use lib.Dec.{eqb}
 use Rattle.feature.specs.Pick.{pick}
 use Rattle.pool.specs.declared.Pool.{Pool}
 use Rattle.pool.specs.declared.Given.the-variants.{Number, Full}
-use Rattle.pool.specs.Pairs.{hits, hitOf, emptyOf}
+use Rattle.pool.specs.Pairs.{highest, hits, hitOf, emptyOf}
+use Rattle.writer.specs.Line.{Event, Root, Extend, Join, Pop}
 use Rattle.write.specs.Write.{pairWords}
 
 unfoldable pub same : ℕ → ℕ → Bool
@@ -60,12 +61,13 @@ pub record Closes (H : Pool → List ℕ → List Pair → Type 0) (p : Pool) (p
   pub after : Pool
   pub words : List ℕ
   pub is : hitOf p pairs s t ≡ hits (Number after (x .num)) words
+  pub small : x .num ≤ highest
   pub holds : H after words (del t s P)
 
--- a call from s for a pair that is not open answers that no number is left, or opens the pair with a number that is not open
+-- a call from s for a pair that is not open answers that no number is left, or opens the pair with a number up to 99 that is not open
 pub data Opens (H : Pool → List ℕ → List Pair → Type 0) (p : Pool) (pairs : List ℕ) (P : List Pair) (s t : ℕ) : Type 0 where
   full : (words : List ℕ) → hitOf p pairs s t ≡ hits Full words → Opens H p pairs P s t
-  number : (after : Pool) (words : List ℕ) (n : ℕ) → hitOf p pairs s t ≡ hits (Number after n) words → numIn n P ≡ false
+  number : (after : Pool) (words : List ℕ) (n : ℕ) → hitOf p pairs s t ≡ hits (Number after n) words → n ≤ highest → numIn n P ≡ false
       → ((j : ℕ) → H after words (pair s t n j ∷ P)) → Opens H p pairs P s t
 
 pub record Serves (H : Pool → List ℕ → List Pair → Type 0) : Type 0 where
@@ -74,3 +76,11 @@ pub record Serves (H : Pool → List ℕ → List Pair → Type 0) : Type 0 wher
       → look P t s ≡ some x → look P s t ≡ none → Closes H p pairs P s t x
   pub opens : (p : Pool) (pairs : List ℕ) (P : List Pair) (s t : ℕ) → H p pairs P → Distinct P → s ≢ t
       → look P t s ≡ none → look P s t ≡ none → Opens H p pairs P s t
+
+-- so every ring number that is said has a text
+abbrev pub Numbered : List Event → Type 0
+Numbered [] = Unit {0}
+Numbered (Root k ∷ es) = Numbered es
+Numbered (Extend b k ∷ es) = Numbered es
+Numbered (Join b r ∷ es) = (r ≤ highest) × Numbered es
+Numbered (Pop d ∷ es) = Numbered es

@@ -26,7 +26,7 @@ use Rattle.renumber.proofs.Lists.{by-bool}
 use Rattle.renumber.proofs.Follows.{run-refused, run-app, run-one}
 use Rattle.renumber.proofs.Places.{places-free}
 use Rattle.renumber.proofs.Written.{was-done, table-trip}
-use Rattle.trip.specs.RoundTrip.{Plain, ReadBack}
+use Rattle.trip.specs.RoundTrip.{Plain, readAs, backOf}
 use Rattle.trip.proofs.Law.{told-same, places-same, walk-told, walk-spelled, walk-accepted, walk-says, line-nests, line-is, round-trip}
 
 clash : {X : Type 0} → _≡_ {A = ℕ} 0 1 → X
@@ -148,8 +148,8 @@ too-deep room atoms n bonds m len out la lb P e short deep ra rb =
     let b : Sketch = startS (lesserOf atomLimit (la / atomWords)) (lesserOf bondLimit (lb / bondWords)) in
     let t = table-trip atoms bonds n m (d .few) (d .good) (P .simple) (P .marks) (d .fine) (lesserOf atomLimit (la / atomWords)) (lesserOf bondLimit (lb / bondWords)) ra rb in
     let k : branchLimit < depth es =
-    ltb-true branchLimit (depth es) (sym (line-nests atoms n bonds m (d .few) P) ∙ ap (λ (x : List ℕ). nests (parse x)) (sym l) ∙ deep) in
-    let s = retold-line atomLimit es (walk-says atoms n bonds m (d .few) P) (walk-told atoms n bonds m (d .few) P) (walk-spelled atoms n bonds m (d .few) P) (walk-accepted atoms n bonds m (d .few) P) in
+    ltb-true branchLimit (depth es) (sym (line-nests room atoms n bonds m len out P e) ∙ ap (λ (x : List ℕ). nests (parse x)) (sym l) ∙ deep) in
+    let s = retold-line atomLimit es (walk-says room atoms n bonds m len out P e) (walk-told room atoms n bonds m len out P e) (walk-spelled room atoms n bonds m len out P e) (walk-accepted room atoms n bonds m len out P e) in
     let r : runS b (parse (lineSaid es)) .refusal ≡ reader.nesting =
     says-refused b (retold es) (parse (lineSaid es)) k (nests-retold es) (ap (λ (x : List reader.Event). runS b x .refusal) (told-same es) ∙ t .refusal) s in
     (_, refused-answer (take len out) la lb short (ap (λ (x : List ℕ). runS b (parse x) .refusal) l ∙ r))
@@ -160,7 +160,7 @@ pub round-trip-answer : (room : ℕ) (atoms : List ℕ) (n : ℕ) (bonds : List 
     → Plain (graphOf n atoms bonds) → writeOf room atoms n bonds m ≡ left (Done len) out
     → length (take len out) ≤ textLimit → n ≤ lesserOf atomLimit (la / atomWords) → m ≤ lesserOf bondLimit (lb / bondWords)
     → ((p : ℕ) → read.lineOf (take len out) la lb .answer ≡ answer.Nesting p → ⊥)
-    → ReadBack atoms n bonds m (read.lineOf (take len out) la lb)
+    → read.lineOf (take len out) la lb ≡ readAs n m la lb (backOf atoms n bonds m)
 round-trip-answer room atoms n bonds m len out la lb P e short ra rb never =
     by-bool (nests (parse (take len out)))
     (λ q. let t = too-deep room atoms n bonds m len out la lb P e short q ra rb in absurd (never (t .0) (t .1)))

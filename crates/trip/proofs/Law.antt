@@ -1,4 +1,5 @@
--- The round trip: a graph that is written and read back is the same graph, renumbered in the order of its walk. Assumes nothing.
+-- The round trip: what is read back of a graph that was written is the graph renumbered in the order of its walk, in both tables
+-- whole. Assumes nothing.
 use Prim.Native.Nat.{ℕ, _*_, _/_, _≤_, _<_}
 use mathlib.Core.Path.{_≡_, refl, sym, ap, ap₂, _∙_, subst}
 use mathlib.Core.List.{List, [], _∷_, _++_, map}
@@ -12,8 +13,7 @@ use Rattle.graph.specs.Limits.{textLimit, atomLimit, bondLimit, branchLimit, le
 use Rattle.reader.specs.Events as reader
 use Rattle.reader.specs.Parse.{parse}
 use Rattle.writer.specs.Line.{Event, Root, Extend, Join, Pop}
-use Rattle.sketch.specs.Sketch.{sketchOf}
-use Rattle.read.specs.declared.Answer.the-variants as answer
+use Rattle.sketch.specs.Sketch.{sketchOf, leftS}
 use Rattle.read.specs.Read.{Said, builtAnswer}
 use Rattle.read.specs.Line as read
 use Rattle.walk.specs.Walk.{turnsOf}
@@ -24,11 +24,15 @@ use Rattle.trek.proofs.Accepted.{accepted}
 use Rattle.retell.specs.Retell.{Told, Spelled, placeless, unplaced, nests, retoldOne, retold, depth}
 use Rattle.retell.proofs.Retold.{retold-shallow, retold-nests}
 use Rattle.renumber.specs.Renumber as renumber
-use Rattle.renumber.proofs.Written.{was-done}
-use Rattle.renumber.proofs.ComesBack.{text-comes-back, kind-comes-back}
-use Rattle.trip.specs.RoundTrip.{Plain, Readable, backKind, ReadBack, RoundTrip, OneGraph}
+use Rattle.renumber.specs.Renumbered.{Numbers, byWalk, renumbered}
+use Rattle.survive.proofs.Exactly.{exactly}
+use Rattle.ways.specs.Graph.{Graph, kindAt}
+use Rattle.renumber.proofs.Tables.{kind-range}
+use Rattle.renumber.proofs.Written.{was-done, table-numbers, table-numbered}
+use Rattle.renumber.proofs.ComesBack.{text-comes-back, tables-hold}
+use Rattle.trip.specs.RoundTrip.{Plain, Readable, readAs, backOf, RoundTrip, Same}
 use Rattle.trip.proofs.Ordered.{told-walk, some-said}
-use Rattle.trip.proofs.Spelling.{spelled-walk}
+use Rattle.trip.proofs.Spelling.{kept-spelled, kept-turns}
 
 -- ---- the two ways to say what was told
 pub told-same : (es : List Event) → retold es ≡ renumber.told es
@@ -55,7 +59,11 @@ take-line [] z = refl
 take-line (x ∷ l) z = ap (λ (y : List ℕ). x ∷ y) (take-line l z)
 
 -- ---- what a line says of the walk
-module _ (atoms : List ℕ) (n : ℕ) (bonds : List ℕ) (m : ℕ) (few : n ≤ atomLimit) (P : Plain (graphOf n atoms bonds)) where
+module _ (room : ℕ) (atoms : List ℕ) (n : ℕ) (bonds : List ℕ) (m len : ℕ) (out : List ℕ) (P : Plain (graphOf n atoms bonds))
+    (done : writeOf room atoms n bonds m ≡ left (Done len) out) where
+  few : n ≤ atomLimit
+  few = was-done room atoms n bonds m len out done .few
+
   walk-room : Room (graphOf n atoms bonds) atomLimit atomLimit atomLimit
   walk-room = record { met = few; back = few; taken = few }
 
@@ -64,8 +72,12 @@ module _ (atoms : List ℕ) (n : ℕ) (bonds : List ℕ) (m : ℕ) (few : n ≤ 
   walk-told = told-walk (graphOf n atoms bonds) atomLimit atomLimit atomLimit atomLimit (zeros pairWords) walk-room (turnsOf n m)
 
   pub walk-spelled : Spelled (saidOf atoms n bonds m)
-  unfolding saidIn
-  walk-spelled = spelled-walk (graphOf n atoms bonds) (P .survive) atomLimit atomLimit atomLimit atomLimit (turnsOf n m)
+  walk-spelled =
+      let d = was-done room atoms n bonds m len out done in
+      kept-spelled (saidOf atoms n bonds m)
+      (unfold saidIn in
+      kept-turns (graphOf n atoms bonds) (λ a h. exactly (kindAt (graphOf n atoms bonds) a) (kind-range (graphOf n atoms bonds) a) (P .survive a h)) (turnsOf n m) _)
+      (table-numbered atoms bonds n m (d .few) (d .good) (P .simple) (P .marks) (d .fine))
 
   pub walk-accepted : AllAccepted atomLimit (saidOf atoms n bonds m) []
   unfolding saidIn
@@ -91,22 +103,11 @@ module _ (atoms : List ℕ) (n : ℕ) (bonds : List ℕ) (m : ℕ) (few : n ≤ 
 
 -- ---- what is read of it
 -- a text whose builder is done is read, and leaves what the builder made
-read-back : (atoms : List ℕ) (n : ℕ) (bonds : List ℕ) (m : ℕ) → Plain (graphOf n atoms bonds) → (s : List ℕ) (la lb : ℕ) → length s ≤ textLimit
-    → renumber.ComesBack (graphOf n atoms bonds) (walkOf atoms n bonds m) (sketchOf s la lb) n m la lb → ReadBack atoms n bonds m (read.lineOf s la lb)
-unfolding backKind read.wholeOf builtAnswer
-read-back atoms n bonds m P s la lb short c =
-    subst (ReadBack atoms n bonds m) (sym is)
-    (record {
-      done = rw (c .built .says, c .atoms, c .entries) refl;
-      same = record {
-        numbers = c .numbers;
-        renumbers = c .graph;
-        kinds = λ v l. kind-comes-back _ _ _ (c .graph) v l (P .marks _ (c .numbers .within v l));
-      };
-    })
-  where
-    is : read.lineOf s la lb ≡ read.wholeOf (sketchOf s la lb) la lb
-    is = unfold read.lineOf read.graphOf in rw (le-ltb textLimit (length s) short, eq-eqb (sketchOf s la lb .refusal) 0 (c .built .refusal))
+read-back : (g : Graph) (p : Numbers) (s : List ℕ) (n m la lb : ℕ) → length s ≤ textLimit → renumber.ComesBack g p (sketchOf s la lb) n m
+    → read.lineOf s la lb ≡ readAs n m la lb (renumbered g p)
+unfolding read.lineOf read.graphOf read.wholeOf builtAnswer leftS
+read-back g p s n m la lb short c =
+    rw (le-ltb textLimit (length s) short, eq-eqb (sketchOf s la lb .refusal) 0 (c .built .refusal), c .built .says, c .atoms, c .entries, c .built .nodes) refl
 
 -- the line that stands in an output
 pub line-is : (room : ℕ) (atoms : List ℕ) (n : ℕ) (bonds : List ℕ) (m len : ℕ) (out : List ℕ) → writeOf room atoms n bonds m ≡ left (Done len) out
@@ -115,30 +116,38 @@ line-is room atoms n bonds m len out e =
     let d = was-done room atoms n bonds m len out e in
     ap₂ (λ (i : ℕ) (o : List ℕ). take i o) (d .length-is) (d .line) ∙ take-line (lineSaid (saidOf atoms n bonds m)) _
 
--- The round trip.
+-- what the builder makes of it, where no branch is too many: the graph renumbered
+line-comes-back : (room : ℕ) (atoms : List ℕ) (n : ℕ) (bonds : List ℕ) (m len : ℕ) (out : List ℕ) → Plain (graphOf n atoms bonds)
+    → writeOf room atoms n bonds m ≡ left (Done len) out → nests (parse (take len out)) ≡ false
+    → (la lb : ℕ) → n ≤ lesserOf atomLimit (la / atomWords) → m ≤ lesserOf bondLimit (lb / bondWords)
+    → renumber.ComesBack (graphOf n atoms bonds) (byWalk (walkOf atoms n bonds m)) (sketchOf (take len out) la lb) n m
+line-comes-back room atoms n bonds m len out P e flat la lb ra rb =
+    let l : take len out ≡ lineSaid (saidOf atoms n bonds m) = line-is room atoms n bonds m len out e in
+    let f : nests (parse (lineSaid (saidOf atoms n bonds m))) ≡ false = ap (λ (x : List ℕ). nests (parse x)) (sym l) ∙ flat in
+    let h : map renumber.unplaced (parse (take len out)) ≡ renumber.told (saidOf atoms n bonds m) =
+    ap (λ (x : List ℕ). map renumber.unplaced (parse x)) l ∙ line-says room atoms n bonds m len out P e f in
+    text-comes-back room atoms n bonds m len out (P .simple) (P .marks) e (take len out) h la lb ra rb
+
+-- ---- the laws
+-- The round trip: what the reading says and both tables that it leaves, whole.
 pub round-trip : (room : ℕ) (atoms : List ℕ) (n : ℕ) (bonds : List ℕ) (m len : ℕ) (out : List ℕ) (la lb : ℕ) → RoundTrip room atoms n bonds m len out la lb
 round-trip room atoms n bonds m len out la lb P e r =
-    let d = was-done room atoms n bonds m len out e in
-    let l : take len out ≡ lineSaid (saidOf atoms n bonds m) = line-is room atoms n bonds m len out e in
-    let f : nests (parse (lineSaid (saidOf atoms n bonds m))) ≡ false = ap (λ (x : List ℕ). nests (parse x)) (sym l) ∙ r .shallow in
-    let h : map renumber.unplaced (parse (take len out)) ≡ renumber.told (saidOf atoms n bonds m) =
-    ap (λ (x : List ℕ). map renumber.unplaced (parse x)) l ∙ line-says atoms n bonds m (d .few) P f in
-    read-back atoms n bonds m P (take len out) la lb (r .short)
-    (text-comes-back room atoms n bonds m len out (P .simple) (P .marks) e (take len out) h la lb (r .atoms) (r .bonds))
+    read-back (graphOf n atoms bonds) (byWalk (walkOf atoms n bonds m)) (take len out) n m la lb (r .short)
+    (line-comes-back room atoms n bonds m len out P e (r .shallow) la lb (r .atoms) (r .bonds))
 
 -- The same with no word on what the reader says: no line that is too long, at most as many branches open at once as the reader
 -- has room for, and room lent for the atoms and entries.
 pub round-trip-shallow : (room : ℕ) (atoms : List ℕ) (n : ℕ) (bonds : List ℕ) (m len : ℕ) (out : List ℕ) (la lb : ℕ)
     → Plain (graphOf n atoms bonds) → writeOf room atoms n bonds m ≡ left (Done len) out
     → len ≤ textLimit → depth (saidOf atoms n bonds m) ≤ branchLimit → n ≤ lesserOf atomLimit (la / atomWords) → m ≤ lesserOf bondLimit (lb / bondWords)
-    → ReadBack atoms n bonds m (read.lineOf (take len out) la lb)
+    → read.lineOf (take len out) la lb ≡ readAs n m la lb (backOf atoms n bonds m)
 round-trip-shallow room atoms n bonds m len out la lb P e short deep ra rb =
     let d = was-done room atoms n bonds m len out e in
     let l : take len out ≡ lineSaid (saidOf atoms n bonds m) = line-is room atoms n bonds m len out e in
     round-trip room atoms n bonds m len out la lb P e
     (record {
       short = omega (arith, ap length l, d .length-is);
-      shallow = ap (λ (x : List ℕ). nests (parse x)) l ∙ line-nests atoms n bonds m (d .few) P ∙ le-ltb branchLimit (depth (saidOf atoms n bonds m)) deep;
+      shallow = ap (λ (x : List ℕ). nests (parse x)) l ∙ line-nests room atoms n bonds m len out P e ∙ le-ltb branchLimit (depth (saidOf atoms n bonds m)) deep;
       atoms = ra;
       bonds = rb;
     })
@@ -147,28 +156,37 @@ round-trip-shallow room atoms n bonds m len out la lb P e short deep ra rb =
 pub round-trip-wide : (room : ℕ) (atoms : List ℕ) (n : ℕ) (bonds : List ℕ) (m len : ℕ) (out : List ℕ)
     → Plain (graphOf n atoms bonds) → writeOf room atoms n bonds m ≡ left (Done len) out
     → length (take len out) ≤ textLimit → nests (parse (take len out)) ≡ false
-    → ReadBack atoms n bonds m (read.lineOf (take len out) (atomLimit * atomWords) (bondLimit * bondWords))
+    → read.lineOf (take len out) (atomLimit * atomWords) (bondLimit * bondWords) ≡ readAs n m (atomLimit * atomWords) (bondLimit * bondWords) (backOf atoms n bonds m)
 unfolding lesserOf
 round-trip-wide room atoms n bonds m len out P e short shallow =
     let d = was-done room atoms n bonds m len out e in
     round-trip room atoms n bonds m len out (atomLimit * atomWords) (bondLimit * bondWords) P e
     (record { short = short; shallow = shallow; atoms = d .few; bonds = d .most })
 
+-- Looked at as a walk looks at tables, what is read is the graph renumbered.
+pub trip-same : (room : ℕ) (atoms : List ℕ) (n : ℕ) (bonds : List ℕ) (m len : ℕ) (out : List ℕ) (la lb : ℕ)
+    → Plain (graphOf n atoms bonds) → writeOf room atoms n bonds m ≡ left (Done len) out → Readable (take len out) n m la lb
+    → Same (graphOf n atoms bonds) (graphOf n (read.lineOf (take len out) la lb .atoms) (read.lineOf (take len out) la lb .bonds)) (byWalk (walkOf atoms n bonds m))
+trip-same room atoms n bonds m len out la lb P e r =
+    let d = was-done room atoms n bonds m len out e in
+    subst (λ (x : Said). Same (graphOf n atoms bonds) (graphOf n (x .atoms) (x .bonds)) (byWalk (walkOf atoms n bonds m)))
+    (sym (round-trip room atoms n bonds m len out la lb P e r))
+    (record {
+      numbers = table-numbers atoms bonds n m (d .few) (d .good) (P .simple) (P .marks) (d .fine);
+      renumbers = tables-hold room atoms n bonds m len out (P .simple) (P .marks) e la lb;
+    })
+
 -- ---- two graphs with one line
--- they have as many atoms and entries, and are read back as one graph: each of them renumbered
-pub one-line : (r1 r2 : ℕ) (a1 : List ℕ) (n1 : ℕ) (b1 : List ℕ) (m1 l1 : ℕ) (o1 a2 : List ℕ) (n2 : ℕ) (b2 : List ℕ) (m2 l2 : ℕ) (o2 : List ℕ) (la lb : ℕ)
+-- Two such graphs with the same line have the same renumbering. Of the line it is asked that no branch in it is too many; neither
+-- its length nor any room.
+pub one-line : (r1 r2 : ℕ) (a1 : List ℕ) (n1 : ℕ) (b1 : List ℕ) (m1 l1 : ℕ) (o1 a2 : List ℕ) (n2 : ℕ) (b2 : List ℕ) (m2 l2 : ℕ) (o2 : List ℕ)
     → Plain (graphOf n1 a1 b1) → Plain (graphOf n2 a2 b2) → writeOf r1 a1 n1 b1 m1 ≡ left (Done l1) o1 → writeOf r2 a2 n2 b2 m2 ≡ left (Done l2) o2
-    → Readable (take l1 o1) n1 m1 la lb → Readable (take l2 o2) n2 m2 la lb → take l1 o1 ≡ take l2 o2
-    → OneGraph a1 n1 b1 m1 (read.lineOf (take l1 o1) la lb) a2 n2 b2 m2 (read.lineOf (take l2 o2) la lb)
-one-line r1 r2 a1 n1 b1 m1 l1 o1 a2 n2 b2 m2 l2 o2 la lb P1 P2 e1 e2 h1 h2 q =
-    let x = round-trip r1 a1 n1 b1 m1 l1 o1 la lb P1 e1 h1 in
-    let y = round-trip r2 a2 n2 b2 m2 l2 o2 la lb P2 e2 h2 in
-    let z : read.lineOf (take l1 o1) la lb ≡ read.lineOf (take l2 o2) la lb = ap (λ (s : List ℕ). read.lineOf s la lb) q in
-    let d : answer.Done n1 m1 ≡ answer.Done n2 m2 = sym (x .done) ∙ ap (λ (s : Said). s .answer) z ∙ y .done in
-    record {
-      atoms = cc;
-      entries = cc;
-      alike = z;
-      first = x;
-      second = y;
-    }
+    → take l1 o1 ≡ take l2 o2 → nests (parse (take l1 o1)) ≡ false
+    → backOf a1 n1 b1 m1 ≡ backOf a2 n2 b2 m2
+unfolding lesserOf
+one-line r1 r2 a1 n1 b1 m1 l1 o1 a2 n2 b2 m2 l2 o2 P1 P2 e1 e2 q flat =
+    let d1 = was-done r1 a1 n1 b1 m1 l1 o1 e1 in
+    let d2 = was-done r2 a2 n2 b2 m2 l2 o2 e2 in
+    let x = line-comes-back r1 a1 n1 b1 m1 l1 o1 P1 e1 flat (atomLimit * atomWords) (bondLimit * bondWords) (d1 .few) (d1 .most) in
+    let y = line-comes-back r2 a2 n2 b2 m2 l2 o2 P2 e2 (ap (λ (s : List ℕ). nests (parse s)) (sym q) ∙ flat) (atomLimit * atomWords) (bondLimit * bondWords) (d2 .few) (d2 .most) in
+    sym (x .built .nodes) ∙ ap (λ (s : List ℕ). sketchOf s (atomLimit * atomWords) (bondLimit * bondWords) .nodes) q ∙ y .built .nodes

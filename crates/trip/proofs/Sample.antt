@@ -1,23 +1,27 @@
 -- A chain of three atoms for an example: all that the law asks can be met, and a mark is toggled. Assumes nothing.
 use Prim.Native.Nat.{ℕ, zero, suc, _<_}
-use mathlib.Core.Path.{_≡_, refl, _∙_}
+use mathlib.Core.Path.{_≡_, refl, ap, _∙_}
 use mathlib.Core.List.{List, [], _∷_, _++_}
-use mathlib.Core.Bool.{true, false}
+use mathlib.Core.Bool.{false}
 use native.Mathlib.Omega.{arith}
 use Rattle.feature.specs.Text.{bytes}
 use Rattle.feature.specs.Names.{names, placeOf}
 use Rattle.feature.specs.Kinds.{bracket, bracketInRange, inRange, invertBracket, invertOf}
 use Rattle.feature.specs.Bonds.{codeOf, kindOf, sureKind, reverseOf}
 use Rattle.feature.specs.declared.atom_kind.AtomKind.{AtomKind}
-use Rattle.feature.specs.declared.atom_kind.AtomKind.the-variants.{Aliphatic, Bracket}
+use Rattle.feature.specs.declared.atom_kind.AtomKind.the-variants.{Star, Aliphatic, Bracket}
+use Rattle.feature.specs.declared.bond_kind.BondKind.the-variants.{Single}
 use Rattle.record.specs.Words as words
 use Rattle.spell.specs.Spell as spell
 use Rattle.scan.specs.Scan as scan
 use Rattle.survive.specs.Survive as survive
+use Rattle.survive.proofs.ReadBack.{alone}
 use Rattle.graph.specs.Limits.{lesserOf}
 use Rattle.reader.specs.Parse as parse
 use Rattle.build.specs.Build.{startsOf, sumOf}
+use Rattle.sketch.specs.Sketch.{To, edge, node, atomTable, targetOf, edgeTable, bondTable, padded}
 use Rattle.read.specs.declared.Answer.the-variants as answer
+use Rattle.read.specs.Read.{said}
 use Rattle.read.specs.Line as read
 use Rattle.writer.specs.Line as writer
 use Rattle.ways.specs.Graph.{Graph, kindAt, degreeAt, bondOf, kindOr, kindIn, degreeIn, bondIn}
@@ -29,8 +33,9 @@ use Rattle.write.specs.Write.{graphOf, walkIn, saidIn, atomRoom, bondRoom, left
 use Rattle.write.specs.Order.{orderOf}
 use Rattle.retell.specs.Retell.{nests}
 use Rattle.renumber.specs.Renumber.{Backed, Simple}
-use Rattle.renumber.specs.Marks.{Tetrahedral, bearsHydrogen, otherMark, toggled, oddIndex}
-use Rattle.trip.specs.RoundTrip.{Plain, Readable, backKind, ReadBack}
+use Rattle.renumber.specs.Renumbered.{othersOf, parentEntry, doneOf, edgeOf, nodeOf, firstAtoms, renumbered}
+use Rattle.renumber.specs.Marks.{Tetrahedral, bearsHydrogen, otherMark, toggled, oddIndex, backKind}
+use Rattle.trip.specs.RoundTrip.{Plain, Readable, readAs, backOf}
 use Rattle.trip.specs.ByOrder.{ReadByOrder}
 use Rattle.trip.proofs.Law.{round-trip}
 use Rattle.trip.proofs.ByOrder.{trip-by-order}
@@ -85,7 +90,6 @@ chain-simple : Simple chain
 unfolding words.listOf words.wordsOf words.pairOf words.bracketPair words.bondAt words.bondOf words.entryOf kindOf reverseOf sureKind bondIn degreeIn inRange bracketInRange startsOf sumOf
 chain-simple = record {
   some = omega arith;
-  known = each-entry (λ (a i : ℕ). bondOf chain a i .to < 3) (omega arith) (omega arith) (omega arith) (omega arith);
   apart = each-entry (λ (a i : ℕ). bondOf chain a i .to ≡ a → ⊥) (λ z. omega arith) (λ z. omega arith) (λ z. omega arith) (λ z. omega arith);
   once = λ a i j ha hi hj. each-entry (λ (a i : ℕ). (j : ℕ) → j < degreeAt chain a → bondOf chain a i .to ≡ bondOf chain a j .to → i ≡ j)
       (below-one (λ (j : ℕ). bondOf chain 0 0 .to ≡ bondOf chain 0 j .to → 0 ≡ j) (λ z. refl))
@@ -104,7 +108,7 @@ chain-plain : Plain chain
 unfolding words.listOf words.wordsOf words.pairOf words.bracketPair words.loadAt words.loadOf words.plainOf words.bracketOf bracketInRange inRange kindOr kindIn survive.symbolSurvives survive.configurationSurvives survive.hydrogensSurvive survive.chargeSurvives survive.fieldsSurvive survive.survives
 chain-plain = record {
   simple = chain-simple;
-  survive = below-three (λ (a : ℕ). survive.survives (kindAt chain a) ≡ true) refl refl refl;
+  survive = below-three (λ (a : ℕ). survive.Survives (kindAt chain a)) (alone carbon refl) (alone (marked 1) refl) (alone carbon refl);
   marks = below-three (λ (a : ℕ). Tetrahedral (kindAt chain a)) tt (omega arith) tt;
 }
 
@@ -112,24 +116,62 @@ line-flat : nests (parse.parse line) ≡ false
 unfolding nests parse.parse parse.lineP parse.atomP parse.foundP parse.bodies parse.bodyAt parse.bodyOf parse.unitP parse.unitBy parse.unionP parse.unionBy parse.ringP parse.ledAt parse.closeP parse.branchP parse.endP scan.peekAt scan.digitOf scan.digitAt scan.digitStep scan.numberAt scan.missingAt scan.isotopeAt scan.slip scan.symbolOf scan.symbolAt scan.shortAt scan.lateAt scan.longAt scan.alleneAt scan.octahedralAt scan.squareAt scan.trigonalAt scan.configurationAt scan.hydrogensAt scan.fifteenAt scan.signedAt scan.chargeAt scan.mapAt scan.closeAt scan.afterMap scan.afterCharge scan.afterHydrogens scan.afterConfiguration scan.configured scan.afterSymbol scan.afterIsotope scan.insideAt scan.bracketAt scan.aromaticOf scan.aliphaticOf scan.wantedAt scan.optionalAt scan.organicAt scan.starAt scan.orElse scan.otherAt scan.atomAt scan.bondOf scan.markWidth scan.bondAt scan.percentAt scan.rnumAt names placeOf
 line-flat = refl
 
-readable : Readable line 3 4 9 8
+-- room for one atom and one entry more, and a word that is no entry
+readable : Readable line 3 4 12 11
 unfolding lesserOf
 readable = record { short = omega arith; shallow = line-flat; atoms = omega arith; bonds = omega arith }
 
 -- ---- what is said
-chain-back : ReadBack atoms 3 bonds 4 (read.lineOf line 9 8)
-chain-back = round-trip 12 atoms 3 bonds 4 9 (line ++ (0 ∷ 0 ∷ 0 ∷ [])) 9 8 chain-plain written readable
+-- atom 1 comes back with its mark toggled and its bond to atom 0 first
+chain-renumbered : backOf atoms 3 bonds 4 ≡ node carbon (edge Single (To 1) ∷ []) ∷ node (marked 2) (edge Single (To 0) ∷ edge Single (To 2) ∷ []) ∷ node carbon (edge Single (To 1) ∷ []) ∷ []
+unfolding words.listOf words.wordsOf words.pairOf words.bracketPair words.loadAt words.loadOf words.plainOf words.bracketOf words.bondAt words.bondOf words.entryOf kindOf codeOf reverseOf bracketInRange inRange invertBracket invertOf kindOr sureKind kindIn degreeIn bondIn isRefused isFixed turnedOr even saidAs scanIn judgedBack wayOf popsOf rootOf leftIn numberedOf ringOf enteredOf enterOf bondTurn entryOf atomOf turnOf stepOf walkTo turnsOf startsOf sumOf walkIn bearsHydrogen otherMark toggled oddIndex backKind othersOf parentEntry doneOf edgeOf nodeOf firstAtoms renumbered
+chain-renumbered = refl
 
--- so it is read, and atom 1 comes back with its mark toggled
-chain-done : read.lineOf line 9 8 .answer ≡ answer.Done 3 4
-chain-done = chain-back .done
-
-chain-mark : kindAt (graphOf 3 (read.lineOf line 9 8 .atoms) (read.lineOf line 9 8 .bonds)) 1 ≡ marked 2
-unfolding words.listOf words.wordsOf words.pairOf words.bracketPair words.loadAt words.loadOf words.plainOf words.bracketOf words.bondAt words.bondOf words.entryOf kindOf codeOf reverseOf bracketInRange inRange invertBracket invertOf kindOr sureKind kindIn degreeIn bondIn isRefused isFixed turnedOr even saidAs scanIn judgedBack wayOf popsOf rootOf leftIn numberedOf ringOf enteredOf enterOf bondTurn entryOf atomOf turnOf stepOf walkTo eventsOf turnsOf startsOf sumOf walkIn backKind bearsHydrogen otherMark toggled oddIndex
-chain-mark = chain-back .same .kinds 1 (omega arith) ∙ refl
+-- so the tables that the reading leaves are these, word for word
+chain-back : read.lineOf line 12 11 ≡ said (answer.Done 3 4)
+    (words.listOf carbon ++ (1 ∷ words.listOf (marked 2) ++ (2 ∷ words.listOf carbon ++ (1 ∷ 0 ∷ 0 ∷ 0 ∷ []))))
+    (2 ∷ 1 ∷ 2 ∷ 0 ∷ 2 ∷ 2 ∷ 2 ∷ 1 ∷ 0 ∷ 0 ∷ 0 ∷ [])
+unfolding padded atomTable bondTable edgeTable targetOf words.listOf codeOf
+chain-back =
+    round-trip 12 atoms 3 bonds 4 9 (line ++ (0 ∷ 0 ∷ 0 ∷ [])) 12 11 chain-plain written readable
+    ∙ ap (readAs 3 4 12 11) chain-renumbered
 
 -- and the same by a walk order into tables of 3, 5 and 4 words
-chain-by-order : ReadByOrder atoms 3 bonds 4 (orderOf 3 5 4 atoms 3 bonds 4) (read.lineOf line 9 8)
+chain-by-order : ReadByOrder atoms 3 bonds 4 (orderOf 3 5 4 atoms 3 bonds 4) 12 11 (read.lineOf line 12 11)
 chain-by-order =
-    trip-by-order 12 atoms 3 bonds 4 9 (line ++ (0 ∷ 0 ∷ 0 ∷ [])) 3 5 4 9 8 chain-plain written
+    trip-by-order 12 atoms 3 bonds 4 9 (line ++ (0 ∷ 0 ∷ 0 ∷ [])) 3 5 4 12 11 chain-plain written
     (record { walked = omega arith; number = omega arith; back = omega arith }) readable
+
+-- ---- a lone star
+-- A record of zeros looks like a star too, but the star that is read back has a star's words.
+abbrev starAtoms : List ℕ
+starAtoms = words.listOf Star ++ (0 ∷ [])
+
+star-written : writeOf 1 starAtoms 1 [] 0 ≡ left (Done 1) (bytes "*")
+unfolding words.listOf words.wordsOf words.pairOf words.loadAt words.loadOf words.plainOf inRange kindOr kindIn degreeIn even saidAs rootOf leftIn entryOf atomOf turnOf stepOf walkTo eventsOf turnsOf words.isHeld words.isAtom atomsFrom bondsFrom afterAtoms badRecord startsOf sumOf lesserOf walkIn saidIn atomRoom bondRoom putLine concluded graphWritten writeOf writer.lineOf writer.dotText writer.addPiece writer.writeEvent writer.writeEvents spell.atomText spell.kindText
+star-written = refl
+
+star-plain : Plain (graphOf 1 starAtoms [])
+unfolding words.listOf words.wordsOf words.pairOf words.loadAt words.loadOf words.plainOf inRange kindOr kindIn degreeIn survive.survives
+star-plain = record {
+  simple = record {
+    some = omega arith;
+    apart = λ a i ha. below-one (λ (a : ℕ). i < degreeAt (graphOf 1 starAtoms []) a → bondOf (graphOf 1 starAtoms []) a i .to ≡ a → ⊥) (λ h. absurd (omega arith)) a ha;
+    once = λ a i j ha. below-one (λ (a : ℕ). i < degreeAt (graphOf 1 starAtoms []) a → j < degreeAt (graphOf 1 starAtoms []) a
+        → bondOf (graphOf 1 starAtoms []) a i .to ≡ bondOf (graphOf 1 starAtoms []) a j .to → i ≡ j) (λ h. absurd (omega arith)) a ha;
+    backed = λ a i ha. below-one (λ (a : ℕ). i < degreeAt (graphOf 1 starAtoms []) a → Backed (graphOf 1 starAtoms []) a (bondOf (graphOf 1 starAtoms []) a i .to) (bondOf (graphOf 1 starAtoms []) a i))
+        (λ h. absurd (omega arith)) a ha;
+  };
+  survive = below-one (λ (a : ℕ). survive.Survives (kindAt (graphOf 1 starAtoms []) a)) (alone Star refl);
+  marks = below-one (λ (a : ℕ). Tetrahedral (kindAt (graphOf 1 starAtoms []) a)) tt;
+}
+
+star-flat : nests (parse.parse (bytes "*")) ≡ false
+unfolding nests parse.parse parse.lineP parse.atomP parse.foundP parse.bodies parse.bodyAt parse.bodyOf parse.unitP parse.unitBy parse.unionP parse.unionBy parse.ringP parse.ledAt parse.closeP parse.branchP parse.endP scan.peekAt scan.bracketAt scan.aromaticOf scan.aliphaticOf scan.wantedAt scan.optionalAt scan.organicAt scan.starAt scan.orElse scan.otherAt scan.atomAt scan.bondOf scan.markWidth scan.bondAt scan.percentAt scan.rnumAt scan.missingAt scan.digitAt scan.digitOf
+star-flat = refl
+
+star-back : read.lineOf (bytes "*") 3 0 ≡ said (answer.Done 1 0) (1 ∷ 0 ∷ 0 ∷ []) []
+unfolding lesserOf padded atomTable bondTable edgeTable words.listOf words.wordsOf words.pairOf words.loadAt words.loadOf words.plainOf inRange kindOr kindIn degreeIn even saidAs rootOf leftIn entryOf atomOf turnOf stepOf walkTo turnsOf startsOf sumOf walkIn bearsHydrogen oddIndex backKind othersOf parentEntry doneOf nodeOf firstAtoms renumbered
+star-back =
+    round-trip 1 starAtoms 1 [] 0 1 (bytes "*") 3 0 star-plain star-written
+    (record { short = omega arith; shallow = star-flat; atoms = omega arith; bonds = omega arith })
