@@ -11,7 +11,7 @@ use borrow.Author.Tests.{eq-eqb, ne-eqb, leb-true, leb-false}
 use Rattle.feature.specs.Bonds.{reverseOf}
 use Rattle.ways.specs.Graph.{Bond, Graph, degreeAt, bondOf}
 use Rattle.renumber.specs.Renumber.{Backed, Simple}
-use Rattle.renumber.specs.Renumbered.{othersOf, parentEntry, doneOf, entriesOf}
+use Rattle.renumber.specs.Renumbered.{othersOf, parentEntry, doneOf}
 use Rattle.renumber.proofs.Lists.{same-refl, same-eq, same-ne, true≢false, by-eq, by-bool, or-true, or-true-left}
 use Rattle.renumber.proofs.View.{hasT, kindT, NodupB, bnil, bcons}
 use Rattle.renumber.proofs.Opens.{hasT-app}
@@ -173,7 +173,7 @@ module _ (g : Graph) (v b : ℕ) where
       (λ q. rw (ne-eqb b (suc n) q, length-append) (omega (arith, others-in n l (omega arith))))
 
   -- an atom has as many entries as before
-  pub entries-length : b ≤ degreeAt g v → length (entriesOf g v b) ≡ degreeAt g v
+  pub entries-length : b ≤ degreeAt g v → length (doneOf g v b (degreeAt g v)) ≡ degreeAt g v
   unfolding doneOf
   entries-length hb =
       by-eq b 0 (λ q. rw (parent-root q) (others-out (degreeAt g v) (λ j l z. omega arith)))

@@ -119,7 +119,7 @@ even-before b n =
 -- a place from 1 is even where its index is odd
 odd-index : (b : ℕ) → b ≢ 0 → oddIndex b ≡ even b
 unfolding oddIndex
-odd-index b n = rw (ne-eqb b 0 n, sym (even-before b n))
+odd-index b n = rw (ne-eqb b 0 n) (sym (even-before b n))
 
 back-quiet : (k : AtomKind) (b : ℕ) → oddIndex b ≡ false → backKind k b ≡ k
 unfolding backKind
