@@ -61,5 +61,5 @@ pub one-by-order : (r1 r2 : ℕ) (a1 : List ℕ) (n1 : ℕ) (b1 : List ℕ) (m1 
     → renumbered (graphOf n1 a1 b1) (byOrder (orderOf lw1 ln1 lb1 a1 n1 b1 m1)) ≡ renumbered (graphOf n2 a2 b2) (byOrder (orderOf lw2 ln2 lb2 a2 n2 b2 m2))
 one-by-order r1 r2 a1 n1 b1 m1 l1 o1 a2 n2 b2 m2 l2 o2 lw1 ln1 lb1 lw2 ln2 lb2 P1 P2 e1 e2 t1 t2 q h =
     ap (renumbered (graphOf n1 a1 b1)) (sym (order-numbers r1 a1 n1 b1 m1 l1 o1 lw1 ln1 lb1 e1 t1))
-    ∙ one-line r1 r2 a1 n1 b1 m1 l1 o1 a2 n2 b2 m2 l2 o2 P1 P2 e1 e2 q h
+    ∙ one-line r1 a1 n1 b1 m1 l1 o1 r2 a2 n2 b2 m2 l2 o2 P1 P2 e1 e2 q h
     ∙ ap (renumbered (graphOf n2 a2 b2)) (order-numbers r2 a2 n2 b2 m2 l2 o2 lw2 ln2 lb2 e2 t2)

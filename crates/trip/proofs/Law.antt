@@ -13,7 +13,7 @@ use Rattle.graph.specs.Limits.{textLimit, atomLimit, bondLimit, branchLimit, le
 use Rattle.reader.specs.Events as reader
 use Rattle.reader.specs.Parse.{parse}
 use Rattle.writer.specs.Line.{Event, Root, Extend, Join, Pop}
-use Rattle.sketch.specs.Sketch.{sketchOf, leftS}
+use Rattle.sketch.specs.Sketch.{countOf, sketchOf, leftS}
 use Rattle.read.specs.Read.{Said, builtAnswer}
 use Rattle.read.specs.Line as read
 use Rattle.walk.specs.Walk.{turnsOf}
@@ -28,9 +28,10 @@ use Rattle.renumber.specs.Renumbered.{Numbers, byWalk, renumbered}
 use Rattle.survive.proofs.Exactly.{exactly}
 use Rattle.ways.specs.Graph.{Graph, kindAt}
 use Rattle.renumber.proofs.Tables.{kind-range}
-use Rattle.renumber.proofs.Written.{was-done, table-numbers, table-numbered}
+use Rattle.renumber.proofs.Written.{was-done, table-numbers, table-numbered, table-count}
+use Rattle.renumber.proofs.Trip.{renumbered-length}
 use Rattle.renumber.proofs.ComesBack.{text-comes-back, tables-hold}
-use Rattle.trip.specs.RoundTrip.{Plain, Readable, readAs, backOf, RoundTrip, Same}
+use Rattle.trip.specs.RoundTrip.{Plain, Readable, readAs, backOf, RoundTrip, OneLine, Same}
 use Rattle.trip.proofs.Ordered.{told-walk, some-said}
 use Rattle.trip.proofs.Spelling.{kept-spelled, kept-turns}
 
@@ -177,16 +178,24 @@ trip-same room atoms n bonds m len out la lb P e r =
     })
 
 -- ---- two graphs with one line
--- Two such graphs with the same line have the same renumbering. Of the line it is asked that no branch in it is too many; neither
--- its length nor any room.
-pub one-line : (r1 r2 : ℕ) (a1 : List ℕ) (n1 : ℕ) (b1 : List ℕ) (m1 l1 : ℕ) (o1 a2 : List ℕ) (n2 : ℕ) (b2 : List ℕ) (m2 l2 : ℕ) (o2 : List ℕ)
-    → Plain (graphOf n1 a1 b1) → Plain (graphOf n2 a2 b2) → writeOf r1 a1 n1 b1 m1 ≡ left (Done l1) o1 → writeOf r2 a2 n2 b2 m2 ≡ left (Done l2) o2
-    → take l1 o1 ≡ take l2 o2 → nests (parse (take l1 o1)) ≡ false
-    → backOf a1 n1 b1 m1 ≡ backOf a2 n2 b2 m2
+-- Two such graphs with the same line have the same renumbering.
+pub one-line : (r1 : ℕ) (a1 : List ℕ) (n1 : ℕ) (b1 : List ℕ) (m1 l1 : ℕ) (o1 : List ℕ) (r2 : ℕ) (a2 : List ℕ) (n2 : ℕ) (b2 : List ℕ) (m2 l2 : ℕ) (o2 : List ℕ)
+    → OneLine r1 a1 n1 b1 m1 l1 o1 r2 a2 n2 b2 m2 l2 o2
 unfolding lesserOf
-one-line r1 r2 a1 n1 b1 m1 l1 o1 a2 n2 b2 m2 l2 o2 P1 P2 e1 e2 q flat =
+one-line r1 a1 n1 b1 m1 l1 o1 r2 a2 n2 b2 m2 l2 o2 P1 P2 e1 e2 q flat =
     let d1 = was-done r1 a1 n1 b1 m1 l1 o1 e1 in
     let d2 = was-done r2 a2 n2 b2 m2 l2 o2 e2 in
     let x = line-comes-back r1 a1 n1 b1 m1 l1 o1 P1 e1 flat (atomLimit * atomWords) (bondLimit * bondWords) (d1 .few) (d1 .most) in
     let y = line-comes-back r2 a2 n2 b2 m2 l2 o2 P2 e2 (ap (λ (s : List ℕ). nests (parse s)) (sym q) ∙ flat) (atomLimit * atomWords) (bondLimit * bondWords) (d2 .few) (d2 .most) in
     sym (x .built .nodes) ∙ ap (λ (s : List ℕ). sketchOf s (atomLimit * atomWords) (bondLimit * bondWords) .nodes) q ∙ y .built .nodes
+
+-- So they have as many atoms and as many entries.
+pub one-count : (r1 : ℕ) (a1 : List ℕ) (n1 : ℕ) (b1 : List ℕ) (m1 l1 : ℕ) (o1 : List ℕ) (r2 : ℕ) (a2 : List ℕ) (n2 : ℕ) (b2 : List ℕ) (m2 l2 : ℕ) (o2 : List ℕ)
+    → Plain (graphOf n1 a1 b1) → Plain (graphOf n2 a2 b2) → writeOf r1 a1 n1 b1 m1 ≡ left (Done l1) o1 → writeOf r2 a2 n2 b2 m2 ≡ left (Done l2) o2
+    → take l1 o1 ≡ take l2 o2 → nests (parse (take l1 o1)) ≡ false
+    → (n1 ≡ n2) × (m1 ≡ m2)
+one-count r1 a1 n1 b1 m1 l1 o1 r2 a2 n2 b2 m2 l2 o2 P1 P2 e1 e2 q flat =
+    let d1 = was-done r1 a1 n1 b1 m1 l1 o1 e1 in
+    let d2 = was-done r2 a2 n2 b2 m2 l2 o2 e2 in
+    let z : backOf a1 n1 b1 m1 ≡ backOf a2 n2 b2 m2 = one-line r1 a1 n1 b1 m1 l1 o1 r2 a2 n2 b2 m2 l2 o2 P1 P2 e1 e2 q flat in
+    (sym (renumbered-length (graphOf n1 a1 b1) _) ∙ ap length z ∙ renumbered-length (graphOf n2 a2 b2) _, sym (table-count a1 b1 n1 m1 (d1 .few) (d1 .good) (P1 .simple) (P1 .marks) (d1 .fine)) ∙ ap countOf z ∙ table-count a2 b2 n2 m2 (d2 .few) (d2 .good) (P2 .simple) (P2 .marks) (d2 .fine))

@@ -37,7 +37,7 @@ use Rattle.renumber.specs.Renumbered.{othersOf, parentEntry, doneOf, edgeOf, no
 use Rattle.renumber.specs.Marks.{Tetrahedral, bearsHydrogen, otherMark, toggled, oddIndex, backKind}
 use Rattle.trip.specs.RoundTrip.{Plain, Readable, readAs, backOf}
 use Rattle.trip.specs.ByOrder.{ReadByOrder}
-use Rattle.trip.proofs.Law.{round-trip}
+use Rattle.trip.proofs.Law.{round-trip, one-line}
 use Rattle.trip.proofs.ByOrder.{trip-by-order}
 
 abbrev carbon : AtomKind
@@ -141,6 +141,57 @@ chain-by-order : ReadByOrder atoms 3 bonds 4 (orderOf 3 5 4 atoms 3 bonds 4) 12 
 chain-by-order =
     trip-by-order 12 atoms 3 bonds 4 9 (line ++ (0 ∷ 0 ∷ 0 ∷ [])) 3 5 4 12 11 chain-plain written
     (record { walked = omega arith; number = omega arith; back = omega arith }) readable
+
+-- ---- another graph with this line
+-- the one that came back
+abbrev backAtoms : List ℕ
+backAtoms = words.listOf carbon ++ (1 ∷ words.listOf (marked 2) ++ (2 ∷ words.listOf carbon ++ (1 ∷ [])))
+
+abbrev backBonds : List ℕ
+backBonds = 2 ∷ 1 ∷ 2 ∷ 0 ∷ 2 ∷ 2 ∷ 2 ∷ 1 ∷ []
+
+abbrev back : Graph
+back = graphOf 3 backAtoms backBonds
+
+back-written : writeOf 9 backAtoms 3 backBonds 4 ≡ left (Done 9) line
+unfolding words.listOf words.wordsOf words.pairOf words.bracketPair words.loadAt words.loadOf words.plainOf words.bracketOf words.bondAt words.bondOf words.entryOf kindOf codeOf reverseOf bracketInRange inRange invertBracket invertOf kindOr sureKind kindIn degreeIn bondIn isRefused isFixed turnedOr even saidAs scanIn judgedBack wayOf popsOf rootOf leftIn numberedOf ringOf enteredOf enterOf bondTurn entryOf atomOf turnOf stepOf walkTo eventsOf turnsOf words.isHeld isEntry words.isAtom bondStands atomsFrom bondsFrom afterAtoms badRecord startsOf sumOf lesserOf walkIn saidIn atomRoom bondRoom putLine concluded graphWritten writeOf writer.lineOf writer.dotText writer.addPiece writer.onLast writer.wrapped writer.popPieces writer.writeEvent writer.writeEvents spell.atomText spell.kindText spell.nameText spell.symbolText spell.organic spell.bracketText spell.numberText spell.configurationText spell.hydrogensText spell.chargeText spell.mapText spell.bondText spell.digits names
+back-written = refl
+
+each-back : (P : ℕ → ℕ → Type 0) → P 0 0 → P 1 0 → P 1 1 → P 2 0 → (a i : ℕ) → a < 3 → i < degreeAt back a → P a i
+unfolding words.listOf words.wordsOf words.pairOf words.bracketPair degreeIn inRange bracketInRange
+each-back P p q r s a i ha =
+    below-three (λ (a : ℕ). i < degreeAt back a → P a i) (below-one (P 0) p i) (below-two (P 1) q r i) (below-one (P 2) s i) a ha
+
+back-simple : Simple back
+unfolding words.listOf words.wordsOf words.pairOf words.bracketPair words.bondAt words.bondOf words.entryOf kindOf reverseOf sureKind bondIn degreeIn inRange bracketInRange startsOf sumOf
+back-simple = record {
+  some = omega arith;
+  apart = each-back (λ (a i : ℕ). bondOf back a i .to ≡ a → ⊥) (λ z. omega arith) (λ z. omega arith) (λ z. omega arith) (λ z. omega arith);
+  once = λ a i j ha hi hj. each-back (λ (a i : ℕ). (j : ℕ) → j < degreeAt back a → bondOf back a i .to ≡ bondOf back a j .to → i ≡ j)
+      (below-one (λ (j : ℕ). bondOf back 0 0 .to ≡ bondOf back 0 j .to → 0 ≡ j) (λ z. refl))
+      (below-two (λ (j : ℕ). bondOf back 1 0 .to ≡ bondOf back 1 j .to → 0 ≡ j) (λ z. refl) (λ z. absurd (omega arith)))
+      (below-two (λ (j : ℕ). bondOf back 1 1 .to ≡ bondOf back 1 j .to → 1 ≡ j) (λ z. absurd (omega arith)) (λ z. refl))
+      (below-one (λ (j : ℕ). bondOf back 2 0 .to ≡ bondOf back 2 j .to → 0 ≡ j) (λ z. refl))
+      a i ha hi j hj;
+  backed = each-back (λ (a i : ℕ). Backed back a (bondOf back a i .to) (bondOf back a i))
+      (record { place = 0; within = omega arith; leads = refl; reversed = refl })
+      (record { place = 0; within = omega arith; leads = refl; reversed = refl })
+      (record { place = 0; within = omega arith; leads = refl; reversed = refl })
+      (record { place = 1; within = omega arith; leads = refl; reversed = refl });
+}
+
+back-plain : Plain back
+unfolding words.listOf words.wordsOf words.pairOf words.bracketPair words.loadAt words.loadOf words.plainOf words.bracketOf bracketInRange inRange kindOr kindIn survive.symbolSurvives survive.configurationSurvives survive.hydrogensSurvive survive.chargeSurvives survive.fieldsSurvive survive.survives
+back-plain = record {
+  simple = back-simple;
+  survive = below-three (λ (a : ℕ). survive.Survives (kindAt back a)) (alone carbon refl) (alone (marked 2) refl) (alone carbon refl);
+  marks = below-three (λ (a : ℕ). Tetrahedral (kindAt back a)) tt (omega arith) tt;
+}
+
+-- the two are not the same tables, and have the same renumbering
+chain-one : backOf atoms 3 bonds 4 ≡ backOf backAtoms 3 backBonds 4
+chain-one =
+    one-line 12 atoms 3 bonds 4 9 (line ++ (0 ∷ 0 ∷ 0 ∷ [])) 9 backAtoms 3 backBonds 4 9 line chain-plain back-plain written back-written refl line-flat
 
 -- ---- a lone star
 -- A record of zeros looks like a star too, but the star that is read back has a star's words.

@@ -59,6 +59,14 @@ RoundTrip room atoms n bonds m len out la lb =
     Plain (graphOf n atoms bonds) → writeOf room atoms n bonds m ≡ left (Done len) out → Readable (take len out) n m la lb
     → lineOf (take len out) la lb ≡ readAs n m la lb (backOf atoms n bonds m)
 
+-- The corollary on two jobs: two such graphs with the same line have the same renumbering. Of the line it is asked that no branch in
+-- it is too many; nothing of its length, and no room is lent.
+abbrev pub OneLine : ℕ → List ℕ → ℕ → List ℕ → ℕ → ℕ → List ℕ → ℕ → List ℕ → ℕ → List ℕ → ℕ → ℕ → List ℕ → Type 0
+OneLine r1 a1 n1 b1 m1 l1 o1 r2 a2 n2 b2 m2 l2 o2 =
+    Plain (graphOf n1 a1 b1) → Plain (graphOf n2 a2 b2) → writeOf r1 a1 n1 b1 m1 ≡ left (Done l1) o1 → writeOf r2 a2 n2 b2 m2 ≡ left (Done l2) o2
+    → take l1 o1 ≡ take l2 o2 → nests (parse (take l1 o1)) ≡ false
+    → backOf a1 n1 b1 m1 ≡ backOf a2 n2 b2 m2
+
 -- ---- what follows
 -- Looked at as a walk looks at tables, the graph h is g renumbered: the numbers are one-to-one and onto, and each atom of h has the
 -- kind and the entries of the atom of g with its number.
