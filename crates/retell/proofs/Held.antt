@@ -16,6 +16,7 @@ use Rattle.reader.specs.Events as reader
 use Rattle.writer.specs.Line.{Event, Root, Extend, Join, Pop, lineOf, dotText, addPiece, onLast, wrapped, popPieces, writeEvent, writeEvents}
 use Rattle.trek.specs.Trek.{AllAccepted}
 use Rattle.retell.specs.Retell.{retoldOne, retold, greatest, deepened, depthsOne, depths, Told, Spelled}
+use Rattle.retell.proofs.Passes.{passes}
 use Rattle.retell.proofs.Sense.{body, opened, start, Sense, sense-app, sense-extend, sense-opened, sense-split, sense-join, sense-branch}
 
 -- pieces, the last first; the events that they are read as; how deep the brackets of each are; how many of them there are
@@ -125,14 +126,14 @@ unfolding writeEvents writeEvent retold retoldOne depths depthsOne
 held-all most [] d h t s a = record { since = d; held = rw append-nil h }
 held-all most (Root k ∷ es) {ps} d h t s a =
     let e = added most (dotText (length ps) ++ atomText k) ps (a .0) in
-    rw e (rw append-assoc at (held-all most es 1 (held-root k (s .0) h) t (s .1) (rw e at (a .1))))
+    rw e (rw append-assoc at (held-all most es 1 (held-root k (passes k (s .0)) h) t (s .1) (rw e at (a .1))))
 held-all most (Extend b k ∷ es) {ps} zero h t s a = absurd (omega arith)
 held-all most (Extend b k ∷ es) {ps} (suc d) h t s a =
     let e = added most (bondText b ++ atomText k) ps (a .0) in
     let n : suc d + 1 ≡ suc (suc d) = omega arith in
     rw e
     (rw append-assoc at
-    (held-all most es (suc (suc d)) (more h (sense-extend b k (s .0)) (sense-opened b k (s .0))) (rw n at (t .1)) (s .1) (rw e at (a .1))))
+    (held-all most es (suc (suc d)) (more h (sense-extend b k (passes k (s .0))) (sense-opened b k (passes k (s .0)))) (rw n at (t .1)) (s .1) (rw e at (a .1))))
 held-all most (Join b n ∷ es) {ps} d h t s a =
     rw append-assoc at (held-all most es d (held-join b n (s .0) h) (t .1) (s .1) (a .1))
 held-all most (Pop zero ∷ es) {ps} d h t s a = absurd (omega arith)

@@ -1,4 +1,5 @@
 -- What is read of a line that a writer made, from its bytes up.
+pub mod Passes
 pub mod Stands
 pub mod Heads
 pub mod Marks

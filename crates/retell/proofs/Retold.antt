@@ -16,6 +16,7 @@ use Rattle.reader.specs.Parse.{bodies, endP, parse}
 use Rattle.writer.specs.Line.{Event, Root, Extend, Join, Pop, lineOf, dotText, addPiece, writeEvent, writeEvents}
 use Rattle.trek.specs.Trek.{AllAccepted}
 use Rattle.retell.specs.Retell.{placeless, unplaced, nests, Says, all, cut, retoldOne, retold, depthsOne, depths, depth, Told, Spelled}
+use Rattle.retell.proofs.Passes.{passes}
 use Rattle.retell.proofs.Stands.{Stands, whole, after}
 use Rattle.retell.proofs.Bodies.{end-read}
 use Rattle.retell.proofs.Sense.{Then, goes, stops, then-same, then-app, start, Sense, sense-start, met, base, Fuelled}
@@ -49,7 +50,7 @@ unfolding writeEvents writeEvent retold retoldOne dotText depth depths depthsOne
 retold-line most [] l t s a = absurd (omega arith)
 retold-line most (Root k ∷ es) l t s a =
     let e : addPiece most (atomText k) [] ≡ atomText k ∷ [] = added most (atomText k) [] (a .0) in
-    let h = held-all most es 1 (begun (sense-start k (s .0))) t (s .1) (rw e at (a .1)) in
+    let h = held-all most es 1 (begun (sense-start k (passes k (s .0)))) t (s .1) (rw e at (a .1)) in
     rw e (said _ _ (held-line (h .held) .sense))
 retold-line most (Extend b k ∷ es) l t s a = absurd (omega arith)
 retold-line most (Join b n ∷ es) l t s a = absurd (omega arith)

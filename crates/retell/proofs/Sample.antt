@@ -10,6 +10,7 @@ use Rattle.feature.specs.declared.atom_kind.AtomKind.the-variants.{Star, Alipha
 use Rattle.feature.specs.declared.bond_kind.BondKind.the-variants.{Elided, Single, Double, Up}
 use Rattle.spell.specs.Spell.{nameText, organic, kindText, atomText, bondText, digits, rnumText}
 use Rattle.survive.specs.Survive.{survives}
+use Rattle.survive.proofs.ReadBack.{alone}
 use Rattle.reader.specs.Parse.{parse, lineP, atomP, foundP, bodies, bodyAt, bodyOf, unitP, unitBy, unionP, unionBy, ringP, ledAt, closeP, branchP, endP}
 use Rattle.scan.specs.Scan.{peekAt, digitOf, digitAt, bondOf, markWidth, bondAt, percentAt, rnumAt, aromaticOf, aliphaticOf, optionalAt, organicAt, bracketAt, starAt, orElse, otherAt, atomAt}
 use Rattle.writer.specs.Line.{Event, Root, Extend, Join, Pop, lineOf, dotText, addPiece, onLast, wrapped, popPieces, writeEvent, writeEvents}
@@ -33,7 +34,8 @@ sample-told =
 
 sample-spelled : Spelled sample
 unfolding survives inRange
-sample-spelled = (refl, (refl, (lit≤ tt, (refl, (refl, (lit≤ tt, (refl, (lit≤ tt, (refl, tt)))))))))
+sample-spelled =
+    (alone (Aliphatic 1) refl, (alone (Aliphatic 2) refl, (lit≤ tt, (alone (Aromatic 1) refl, (alone (Aliphatic 8) refl, (lit≤ tt, (alone Star refl, (lit≤ tt, (alone (Aliphatic 7) refl, tt)))))))))
 
 sample-accepted : AllAccepted 8 sample []
 unfolding writeEvent addPiece onLast popPieces

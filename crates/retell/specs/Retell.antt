@@ -4,7 +4,7 @@ use mathlib.Core.Path.{_≡_}
 use mathlib.Core.List.{List, [], _∷_, _++_}
 use mathlib.Core.Bool.{Bool, true, false}
 use lib.ListN.{take, drop}
-use Rattle.survive.specs.Survive.{survives}
+use Rattle.survive.specs.Survive.{Survives}
 use Rattle.reader.specs.declared.lead.Lead.the-variants.{Dot, Bond}
 use Rattle.reader.specs.Events as reader
 use Rattle.writer.specs.Line.{Event, Root, Extend, Join, Pop}
@@ -58,11 +58,11 @@ Told n (Extend b k ∷ es) = (1 ≤ n) × Told (n + 1) es
 Told n (Join b r ∷ es) = (1 ≤ n) × Told n es
 Told n (Pop d ∷ es) = (1 ≤ d) × (d < n) × Told (n - d) es
 
--- Each atom's text is read as the atom, and each ring number has a text.
+-- Each atom's text, read alone, is the atom, and each ring number has a text.
 abbrev pub Spelled : List Event → Type 0
 Spelled [] = Unit {0}
-Spelled (Root k ∷ es) = (survives k ≡ true) × Spelled es
-Spelled (Extend b k ∷ es) = (survives k ≡ true) × Spelled es
+Spelled (Root k ∷ es) = Survives k × Spelled es
+Spelled (Extend b k ∷ es) = Survives k × Spelled es
 Spelled (Join b r ∷ es) = (r ≤ 99) × Spelled es
 Spelled (Pop d ∷ es) = Spelled es
 

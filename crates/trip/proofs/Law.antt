@@ -22,12 +22,11 @@ use Rattle.write.specs.Write.{zeros, pairWords, graphOf, walkOf, saidIn, saidOf
 use Rattle.trek.specs.Trek.{Room, AllAccepted}
 use Rattle.trek.proofs.Accepted.{accepted}
 use Rattle.retell.specs.Retell.{Told, Spelled, placeless, unplaced, nests, retoldOne, retold, depth}
+use Rattle.retell.proofs.Passes.{passes}
 use Rattle.retell.proofs.Retold.{retold-shallow, retold-nests}
 use Rattle.renumber.specs.Renumber as renumber
 use Rattle.renumber.specs.Renumbered.{Numbers, byWalk, renumbered}
-use Rattle.survive.proofs.Exactly.{exactly}
 use Rattle.ways.specs.Graph.{Graph, kindAt}
-use Rattle.renumber.proofs.Tables.{kind-range}
 use Rattle.renumber.proofs.Written.{was-done, table-numbers, table-numbered, table-count}
 use Rattle.renumber.proofs.Trip.{renumbered-length}
 use Rattle.renumber.proofs.ComesBack.{text-comes-back, tables-hold}
@@ -77,7 +76,7 @@ module _ (room : ℕ) (atoms : List ℕ) (n : ℕ) (bonds : List ℕ) (m len : �
       let d = was-done room atoms n bonds m len out done in
       kept-spelled (saidOf atoms n bonds m)
       (unfold saidIn in
-      kept-turns (graphOf n atoms bonds) (λ a h. exactly (kindAt (graphOf n atoms bonds) a) (kind-range (graphOf n atoms bonds) a) (P .survive a h)) (turnsOf n m) _)
+      kept-turns (graphOf n atoms bonds) (λ a h. passes (kindAt (graphOf n atoms bonds) a) (P .survive a h)) (turnsOf n m) _)
       (table-numbered atoms bonds n m (d .few) (d .good) (P .simple) (P .marks) (d .fine))
 
   pub walk-accepted : AllAccepted atomLimit (saidOf atoms n bonds m) []

@@ -9,6 +9,7 @@ use lib.Dec.{leb, eqb}
 use borrow.Author.Tests.{leb-false}
 use Rattle.feature.specs.declared.bond_kind.BondKind.{BondKind}
 use Rattle.survive.specs.Survive.{survives}
+use Rattle.survive.proofs.ReadBack.{alone}
 use Rattle.pool.specs.declared.Given.{Given}
 use Rattle.pool.specs.declared.Given.the-variants.{Number, Full}
 use Rattle.writer.specs.Line.{Event, Root, Extend, Join, Pop}
@@ -23,7 +24,7 @@ use Rattle.renumber.specs.Opened.{Numbered}
 use Rattle.renumber.proofs.Marks.{marks-serve}
 
 -- ---- events
--- each atom's text is read as the atom
+-- each atom's kind passes the test of those that survive
 abbrev pub Kept : List Event → Type 0
 Kept [] = Unit {0}
 Kept (Root k ∷ es) = (survives k ≡ true) × Kept es
@@ -33,8 +34,8 @@ Kept (Pop d ∷ es) = Kept es
 
 pub kept-spelled : (es : List Event) → Kept es → Numbered es → Spelled es
 kept-spelled [] h n = tt
-kept-spelled (Root k ∷ es) h n = (h .0, kept-spelled es (h .1) n)
-kept-spelled (Extend b k ∷ es) h n = (h .0, kept-spelled es (h .1) n)
+kept-spelled (Root k ∷ es) h n = (alone k (h .0), kept-spelled es (h .1) n)
+kept-spelled (Extend b k ∷ es) h n = (alone k (h .0), kept-spelled es (h .1) n)
 kept-spelled (Join b r ∷ es) h n = (n .0, kept-spelled es h (n .1))
 kept-spelled (Pop d ∷ es) h n = kept-spelled es h n
 
