@@ -126,7 +126,7 @@ rings-fit (and-ring rs b r) t room h = rings-fit rs t room h
 mutual
   unfolding lineOf FitsChain Fits
 
-  chain-fit : (c : Chain) (room : ℕ) → FitsChain room c → Fits room (lineOf c)
+  pub chain-fit : (c : Chain) (room : ℕ) → FitsChain room c → Fits room (lineOf c)
   chain-fit (first b) room h = branched-fit b (λ a. start a) room (λ a. tt) h
   chain-fit (then c k b) room h = branched-fit b (λ a. link (lineOf c) k a) room (λ a. chain-fit c room (h .0)) (h .1)
 

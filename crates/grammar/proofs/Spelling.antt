@@ -1,6 +1,6 @@
 -- What a tree or a chain spells is bytes. Assumes nothing.
 use Prim.Native.Nat.{ℕ, _<_}
-use mathlib.Core.Path.{_≡_, refl}
+use mathlib.Core.Path.{_≡_, refl, sym, subst}
 use mathlib.Core.List.{List, [], _∷_, _++_}
 use mathlib.Core.Option.{Option, none, some}
 use mathlib.Core.Bool.{Bool, true, false}
@@ -19,46 +19,54 @@ unfolding Bytes
 bytes-append [] ys h k = k
 bytes-append (x ∷ xs) ys h k = (h .0, bytes-append xs ys (h .1) k)
 
--- ---- names
-small : List Name → Bool
-small [] = true
-small (one x ∷ l) = both (ltb x 256) (small l)
-small (two x y ∷ l) = both (ltb x 256) (both (ltb y 256) (small l))
+-- ---- names: what holds of each letter of a table
+unfoldable pub allOf : (ℕ → Bool) → List Name → Bool
+allOf f [] = true
+allOf f (one x ∷ l) = both (f x) (allOf f l)
+allOf f (two x y ∷ l) = both (f x) (both (f y) (allOf f l))
 
-has1-small : (l : List Name) → T (small l) → (a : ℕ) → T (has1 a l) → a < 256
-unfolding small has1
-has1-small [] t a p = absurd p
-has1-small (one x ∷ l) t a p = by (eqb a x) refl p (has1-small l (both-right (ltb x 256) (small l) t) a)
-  where
-    by : (u : Bool) → eqb a x ≡ u → T (pick u true (has1 a l)) → (T (has1 a l) → a < 256) → a < 256
-    by true e q f = omega (arith, eqb-true a x e, ltb→lt x 256 (both-left (ltb x 256) (small l) t))
-    by false e q f = f q
-has1-small (two x y ∷ l) t a p = has1-small l (both-right (ltb y 256) (small l) (both-right (ltb x 256) (both (ltb y 256) (small l)) t)) a p
+module _ (f : ℕ → Bool) where
+  pub has1-all : (l : List Name) → T (allOf f l) → (a : ℕ) → T (has1 a l) → T (f a)
+  unfolding allOf has1
+  has1-all [] t a p = absurd p
+  has1-all (one x ∷ l) t a p = by (eqb a x) refl p (has1-all l (both-right (f x) (allOf f l) t) a)
+    where
+      by : (u : Bool) → eqb a x ≡ u → T (pick u true (has1 a l)) → (T (has1 a l) → T (f a)) → T (f a)
+      by true e q g = subst (λ (y : ℕ). T (f y)) (sym (eqb-true a x e)) (both-left (f x) (allOf f l) t)
+      by false e q g = g q
+  has1-all (two x y ∷ l) t a p = has1-all l (both-right (f y) (allOf f l) (both-right (f x) (both (f y) (allOf f l)) t)) a p
 
-has2-small : (l : List Name) → T (small l) → (a b : ℕ) → T (has2 a b l) → (a < 256) × (b < 256)
-unfolding small has2
-has2-small [] t a b p = absurd p
-has2-small (one x ∷ l) t a b p = has2-small l (both-right (ltb x 256) (small l) t) a b p
-has2-small (two x y ∷ l) t a b p =
-    by (eqb a x) (eqb b y) refl refl p (has2-small l (both-right (ltb y 256) (small l) (both-right (ltb x 256) (both (ltb y 256) (small l)) t)) a b)
-  where
-    by : (u v : Bool) → eqb a x ≡ u → eqb b y ≡ v → T (pick u (pick v true (has2 a b l)) (has2 a b l)) → (T (has2 a b l) → (a < 256) × (b < 256)) → (a < 256) × (b < 256)
-    by true true e g q f = (
-      omega (arith, eqb-true a x e, ltb→lt x 256 (both-left (ltb x 256) (both (ltb y 256) (small l)) t)),
-      omega (arith, eqb-true b y g, ltb→lt y 256 (both-left (ltb y 256) (small l) (both-right (ltb x 256) (both (ltb y 256) (small l)) t))),
-    )
-    by true false e g q f = f q
-    by false v e g q f = f q
+  pub has2-all : (l : List Name) → T (allOf f l) → (a b : ℕ) → T (has2 a b l) → T (f a) × T (f b)
+  unfolding allOf has2
+  has2-all [] t a b p = absurd p
+  has2-all (one x ∷ l) t a b p = has2-all l (both-right (f x) (allOf f l) t) a b p
+  has2-all (two x y ∷ l) t a b p =
+      by (eqb a x) (eqb b y) refl refl p (has2-all l (both-right (f y) (allOf f l) (both-right (f x) (both (f y) (allOf f l)) t)) a b)
+    where
+      by : (u v : Bool) → eqb a x ≡ u → eqb b y ≡ v → T (pick u (pick v true (has2 a b l)) (has2 a b l)) → (T (has2 a b l) → T (f a) × T (f b)) → T (f a) × T (f b)
+      by true true e g q k = (
+        subst (λ (z : ℕ). T (f z)) (sym (eqb-true a x e)) (both-left (f x) (both (f y) (allOf f l)) t),
+        subst (λ (z : ℕ). T (f z)) (sym (eqb-true b y g)) (both-left (f y) (allOf f l) (both-right (f x) (both (f y) (allOf f l)) t)),
+      )
+      by true false e g q k = k q
+      by false v e g q k = k q
+
+isByte : ℕ → Bool
+isByte x = ltb x 256
+
+byte-small : (x : ℕ) → T (isByte x) → x < 256
+unfolding isByte
+byte-small x t = ltb→lt x 256 t
 
 organic-bytes : (o : Organic) → Bytes (organicS o)
-unfolding Bytes organicS small organics
-organic-bytes (bare1 a p) = (has1-small organics tt a p, tt)
-organic-bytes (bare2 a b p) = let h = has2-small organics tt a b p in (h .0, (h .1, tt))
+unfolding Bytes organicS allOf organics isByte
+organic-bytes (bare1 a p) = (byte-small a (has1-all isByte organics tt a p), tt)
+organic-bytes (bare2 a b p) = let h = has2-all isByte organics tt a b p in (byte-small a (h .0), (byte-small b (h .1), tt))
 
 symbol-bytes : (y : Symbol) → Bytes (symbolS y)
-unfolding Bytes symbolS small names known
-symbol-bytes (short a p) = (has1-small names tt a p, tt)
-symbol-bytes (long a b p) = let h = has2-small names tt a b p in (h .0, (h .1, tt))
+unfolding Bytes symbolS allOf names known isByte
+symbol-bytes (short a p) = (byte-small a (has1-all isByte names tt a p), tt)
+symbol-bytes (long a b p) = let h = has2-all isByte names tt a b p in (byte-small a (h .0), (byte-small b (h .1), tt))
 
 -- ---- single bytes
 digit-byte : (d : Digit) → digitS d < 256

@@ -93,12 +93,55 @@ stops-init p l (e ∷ es) x o n a f y s = by (split p l o n e (es ++ (x ∷ []))
     by (inl m) k = stops-here p l o n e es a m
     by (inr r) k = stops-later p l o n e es a (r .0) (k (r .1))
 
-stops-more : (p l : ℕ) (es ys : List Event) (o : Option Molecule) (n : ℕ) (a : Answer) → Stops p l o n es a → Stops p l o n (es ++ ys) a
+-- events and one more stop before it or at it
+pub stops-last-or : (p l : ℕ) (es : List Event) (x : Event) (o : Option Molecule) (n : ℕ) (a : Answer) → Stops p l o n (es ++ (x ∷ [])) a
+    → Stops p l o n es a ⊎ ((q : Option Molecule) × (m : ℕ) × Meets p l q m x a)
+stops-last-or p l [] x o n a s = by (split p l o n x [] a s)
+  where
+    by : Meets p l o n x a ⊎ (Passes p l o n x × Stops p l (next asHeld o x) (counted n x) [] a) → Stops p l o n [] a ⊎ ((q : Option Molecule) × (m : ℕ) × Meets p l q m x a)
+    by (inl m) = inr (o, n, m)
+    by (inr r) = absurd (stops-none p l _ _ a (r .1))
+stops-last-or p l (e ∷ es) x o n a s = by (split p l o n e (es ++ (x ∷ [])) a s) (stops-last-or p l es x (next asHeld o e) (counted n e) a)
+  where
+    later : Passes p l o n e → Stops p l (next asHeld o e) (counted n e) es a ⊎ ((q : Option Molecule) × (m : ℕ) × Meets p l q m x a) → Stops p l o n (e ∷ es) a ⊎ ((q : Option Molecule) × (m : ℕ) × Meets p l q m x a)
+    later h (inl r) = inl (stops-later p l o n e es a h r)
+    later h (inr r) = inr r
+
+    by : Meets p l o n e a ⊎ (Passes p l o n e × Stops p l (next asHeld o e) (counted n e) (es ++ (x ∷ [])) a)
+        → (Stops p l (next asHeld o e) (counted n e) (es ++ (x ∷ [])) a → Stops p l (next asHeld o e) (counted n e) es a ⊎ ((q : Option Molecule) × (m : ℕ) × Meets p l q m x a))
+        → Stops p l o n (e ∷ es) a ⊎ ((q : Option Molecule) × (m : ℕ) × Meets p l q m x a)
+    by (inl m) k = inl (stops-here p l o n e es a m)
+    by (inr r) k = later (r .0) (k (r .1))
+
+-- at a branch too many that is what is met
+Nested : Event → Answer → Type 0
+Nested (Enter l k at) a = Unit {0}
+Nested (Join e r at) a = Unit {0}
+Nested (Pop i) a = Unit {0}
+Nested (Miss x) a = Unit {0}
+Nested (Nest at) a = a ≡ answer.Nesting at
+
+meets-nested : (p l : ℕ) (o : Option Molecule) (n : ℕ) (e : Event) (a : Answer) → Meets p l o n e a → Nested e a
+unfolding Nested
+meets-nested p l _ _ _ _ (no-place m n k at c h) = tt
+meets-nested p l _ _ _ _ (no-slots m n e k at g z) = tt
+meets-nested p l _ _ _ _ (not-turned m n e k at g z u) = tt
+meets-nested p l _ _ _ _ (no-slot m x n e r at h g) = tt
+meets-nested p l _ _ _ _ (not-turned-after n e k at u) = tt
+meets-nested p l _ _ _ _ (ends o n) = tt
+meets-nested p l _ _ _ _ (wrong o n at) = tt
+meets-nested p l _ _ _ _ (deep o n at) = refl
+
+pub nest-met : (p l : ℕ) (o : Option Molecule) (n at : ℕ) (a : Answer) → Meets p l o n (Nest at) a → a ≡ answer.Nesting at
+unfolding Nested
+nest-met p l o n at a m = meets-nested p l o n (Nest at) a m
+
+pub stops-more : (p l : ℕ) (es ys : List Event) (o : Option Molecule) (n : ℕ) (a : Answer) → Stops p l o n es a → Stops p l o n (es ++ ys) a
 stops-more p l es ys o n a s =
     record { before = s .before; event = s .event; after = s .after ++ ys; is = ap (λ (x : List Event). x ++ ys) (s .is) ∙ append-assoc (s .before) (s .event ∷ s .after) ys; free = s .free; meets = s .meets }
 
 -- ---- lists that end in one event
-snoc-init : (xs ys : List Event) (a b : Event) → xs ++ (a ∷ []) ≡ ys ++ (b ∷ []) → xs ≡ ys
+pub snoc-init : (xs ys : List Event) (a b : Event) → xs ++ (a ∷ []) ≡ ys ++ (b ∷ []) → xs ≡ ys
 snoc-init [] [] a b e = refl
 snoc-init [] (y ∷ []) a b e = let z : _≡_ {A = ℕ} 0 1 = cc in absurd (omega arith)
 snoc-init [] (y ∷ (x ∷ ys)) a b e = let z : _≡_ {A = ℕ} 0 1 = cc in absurd (omega arith)
@@ -133,7 +176,7 @@ module _ (s : List ℕ) (h : Bytes s) (la lb : ℕ) where
       let g : Miss x ≡ Nest (v .0) = snoc-last before (v .1 .0) (Miss x) (Nest (v .0)) (sym i ∙ v .1 .1) in
       let z : _≡_ {A = ℕ} 0 1 = cc in omega arith
 
-  first-deep : (n : ℕ) (before : List Event) → parse s ≡ before ++ (Nest n ∷ []) → FirstDeep s n
+  pub first-deep : (n : ℕ) (before : List Event) → parse s ≡ before ++ (Nest n ∷ []) → FirstDeep s n
   unfolding Ends FirstDeep
   first-deep n before i m d =
       let v = deep-nests s h m d in
@@ -364,7 +407,7 @@ module _ (s : List ℕ) (h : Bytes s) (la lb : ℕ) where
   ring-exactly j = answered-exactly s h la lb (answer.Rnum j)
 
 -- ---- a text tells one thing
-clean-final : (es : List Event) (x : Event) → Clean (es ++ (x ∷ [])) → ¬ Final x
+pub clean-final : (es : List Event) (x : Event) → Clean (es ++ (x ∷ [])) → ¬ Final x
 unfolding Clean Final
 clean-final [] (Enter l k at) c f = f
 clean-final [] (Join e r at) c f = f

@@ -10,6 +10,7 @@ pub mod Came
 pub mod Telling
 pub mod Spoken
 pub mod Laws
+pub mod Parens
 pub mod Meant
 pub mod Samples
 pub mod Otherwise

@@ -2,35 +2,44 @@
 use Prim.Native.Nat.{ℕ, _+_, _≤_}
 use mathlib.Core.Path.{_≡_, refl, sym, ap, ap₂, _∙_, subst}
 use mathlib.Core.Bool.{Bool, true, false}
-use mathlib.Core.List.{List, [], _∷_}
-use mathlib.Core.Option.{none, some}
+use mathlib.Core.List.{List, [], _∷_, _++_, append-assoc, append-nil}
+use mathlib.Core.Option.{Option, none, some}
+use mathlib.Core.Logic.{_⊎_, inl, inr}
 use native.Mathlib.Omega.{arith}
 use lib.Dec.{ltb}
 use lib.ListN.{length}
 use borrow.Author.Tests.{ltb-true, ltb-false}
 use Rattle.graph.specs.Limits.{textLimit, branchLimit}
-use Rattle.reader.specs.Events.{Event}
+use Rattle.reader.specs.Events.{Event, Nest}
 use Rattle.reader.specs.Parse.{parse}
 use Rattle.sketch.specs.Sketch.{Edge, Node, countOf, firstOpenS, sketchOf}
 use Rattle.read.specs.declared.Answer.{Answer}
 use Rattle.read.specs.declared.Answer.the-variants as answer
 use Rattle.read.specs.Line.{refusing, lineOf}
 use Rattle.grammar.specs.Grammar.{spell, meaning}
+use Rattle.grammar.specs.Lines.{opening, Spelled, Viable, Refused, TooDeep, Verdict, reads, refuses, refusesLate, nests, Clean}
+use Rattle.grammar.specs.Lines as lines
 use Rattle.grammar.specs.OpenSmiles.{Chain, chainS, says, Small, FitsChain}
-use Rattle.opensmiles_laws.specs.Molecule.{Molecule, asHeld, tellAll, moleculeOf, neighbours, Allowed, Meant, HeldFor}
-use Rattle.grammar.proofs.Reading.{unique, complete}
+use Rattle.grammar.proofs.Reading.{unique, complete, viable-cut}
+use Rattle.grammar.proofs.Chains.{chain-ok}
+use Rattle.grammar.proofs.Chains as chains
 use Rattle.grammar.proofs.NotSmall.{open-read}
 use Rattle.grammar.proofs.Spelling.{spelled-bytes, chain-bytes}
-use Rattle.grammar.proofs.Open.{open-says, strict-open}
+use Rattle.grammar.proofs.Verdict.{verdict}
+use Rattle.grammar.proofs.Open.{meaning-says, chain-fit, open-says, strict-open}
+use Rattle.opensmiles_laws.specs.Molecule.{Molecule, asHeld, tellAll, moleculeOf, neighbours, Allowed, Meant, HeldFor}
+use Rattle.opensmiles_laws.specs.Stops.{placesIn, slotsIn, Meets, Runs, Stops, begun}
+use Rattle.opensmiles_laws.specs.Answers.{DoneAs, doneSaid, When, MeantIsRead, MeantSaid, done, too-long, too-deep, no-place, no-slot, not-turned, MeantIsAnswered, BigIsRefused, ReadIsMeant}
 use Rattle.opensmiles_laws.proofs.Held.{meant-held, held-meant}
-use Rattle.opensmiles_laws.specs.Stops.{placesIn, slotsIn, Runs, Stops, begun}
-use Rattle.opensmiles_laws.specs.Answers.{DoneAs, doneSaid, When, MeantIsRead, MeantSaid, done, too-long, no-place, no-slot, not-turned, MeantIsAnswered, BigIsRefused, ReadIsMeant}
 use Rattle.opensmiles_laws.proofs.Marks.{stops-marked}
 use Rattle.opensmiles_laws.proofs.Room.{roomy-runs, Excess, stopped-excess}
 use Rattle.opensmiles_laws.proofs.Room as room
 use Rattle.opensmiles_laws.proofs.Trace.{Ran, stopped, ran, broke, text-ran}
-use Rattle.opensmiles_laws.proofs.Came.{done-by, halts-by, long-line, clash-some}
-use Rattle.opensmiles_laws.proofs.Laws.{answered-exactly, done-tables}
+use Rattle.opensmiles_laws.proofs.Telling.{told-one}
+use Rattle.opensmiles_laws.proofs.Spoken.{Final, deep-spoken}
+use Rattle.opensmiles_laws.proofs.Parens.{told-first}
+use Rattle.opensmiles_laws.proofs.Came.{done-by, halts-by, long-line, clash-some, runs-clean}
+use Rattle.opensmiles_laws.proofs.Laws.{snoc-init, stops-more, stops-last-or, nest-met, first-deep, clean-final, answered-exactly, done-tables}
 
 -- ---- atoms with the same neighbours are as many, and so are their entries
 unfoldable pub headOf : List (List Edge) → List Edge
@@ -48,51 +57,108 @@ around-same (n ∷ ns) (m ∷ ms) e =
     let r = around-same ns ms h in
     (omega (arith, r .0), ap₂ (λ (i j : ℕ). i + j) (ap length g) (r .1))
 
-module _ (u : Chain) (small : Small u) (fits : FitsChain branchLimit u) (meant : List Node) (m : Meant u meant) (la lb : ℕ) where
+module _ (u : Chain) (meant : List Node) (m : Meant u meant) (la lb : ℕ) where
   held : (x : Molecule) × (moleculeOf asHeld (says u) ≡ some x) × (firstOpenS (x .atoms) ≡ none) × HeldFor u meant (x .atoms)
   held = meant-held u meant m
 
   as-many : (length (held .0 .atoms) ≡ length meant) × (countOf (held .0 .atoms) ≡ countOf meant)
   as-many = around-same (held .0 .atoms) meant (held .3 .around)
 
-  said-so : parse (chainS u) ≡ says u
-  said-so = open-says u small fits
-
-  made : tellAll asHeld begun (parse (chainS u)) ≡ some (held .0)
-  made = ap (tellAll asHeld begun) said-so ∙ (unfold moleculeOf in held .1)
-
-  read-so : length (chainS u) ≤ textLimit → Runs (placesIn la) (slotsIn lb) begun 0 (parse (chainS u)) → lineOf (chainS u) la lb ≡ doneSaid la lb (held .0 .atoms)
-  read-so short r = done-by (chainS u) la lb short (held .0) made r (held .2)
-
-  excess : (a : Answer) → Stops (placesIn la) (slotsIn lb) begun 0 (says u) a → Excess (placesIn la) (slotsIn lb) (held .0) (says u) a → MeantSaid u meant la lb (refusing a la lb)
-  excess _ q (room.places at h) = no-place at (omega (arith, h, as-many .0))
-  excess _ q (room.slots at h) = no-slot at (omega (arith, h, as-many .1))
-  excess _ q (room.marks n) = not-turned n (stops-marked (placesIn la) (slotsIn lb) begun (says u) n q)
-
-  answered : MeantSaid u meant la lb (lineOf (chainS u) la lb)
-  answered = by (ltb textLimit (length (chainS u))) refl
+  -- what stops it exceeds a limit
+  excess : (a : Answer) → Stops (placesIn la) (slotsIn lb) begun 0 (says u) a → MeantSaid u meant la lb (refusing a la lb)
+  excess a q = by a q (stopped-excess (placesIn la) (slotsIn lb) (says u) (held .0) (held .1) a q)
     where
-      within : length (chainS u) ≤ textLimit → Ran (placesIn la) (slotsIn lb) begun 0 (parse (chainS u)) (sketchOf (chainS u) la lb) → MeantSaid u meant la lb (lineOf (chainS u) la lb)
-      within short (stopped a q t) =
-          let r = subst (λ (es : List Event). Stops (placesIn la) (slotsIn lb) begun 0 es a) said-so q in
-          subst (MeantSaid u meant la lb) (sym (halts-by (chainS u) la lb short a q)) (excess a r (stopped-excess (placesIn la) (slotsIn lb) (says u) (held .0) (held .1) a r))
-      within short (ran r z f v t) = subst (MeantSaid u meant la lb) (sym (read-so short r)) (done (held .0 .atoms) (held .3))
-      within short (broke x y r z f g t) = clash-some _ (held .0) t made
+      by : (a : Answer) → Stops (placesIn la) (slotsIn lb) begun 0 (says u) a → Excess (placesIn la) (slotsIn lb) (held .0) (says u) a → MeantSaid u meant la lb (refusing a la lb)
+      by _ q (room.places at h) = no-place at (omega (arith, h, as-many .0))
+      by _ q (room.slots at h) = no-slot at (omega (arith, h, as-many .1))
+      by _ q (room.marks n) = not-turned n (stops-marked (placesIn la) (slotsIn lb) begun (says u) n q)
 
-      by : (t : Bool) → ltb textLimit (length (chainS u)) ≡ t → MeantSaid u meant la lb (lineOf (chainS u) la lb)
-      by true q = let l = ltb-true textLimit (length (chainS u)) q in subst (MeantSaid u meant la lb) (sym (long-line (chainS u) la lb l)) (too-long l)
-      by false q = within (ltb-false textLimit (length (chainS u)) q) (text-ran (chainS u) la lb)
+  -- a chain that is read to what it says
+  module _ (said-so : parse (chainS u) ≡ says u) (short : length (chainS u) ≤ textLimit) where
+    made : tellAll asHeld begun (parse (chainS u)) ≡ some (held .0)
+    made = ap (tellAll asHeld begun) said-so ∙ (unfold moleculeOf in held .1)
+
+    read-so : Runs (placesIn la) (slotsIn lb) begun 0 (parse (chainS u)) → lineOf (chainS u) la lb ≡ doneSaid la lb (held .0 .atoms)
+    read-so r = done-by (chainS u) la lb short (held .0) made r (held .2)
+
+    fitting-said : MeantSaid u meant la lb (lineOf (chainS u) la lb)
+    fitting-said = by (text-ran (chainS u) la lb)
+      where
+        by : Ran (placesIn la) (slotsIn lb) begun 0 (parse (chainS u)) (sketchOf (chainS u) la lb) → MeantSaid u meant la lb (lineOf (chainS u) la lb)
+        by (stopped a q t) =
+            subst (MeantSaid u meant la lb) (sym (halts-by (chainS u) la lb short a q)) (excess a (subst (λ (es : List Event). Stops (placesIn la) (slotsIn lb) begun 0 es a) said-so q))
+        by (ran r z f v t) = subst (MeantSaid u meant la lb) (sym (read-so r)) (done (held .0 .atoms) (held .3))
+        by (broke x y r z f g t) = clash-some _ (held .0) t made
+
+  -- one with a branch too many: what is told before it the chain tells first
+  module _ (small : Small u) (short : length (chainS u) ≤ textLimit) (n : ℕ) (d : TooDeep (chainS u) n) (es : List Event) (i : parse (chainS u) ≡ es ++ (Nest n ∷ [])) where
+    split-so : spell (chains.lineOf u) ≡ d .before ++ (opening ∷ d .behind)
+    split-so = chain-ok u small ∙ d .is ∙ ap (λ (b : ℕ). d .before ++ (b ∷ d .behind)) (d .opens)
+
+    first-so : (rest : List Event) × (says u ≡ es ++ rest)
+    first-so =
+        let sp = deep-spoken (chainS u) (chain-bytes u) n d (first-deep (chainS u) (chain-bytes u) la lb n es i) in
+        let f = told-first (chains.lineOf u) (d .before) (d .behind) split-so in
+        let same : f .0 ≡ es = told-one (d .before) (f .0) (sp .told) (f .1) (sp .tells) ∙ sym (snoc-init es (sp .told) (Nest n) (sp .last) (sym i ∙ sp .is)) in
+        (f .2 .0, sym (meaning-says u small) ∙ f .2 .1 ∙ ap (λ (x : List Event). x ++ f .2 .0) same)
+
+    unfit : ¬ FitsChain branchLimit u
+    unfit f = d .deep (chains.lineOf u) (d .behind) (chain-ok u small ∙ d .is) (chain-fit u branchLimit f)
+
+    nest-final : Final (Nest n)
+    nest-final = unfold Final in tt
+
+    unclean : Runs (placesIn la) (slotsIn lb) begun 0 (parse (chainS u)) → ⊥
+    unclean r = clean-final es (Nest n) (subst Clean i (runs-clean (placesIn la) (slotsIn lb) (parse (chainS u)) begun 0 r)) nest-final
+
+    deep-said : MeantSaid u meant la lb (lineOf (chainS u) la lb)
+    deep-said = by (text-ran (chainS u) la lb)
+      where
+        which : (a : Answer) → Stops (placesIn la) (slotsIn lb) begun 0 es a ⊎ ((q : Option Molecule) × (m : ℕ) × Meets (placesIn la) (slotsIn lb) q m (Nest n) a) → MeantSaid u meant la lb (refusing a la lb)
+        which a (inl q) = excess a (subst (λ (x : List Event). Stops (placesIn la) (slotsIn lb) begun 0 x a) (sym (first-so .1)) (stops-more (placesIn la) (slotsIn lb) es (first-so .0) begun 0 a q))
+        which a (inr q) = subst (λ (x : Answer). MeantSaid u meant la lb (refusing x la lb)) (sym (nest-met (placesIn la) (slotsIn lb) (q .0) (q .1) n a (q .2))) (too-deep n unfit)
+
+        by : Ran (placesIn la) (slotsIn lb) begun 0 (parse (chainS u)) (sketchOf (chainS u) la lb) → MeantSaid u meant la lb (lineOf (chainS u) la lb)
+        by (stopped a q t) =
+            subst (MeantSaid u meant la lb) (sym (halts-by (chainS u) la lb short a q))
+            (which a (stops-last-or (placesIn la) (slotsIn lb) es (Nest n) begun 0 a (subst (λ (x : List Event). Stops (placesIn la) (slotsIn lb) begun 0 x a) i q)))
+        by (ran r z f v t) = absurd (unclean r)
+        by (broke x y r z f g t) = absurd (unclean r)
+
+  module _ (small : Small u) where
+    spelled-so : Viable (chainS u)
+    unfolding Viable
+    spelled-so = (chains.lineOf u, [], chain-ok u small ∙ sym (append-nil (chainS u)))
+
+    unwrong : (n : ℕ) → ¬ Refused (chainS u) n
+    unwrong n r = r .dead (viable-cut (r .before ++ (r .byte ∷ [])) (r .behind) (subst Viable (r .is ∙ sym (append-assoc (r .before) (r .byte ∷ []) (r .behind))) spelled-so))
+
+    within : length (chainS u) ≤ textLimit → Verdict (chainS u) (parse (chainS u)) → MeantSaid u meant la lb (lineOf (chainS u) la lb)
+    unfolding Spelled
+    within short (reads t e f w) = fitting-said (w ∙ ap meaning (unique t (chains.lineOf u) (e ∙ sym (chain-ok u small))) ∙ meaning-says u small) short
+    within short (lines.ends es i v unspelled) = absurd (unspelled (chains.lineOf u, chain-ok u small))
+    within short (refuses n es i r l) = absurd (unwrong n r)
+    within short (refusesLate n es r i l) = absurd (unwrong n r)
+    within short (nests n es i d) = deep-said small short n d es i
+
+    answered : MeantSaid u meant la lb (lineOf (chainS u) la lb)
+    answered = by (ltb textLimit (length (chainS u))) refl
+      where
+        by : (t : Bool) → ltb textLimit (length (chainS u)) ≡ t → MeantSaid u meant la lb (lineOf (chainS u) la lb)
+        by true q = let l = ltb-true textLimit (length (chainS u)) q in subst (MeantSaid u meant la lb) (sym (long-line (chainS u) la lb l)) (too-long l)
+        by false q = within (ltb-false textLimit (length (chainS u)) q) (verdict (chainS u) (chain-bytes u))
 
 -- ---- THE LAWS
 pub meant-is-read : MeantIsRead
 meant-is-read u small fits short meant m la lb places slots marks =
-    let h = held u small fits meant m la lb in
-    let n = as-many u small fits meant m la lb in
+    let h = held u meant m la lb in
+    let n = as-many u meant m la lb in
+    let e : parse (chainS u) ≡ says u = open-says u small fits in
     let r : Runs (placesIn la) (slotsIn lb) begun 0 (says u) = roomy-runs (placesIn la) (slotsIn lb) (says u) (h .0) (h .1) (omega (arith, places, n .0)) (omega (arith, slots, n .1)) marks in
-    (h .0 .atoms, h .3, read-so u small fits meant m la lb short (subst (Runs (placesIn la) (slotsIn lb) begun 0) (sym (said-so u small fits meant m la lb)) r), n .0, n .1)
+    (h .0 .atoms, h .3, read-so u meant m la lb e short (subst (Runs (placesIn la) (slotsIn lb) begun 0) (sym e) r), n .0, n .1)
 
 pub meant-is-answered : MeantIsAnswered
-meant-is-answered u small fits meant m la lb = answered u small fits meant m la lb
+meant-is-answered u small meant m la lb = answered u meant m la lb small
 
 pub big-is-refused : BigIsRefused
 big-is-refused u big la lb n m e =

@@ -138,17 +138,19 @@ MeantIsRead = (u : Chain) → Small u → FitsChain branchLimit u → length (ch
     → (la lb : ℕ) → length meant ≤ placesIn la → countOf meant ≤ slotsIn lb → Turnable (says u)
     → (ns : List Node) × HeldFor u meant ns × (lineOf (chainS u) la lb ≡ doneSaid la lb ns) × (length ns ≡ length meant) × (countOf ns ≡ countOf meant)
 
--- Within the limit of branches nothing else is answered but 12, 13, 14 and 10, each only where the text is too long, the meant
--- molecule has more atoms than there are places or more entries than there are slots, or its atom n has such a mark.
+-- Whatever the limits, nothing else is answered but 12, 15, 13, 14 and 10, each only where the text is too long, more branches are
+-- open than may be, the meant molecule has more atoms than there are places or more entries than there are slots, or its atom n is
+-- bonded to one before it and has a mark that can't be turned.
 pub data MeantSaid (u : Chain) (meant : List Node) (la lb : ℕ) : Said → Type 0 where
   done : (ns : List Node) → HeldFor u meant ns → MeantSaid u meant la lb (doneSaid la lb ns)
   too-long : textLimit < length (chainS u) → MeantSaid u meant la lb (refusing (answer.TextTooLong (length (chainS u))) la lb)
+  too-deep : (at : ℕ) → ¬ FitsChain branchLimit u → MeantSaid u meant la lb (refusing (answer.Nesting at) la lb)
   no-place : (at : ℕ) → placesIn la < length meant → MeantSaid u meant la lb (refusing (answer.AtomRoom at) la lb)
   no-slot : (at : ℕ) → slotsIn lb < countOf meant → MeantSaid u meant la lb (refusing (answer.BondRoom at) la lb)
   not-turned : (n : ℕ) → Marked (says u) n → MeantSaid u meant la lb (refusing (answer.Inversion n) la lb)
 
 abbrev pub MeantIsAnswered : Type 0
-MeantIsAnswered = (u : Chain) → Small u → FitsChain branchLimit u → (meant : List Node) → Meant u meant → (la lb : ℕ) → MeantSaid u meant la lb (lineOf (chainS u) la lb)
+MeantIsAnswered = (u : Chain) → Small u → (meant : List Node) → Meant u meant → (la lb : ℕ) → MeantSaid u meant la lb (lineOf (chainS u) la lb)
 
 -- A chain with a number that the reader has not is never read.
 abbrev pub BigIsRefused : Type 0
