@@ -26,8 +26,9 @@ use Rattle.renumber.proofs.Lists.{by-bool}
 use Rattle.renumber.proofs.Follows.{run-refused, run-app, run-one}
 use Rattle.renumber.proofs.Places.{places-free}
 use Rattle.renumber.proofs.Written.{was-done, table-trip}
-use Rattle.trip.specs.RoundTrip.{Plain, readAs, backOf}
-use Rattle.trip.proofs.Law.{told-same, places-same, walk-told, walk-spelled, walk-accepted, walk-says, line-nests, line-is, round-trip}
+use Rattle.trip.specs.RoundTrip.{Plain, readAs}
+use Rattle.trip.specs.Turns.{backByTurns}
+use Rattle.trip.proofs.Law.{told-same, places-same, walk-told, walk-spelled, walk-accepted, walk-says, line-nests, line-is, turns-trip}
 
 clash : {X : Type 0} → _≡_ {A = ℕ} 0 1 → X
 clash e = absurd (omega arith)
@@ -136,12 +137,12 @@ refused-answer s la lb short e =
     rw (le-ltb textLimit (length s) short, ne-eqb (sketchOf s la lb .refusal) 0 (λ z. let y : reader.nesting ≡ 0 = sym e ∙ z in omega arith), e)
 
 -- where more branches are open at once than the reader has room for, and the rest of the limits is kept, the answer is 15
-pub too-deep : (room : ℕ) (atoms : List ℕ) (n : ℕ) (bonds : List ℕ) (m len : ℕ) (out : List ℕ) (la lb : ℕ)
+pub turns-too-deep : (room : ℕ) (atoms : List ℕ) (n : ℕ) (bonds : List ℕ) (m len : ℕ) (out : List ℕ) (la lb : ℕ)
     → Plain (graphOf n atoms bonds) → writeOf room atoms n bonds m ≡ left (Done len) out
     → length (take len out) ≤ textLimit → nests (parse (take len out)) ≡ true → n ≤ lesserOf atomLimit (la / atomWords) → m ≤ lesserOf bondLimit (lb / bondWords)
     → (p : ℕ) × (read.lineOf (take len out) la lb .answer ≡ answer.Nesting p)
 unfolding sketchOf
-too-deep room atoms n bonds m len out la lb P e short deep ra rb =
+turns-too-deep room atoms n bonds m len out la lb P e short deep ra rb =
     let d = was-done room atoms n bonds m len out e in
     let es : List Event = saidOf atoms n bonds m in
     let l : take len out ≡ lineSaid es = line-is room atoms n bonds m len out e in
@@ -156,12 +157,12 @@ too-deep room atoms n bonds m len out la lb P e short deep ra rb =
 
 -- The round trip, asked of the answer: a line that is not too long, with room lent for its atoms and entries, is read back
 -- unless the answer is 15, a branch too many.
-pub round-trip-answer : (room : ℕ) (atoms : List ℕ) (n : ℕ) (bonds : List ℕ) (m len : ℕ) (out : List ℕ) (la lb : ℕ)
+pub turns-trip-answer : (room : ℕ) (atoms : List ℕ) (n : ℕ) (bonds : List ℕ) (m len : ℕ) (out : List ℕ) (la lb : ℕ)
     → Plain (graphOf n atoms bonds) → writeOf room atoms n bonds m ≡ left (Done len) out
     → length (take len out) ≤ textLimit → n ≤ lesserOf atomLimit (la / atomWords) → m ≤ lesserOf bondLimit (lb / bondWords)
     → ((p : ℕ) → read.lineOf (take len out) la lb .answer ≡ answer.Nesting p → ⊥)
-    → read.lineOf (take len out) la lb ≡ readAs n m la lb (backOf atoms n bonds m)
-round-trip-answer room atoms n bonds m len out la lb P e short ra rb never =
+    → read.lineOf (take len out) la lb ≡ readAs n m la lb (backByTurns atoms n bonds m)
+turns-trip-answer room atoms n bonds m len out la lb P e short ra rb never =
     by-bool (nests (parse (take len out)))
-    (λ q. let t = too-deep room atoms n bonds m len out la lb P e short q ra rb in absurd (never (t .0) (t .1)))
-    (λ q. round-trip room atoms n bonds m len out la lb P e (record { short = short; shallow = q; atoms = ra; bonds = rb }))
+    (λ q. let t = turns-too-deep room atoms n bonds m len out la lb P e short q ra rb in absurd (never (t .0) (t .1)))
+    (λ q. turns-trip room atoms n bonds m len out la lb P e (record { short = short; shallow = q; atoms = ra; bonds = rb }))

@@ -30,7 +30,8 @@ use Rattle.ways.specs.Graph.{Graph, kindAt}
 use Rattle.renumber.proofs.Written.{was-done, table-numbers, table-numbered, table-count}
 use Rattle.renumber.proofs.Trip.{renumbered-length}
 use Rattle.renumber.proofs.ComesBack.{text-comes-back, tables-hold}
-use Rattle.trip.specs.RoundTrip.{Plain, Readable, readAs, backOf, RoundTrip, OneLine, Same}
+use Rattle.trip.specs.RoundTrip.{Plain, Readable, readAs, Same}
+use Rattle.trip.specs.Turns.{backByTurns, TripByTurns, OneLineByTurns}
 use Rattle.trip.proofs.Ordered.{told-walk, some-said}
 use Rattle.trip.proofs.Spelling.{kept-spelled, kept-turns}
 
@@ -130,21 +131,21 @@ line-comes-back room atoms n bonds m len out P e flat la lb ra rb =
 
 -- ---- the laws
 -- The round trip: what the reading says and both tables that it leaves, whole.
-pub round-trip : (room : ℕ) (atoms : List ℕ) (n : ℕ) (bonds : List ℕ) (m len : ℕ) (out : List ℕ) (la lb : ℕ) → RoundTrip room atoms n bonds m len out la lb
-round-trip room atoms n bonds m len out la lb P e r =
+pub turns-trip : (room : ℕ) (atoms : List ℕ) (n : ℕ) (bonds : List ℕ) (m len : ℕ) (out : List ℕ) (la lb : ℕ) → TripByTurns room atoms n bonds m len out la lb
+turns-trip room atoms n bonds m len out la lb P e r =
     read-back (graphOf n atoms bonds) (byWalk (walkOf atoms n bonds m)) (take len out) n m la lb (r .short)
     (line-comes-back room atoms n bonds m len out P e (r .shallow) la lb (r .atoms) (r .bonds))
 
 -- The same with no word on what the reader says: no line that is too long, at most as many branches open at once as the reader
 -- has room for, and room lent for the atoms and entries.
-pub round-trip-shallow : (room : ℕ) (atoms : List ℕ) (n : ℕ) (bonds : List ℕ) (m len : ℕ) (out : List ℕ) (la lb : ℕ)
+pub turns-trip-shallow : (room : ℕ) (atoms : List ℕ) (n : ℕ) (bonds : List ℕ) (m len : ℕ) (out : List ℕ) (la lb : ℕ)
     → Plain (graphOf n atoms bonds) → writeOf room atoms n bonds m ≡ left (Done len) out
     → len ≤ textLimit → depth (saidOf atoms n bonds m) ≤ branchLimit → n ≤ lesserOf atomLimit (la / atomWords) → m ≤ lesserOf bondLimit (lb / bondWords)
-    → read.lineOf (take len out) la lb ≡ readAs n m la lb (backOf atoms n bonds m)
-round-trip-shallow room atoms n bonds m len out la lb P e short deep ra rb =
+    → read.lineOf (take len out) la lb ≡ readAs n m la lb (backByTurns atoms n bonds m)
+turns-trip-shallow room atoms n bonds m len out la lb P e short deep ra rb =
     let d = was-done room atoms n bonds m len out e in
     let l : take len out ≡ lineSaid (saidOf atoms n bonds m) = line-is room atoms n bonds m len out e in
-    round-trip room atoms n bonds m len out la lb P e
+    turns-trip room atoms n bonds m len out la lb P e
     (record {
       short = omega (arith, ap length l, d .length-is);
       shallow = ap (λ (x : List ℕ). nests (parse x)) l ∙ line-nests room atoms n bonds m len out P e ∙ le-ltb branchLimit (depth (saidOf atoms n bonds m)) deep;
@@ -153,24 +154,24 @@ round-trip-shallow room atoms n bonds m len out la lb P e short deep ra rb =
     })
 
 -- And with room lent for the largest job, whatever was written: only the line's length and its branches are asked for.
-pub round-trip-wide : (room : ℕ) (atoms : List ℕ) (n : ℕ) (bonds : List ℕ) (m len : ℕ) (out : List ℕ)
+pub turns-trip-wide : (room : ℕ) (atoms : List ℕ) (n : ℕ) (bonds : List ℕ) (m len : ℕ) (out : List ℕ)
     → Plain (graphOf n atoms bonds) → writeOf room atoms n bonds m ≡ left (Done len) out
     → length (take len out) ≤ textLimit → nests (parse (take len out)) ≡ false
-    → read.lineOf (take len out) (atomLimit * atomWords) (bondLimit * bondWords) ≡ readAs n m (atomLimit * atomWords) (bondLimit * bondWords) (backOf atoms n bonds m)
+    → read.lineOf (take len out) (atomLimit * atomWords) (bondLimit * bondWords) ≡ readAs n m (atomLimit * atomWords) (bondLimit * bondWords) (backByTurns atoms n bonds m)
 unfolding lesserOf
-round-trip-wide room atoms n bonds m len out P e short shallow =
+turns-trip-wide room atoms n bonds m len out P e short shallow =
     let d = was-done room atoms n bonds m len out e in
-    round-trip room atoms n bonds m len out (atomLimit * atomWords) (bondLimit * bondWords) P e
+    turns-trip room atoms n bonds m len out (atomLimit * atomWords) (bondLimit * bondWords) P e
     (record { short = short; shallow = shallow; atoms = d .few; bonds = d .most })
 
 -- Looked at as a walk looks at tables, what is read is the graph renumbered.
-pub trip-same : (room : ℕ) (atoms : List ℕ) (n : ℕ) (bonds : List ℕ) (m len : ℕ) (out : List ℕ) (la lb : ℕ)
+pub turns-same : (room : ℕ) (atoms : List ℕ) (n : ℕ) (bonds : List ℕ) (m len : ℕ) (out : List ℕ) (la lb : ℕ)
     → Plain (graphOf n atoms bonds) → writeOf room atoms n bonds m ≡ left (Done len) out → Readable (take len out) n m la lb
     → Same (graphOf n atoms bonds) (graphOf n (read.lineOf (take len out) la lb .atoms) (read.lineOf (take len out) la lb .bonds)) (byWalk (walkOf atoms n bonds m))
-trip-same room atoms n bonds m len out la lb P e r =
+turns-same room atoms n bonds m len out la lb P e r =
     let d = was-done room atoms n bonds m len out e in
     subst (λ (x : Said). Same (graphOf n atoms bonds) (graphOf n (x .atoms) (x .bonds)) (byWalk (walkOf atoms n bonds m)))
-    (sym (round-trip room atoms n bonds m len out la lb P e r))
+    (sym (turns-trip room atoms n bonds m len out la lb P e r))
     (record {
       numbers = table-numbers atoms bonds n m (d .few) (d .good) (P .simple) (P .marks) (d .fine);
       renumbers = tables-hold room atoms n bonds m len out (P .simple) (P .marks) e la lb;
@@ -178,10 +179,10 @@ trip-same room atoms n bonds m len out la lb P e r =
 
 -- ---- two graphs with one line
 -- Two such graphs with the same line have the same renumbering.
-pub one-line : (r1 : ℕ) (a1 : List ℕ) (n1 : ℕ) (b1 : List ℕ) (m1 l1 : ℕ) (o1 : List ℕ) (r2 : ℕ) (a2 : List ℕ) (n2 : ℕ) (b2 : List ℕ) (m2 l2 : ℕ) (o2 : List ℕ)
-    → OneLine r1 a1 n1 b1 m1 l1 o1 r2 a2 n2 b2 m2 l2 o2
+pub turns-one-line : (r1 : ℕ) (a1 : List ℕ) (n1 : ℕ) (b1 : List ℕ) (m1 l1 : ℕ) (o1 : List ℕ) (r2 : ℕ) (a2 : List ℕ) (n2 : ℕ) (b2 : List ℕ) (m2 l2 : ℕ) (o2 : List ℕ)
+    → OneLineByTurns r1 a1 n1 b1 m1 l1 o1 r2 a2 n2 b2 m2 l2 o2
 unfolding lesserOf
-one-line r1 a1 n1 b1 m1 l1 o1 r2 a2 n2 b2 m2 l2 o2 P1 P2 e1 e2 q flat =
+turns-one-line r1 a1 n1 b1 m1 l1 o1 r2 a2 n2 b2 m2 l2 o2 P1 P2 e1 e2 q flat =
     let d1 = was-done r1 a1 n1 b1 m1 l1 o1 e1 in
     let d2 = was-done r2 a2 n2 b2 m2 l2 o2 e2 in
     let x = line-comes-back r1 a1 n1 b1 m1 l1 o1 P1 e1 flat (atomLimit * atomWords) (bondLimit * bondWords) (d1 .few) (d1 .most) in
@@ -189,12 +190,12 @@ one-line r1 a1 n1 b1 m1 l1 o1 r2 a2 n2 b2 m2 l2 o2 P1 P2 e1 e2 q flat =
     sym (x .built .nodes) ∙ ap (λ (s : List ℕ). sketchOf s (atomLimit * atomWords) (bondLimit * bondWords) .nodes) q ∙ y .built .nodes
 
 -- So they have as many atoms and as many entries.
-pub one-count : (r1 : ℕ) (a1 : List ℕ) (n1 : ℕ) (b1 : List ℕ) (m1 l1 : ℕ) (o1 : List ℕ) (r2 : ℕ) (a2 : List ℕ) (n2 : ℕ) (b2 : List ℕ) (m2 l2 : ℕ) (o2 : List ℕ)
+pub turns-one-count : (r1 : ℕ) (a1 : List ℕ) (n1 : ℕ) (b1 : List ℕ) (m1 l1 : ℕ) (o1 : List ℕ) (r2 : ℕ) (a2 : List ℕ) (n2 : ℕ) (b2 : List ℕ) (m2 l2 : ℕ) (o2 : List ℕ)
     → Plain (graphOf n1 a1 b1) → Plain (graphOf n2 a2 b2) → writeOf r1 a1 n1 b1 m1 ≡ left (Done l1) o1 → writeOf r2 a2 n2 b2 m2 ≡ left (Done l2) o2
     → take l1 o1 ≡ take l2 o2 → nests (parse (take l1 o1)) ≡ false
     → (n1 ≡ n2) × (m1 ≡ m2)
-one-count r1 a1 n1 b1 m1 l1 o1 r2 a2 n2 b2 m2 l2 o2 P1 P2 e1 e2 q flat =
+turns-one-count r1 a1 n1 b1 m1 l1 o1 r2 a2 n2 b2 m2 l2 o2 P1 P2 e1 e2 q flat =
     let d1 = was-done r1 a1 n1 b1 m1 l1 o1 e1 in
     let d2 = was-done r2 a2 n2 b2 m2 l2 o2 e2 in
-    let z : backOf a1 n1 b1 m1 ≡ backOf a2 n2 b2 m2 = one-line r1 a1 n1 b1 m1 l1 o1 r2 a2 n2 b2 m2 l2 o2 P1 P2 e1 e2 q flat in
+    let z : backByTurns a1 n1 b1 m1 ≡ backByTurns a2 n2 b2 m2 = turns-one-line r1 a1 n1 b1 m1 l1 o1 r2 a2 n2 b2 m2 l2 o2 P1 P2 e1 e2 q flat in
     (sym (renumbered-length (graphOf n1 a1 b1) _) ∙ ap length z ∙ renumbered-length (graphOf n2 a2 b2) _, sym (table-count a1 b1 n1 m1 (d1 .few) (d1 .good) (P1 .simple) (P1 .marks) (d1 .fine)) ∙ ap countOf z ∙ table-count a2 b2 n2 m2 (d2 .few) (d2 .good) (P2 .simple) (P2 .marks) (d2 .fine))

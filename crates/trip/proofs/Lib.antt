@@ -4,4 +4,5 @@ pub mod Spelling
 pub mod Law
 pub mod ByOrder
 pub mod Deep
+pub mod RoundTrip
 pub mod Sample

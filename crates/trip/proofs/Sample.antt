@@ -1,6 +1,6 @@
 -- A chain of three atoms for an example: all that the law asks can be met, and a mark is toggled. Assumes nothing.
 use Prim.Native.Nat.{ℕ, zero, suc, _<_}
-use mathlib.Core.Path.{_≡_, refl, ap, _∙_}
+use mathlib.Core.Path.{_≡_, refl, sym, ap, _∙_}
 use mathlib.Core.List.{List, [], _∷_, _++_}
 use mathlib.Core.Bool.{false}
 use native.Mathlib.Omega.{arith}
@@ -30,15 +30,17 @@ use Rattle.walk.specs.Walk.{popsOf, rootOf, leftIn, numberedOf, ringOf, entered
 use Rattle.judge.specs.Judge.{isEntry, bondStands, atomsFrom, bondsFrom, afterAtoms, badRecord}
 use Rattle.write.specs.declared.answer.Written.the-variants.{Done}
 use Rattle.write.specs.Write.{graphOf, walkIn, saidIn, atomRoom, bondRoom, left, putLine, concluded, graphWritten, writeOf}
-use Rattle.write.specs.Order.{orderOf}
+use Rattle.write.specs.Plain.{orderPlain}
+use Rattle.write.proofs.Plain.{write-plain}
 use Rattle.retell.specs.Retell.{nests}
 use Rattle.renumber.specs.Renumber.{Backed, Simple}
 use Rattle.renumber.specs.Renumbered.{othersOf, parentEntry, doneOf, edgeOf, nodeOf, firstAtoms, renumbered}
 use Rattle.renumber.specs.Marks.{Tetrahedral, bearsHydrogen, otherMark, toggled, oddIndex, backKind}
-use Rattle.trip.specs.RoundTrip.{Plain, Readable, readAs, backOf}
+use Rattle.trip.specs.RoundTrip.{Plain, Readable, readAs}
+use Rattle.trip.specs.Turns.{backByTurns}
 use Rattle.trip.specs.ByOrder.{ReadByOrder}
-use Rattle.trip.proofs.Law.{round-trip, one-line}
-use Rattle.trip.proofs.ByOrder.{trip-by-order}
+use Rattle.trip.proofs.Law.{turns-trip, turns-one-line}
+use Rattle.trip.proofs.RoundTrip.{trip-by-order}
 
 abbrev carbon : AtomKind
 carbon = Aliphatic 1
@@ -123,7 +125,7 @@ readable = record { short = omega arith; shallow = line-flat; atoms = omega arit
 
 -- ---- what is said
 -- atom 1 comes back with its mark toggled and its bond to atom 0 first
-chain-renumbered : backOf atoms 3 bonds 4 ≡ node carbon (edge Single (To 1) ∷ []) ∷ node (marked 2) (edge Single (To 0) ∷ edge Single (To 2) ∷ []) ∷ node carbon (edge Single (To 1) ∷ []) ∷ []
+chain-renumbered : backByTurns atoms 3 bonds 4 ≡ node carbon (edge Single (To 1) ∷ []) ∷ node (marked 2) (edge Single (To 0) ∷ edge Single (To 2) ∷ []) ∷ node carbon (edge Single (To 1) ∷ []) ∷ []
 unfolding words.listOf words.wordsOf words.pairOf words.bracketPair words.loadAt words.loadOf words.plainOf words.bracketOf words.bondAt words.bondOf words.entryOf kindOf codeOf reverseOf bracketInRange inRange invertBracket invertOf kindOr sureKind kindIn degreeIn bondIn isRefused isFixed turnedOr even saidAs scanIn judgedBack wayOf popsOf rootOf leftIn numberedOf ringOf enteredOf enterOf bondTurn entryOf atomOf turnOf stepOf walkTo turnsOf startsOf sumOf walkIn bearsHydrogen otherMark toggled oddIndex backKind othersOf parentEntry doneOf edgeOf nodeOf firstAtoms renumbered
 chain-renumbered = refl
 
@@ -133,13 +135,13 @@ chain-back : read.lineOf line 12 11 ≡ said (answer.Done 3 4)
     (2 ∷ 1 ∷ 2 ∷ 0 ∷ 2 ∷ 2 ∷ 2 ∷ 1 ∷ 0 ∷ 0 ∷ 0 ∷ [])
 unfolding padded atomTable bondTable edgeTable targetOf words.listOf codeOf
 chain-back =
-    round-trip 12 atoms 3 bonds 4 9 (line ++ (0 ∷ 0 ∷ 0 ∷ [])) 12 11 chain-plain written readable
+    turns-trip 12 atoms 3 bonds 4 9 (line ++ (0 ∷ 0 ∷ 0 ∷ [])) 12 11 chain-plain written readable
     ∙ ap (readAs 3 4 12 11) chain-renumbered
 
 -- and the same by a walk order into tables of 3, 5 and 4 words
-chain-by-order : ReadByOrder atoms 3 bonds 4 (orderOf 3 5 4 atoms 3 bonds 4) 12 11 (read.lineOf line 12 11)
+chain-by-order : ReadByOrder atoms 3 bonds 4 (orderPlain 3 5 4 atoms 3 bonds 4) 12 11 (read.lineOf line 12 11)
 chain-by-order =
-    trip-by-order 12 atoms 3 bonds 4 9 (line ++ (0 ∷ 0 ∷ 0 ∷ [])) 3 5 4 12 11 chain-plain written
+    trip-by-order 12 atoms 3 bonds 4 9 (line ++ (0 ∷ 0 ∷ 0 ∷ [])) 3 5 4 12 11 chain-plain (sym (write-plain atoms 3 bonds 4 12) ∙ written)
     (record { walked = omega arith; number = omega arith; back = omega arith }) readable
 
 -- ---- another graph with this line
@@ -189,9 +191,9 @@ back-plain = record {
 }
 
 -- the two are not the same tables, and have the same renumbering
-chain-one : backOf atoms 3 bonds 4 ≡ backOf backAtoms 3 backBonds 4
+chain-one : backByTurns atoms 3 bonds 4 ≡ backByTurns backAtoms 3 backBonds 4
 chain-one =
-    one-line 12 atoms 3 bonds 4 9 (line ++ (0 ∷ 0 ∷ 0 ∷ [])) 9 backAtoms 3 backBonds 4 9 line chain-plain back-plain written back-written refl line-flat
+    turns-one-line 12 atoms 3 bonds 4 9 (line ++ (0 ∷ 0 ∷ 0 ∷ [])) 9 backAtoms 3 backBonds 4 9 line chain-plain back-plain written back-written refl line-flat
 
 -- ---- a lone star
 -- A record of zeros looks like a star too, but the star that is read back has a star's words.
@@ -224,5 +226,5 @@ star-flat = refl
 star-back : read.lineOf (bytes "*") 3 0 ≡ said (answer.Done 1 0) (1 ∷ 0 ∷ 0 ∷ []) []
 unfolding lesserOf padded atomTable bondTable edgeTable words.listOf words.wordsOf words.pairOf words.loadAt words.loadOf words.plainOf inRange kindOr kindIn degreeIn even saidAs rootOf leftIn entryOf atomOf turnOf stepOf walkTo turnsOf startsOf sumOf walkIn bearsHydrogen oddIndex backKind othersOf parentEntry doneOf nodeOf firstAtoms renumbered
 star-back =
-    round-trip 1 starAtoms 1 [] 0 1 (bytes "*") 3 0 star-plain star-written
+    turns-trip 1 starAtoms 1 [] 0 1 (bytes "*") 3 0 star-plain star-written
     (record { short = omega arith; shallow = star-flat; atoms = omega arith; bonds = omega arith })

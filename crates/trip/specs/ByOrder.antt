@@ -3,19 +3,15 @@
 use Prim.Native.Nat.{ℕ, _≤_}
 use mathlib.Core.Path.{_≡_}
 use mathlib.Core.List.{List}
-use lib.ListN.{getD, take}
+use lib.ListN.{take}
 use Rattle.read.specs.Read.{Said}
 use Rattle.read.specs.Line.{lineOf}
 use Rattle.write.specs.declared.answer.Written.the-variants.{Done}
-use Rattle.write.specs.Write.{graphOf, left, writeOf}
-use Rattle.write.specs.Order.{Order, orderOf}
-use Rattle.renumber.specs.Renumbered.{Numbers, renumbered}
-use Rattle.trip.specs.RoundTrip.{Plain, Readable, readAs}
-
--- the numbers in the tables of a walk order
-abbrev pub byOrder : Order → Numbers
-byOrder o =
-    record { atom = λ v. getD (o .walked) v 0; number = λ a. getD (o .number) a 0; parent = λ a. getD (o .back) a 0 }
+use Rattle.write.specs.Write.{graphOf, left}
+use Rattle.write.specs.Order.{Order}
+use Rattle.write.specs.Plain.{writePlain, orderPlain}
+use Rattle.renumber.specs.Renumbered.{renumbered}
+use Rattle.trip.specs.RoundTrip.{Plain, Readable, readAs, byOrder}
 
 -- The walk order o is done, and the line is read as the graph renumbered by it, into tables of la and le words.
 pub record ReadByOrder (atoms : List ℕ) (n : ℕ) (bonds : List ℕ) (m : ℕ) (o : Order) (la le : ℕ) (x : Said) : Type 0 where
@@ -32,5 +28,5 @@ pub record Lent (n lw ln lb : ℕ) : Type 0 where
 -- and le words
 abbrev pub TripByOrder : ℕ → List ℕ → ℕ → List ℕ → ℕ → ℕ → List ℕ → ℕ → ℕ → ℕ → ℕ → ℕ → Type 0
 TripByOrder room atoms n bonds m len out lw ln lb la le =
-    Plain (graphOf n atoms bonds) → writeOf room atoms n bonds m ≡ left (Done len) out → Lent n lw ln lb → Readable (take len out) n m la le
-    → ReadByOrder atoms n bonds m (orderOf lw ln lb atoms n bonds m) la le (lineOf (take len out) la le)
+    Plain (graphOf n atoms bonds) → writePlain room atoms n bonds m ≡ left (Done len) out → Lent n lw ln lb → Readable (take len out) n m la le
+    → ReadByOrder atoms n bonds m (orderPlain lw ln lb atoms n bonds m) la le (lineOf (take len out) la le)

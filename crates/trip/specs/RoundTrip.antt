@@ -6,12 +6,12 @@
 -- else differs.
 --
 -- The graph that comes back is a defined one (`renumbered`), and what the reading leaves is an equation: 0 with the counts, and both
--- tables whole.
+-- tables whole. Writing, the walk order and reading are what the public calls promise: `writePlain`, `orderPlain` and `lineOf`.
 use Prim.Native.Nat.{ℕ, _/_, _≤_, _<_}
 use mathlib.Core.Path.{_≡_}
 use mathlib.Core.List.{List}
 use mathlib.Core.Bool.{false}
-use lib.ListN.{length, take}
+use lib.ListN.{length, getD, take}
 use Rattle.record.specs.Words.{atomWords, bondWords}
 use Rattle.graph.specs.Limits.{textLimit, atomLimit, bondLimit, lesserOf}
 use Rattle.survive.specs.Survive.{Survives}
@@ -22,11 +22,13 @@ use Rattle.read.specs.Read.{Said, said}
 use Rattle.read.specs.Line.{lineOf}
 use Rattle.ways.specs.Graph.{Graph, kindAt}
 use Rattle.write.specs.declared.answer.Written.the-variants.{Done}
-use Rattle.write.specs.Write.{graphOf, walkOf, left, writeOf}
+use Rattle.write.specs.Write.{graphOf, left}
+use Rattle.write.specs.Order.{Order}
+use Rattle.write.specs.Plain.{writePlain, orderPlain}
 use Rattle.retell.specs.Retell.{nests}
 use Rattle.renumber.specs.Marks.{Tetrahedral}
 use Rattle.renumber.specs.Renumber.{Simple, Numbering, Renumbers}
-use Rattle.renumber.specs.Renumbered.{Numbers, byWalk, renumbered}
+use Rattle.renumber.specs.Renumbered.{Numbers, renumbered}
 
 -- ---- what is asked
 -- of the graph: at least one atom, no self-bond, at most one bond between two atoms, each bond held at both ends as the other's
@@ -49,21 +51,26 @@ pub record Readable (line : List ℕ) (n m la lb : ℕ) : Type 0 where
 abbrev pub readAs : ℕ → ℕ → ℕ → ℕ → List Node → Said
 readAs n m la lb ns = said (answer.Done n m) (padded la (atomTable ns)) (padded lb (bondTable ns))
 
--- the graph of tables handed in for writing, renumbered by the write call's own walk
+-- the numbers in the tables of a walk order
+abbrev pub byOrder : Order → Numbers
+byOrder o =
+    record { atom = λ v. getD (o .walked) v 0; number = λ a. getD (o .number) a 0; parent = λ a. getD (o .back) a 0 }
+
+-- the graph of tables handed in for writing, renumbered by its walk order
 abbrev pub backOf : List ℕ → ℕ → List ℕ → ℕ → List Node
-backOf atoms n bonds m = renumbered (graphOf n atoms bonds) (byWalk (walkOf atoms n bonds m))
+backOf atoms n bonds m = renumbered (graphOf n atoms bonds) (byOrder (orderPlain n n n atoms n bonds m))
 
 -- the demand of one job: a write into a lent output of so many bytes, and a reading into la and lb words
 abbrev pub RoundTrip : ℕ → List ℕ → ℕ → List ℕ → ℕ → ℕ → List ℕ → ℕ → ℕ → Type 0
 RoundTrip room atoms n bonds m len out la lb =
-    Plain (graphOf n atoms bonds) → writeOf room atoms n bonds m ≡ left (Done len) out → Readable (take len out) n m la lb
+    Plain (graphOf n atoms bonds) → writePlain room atoms n bonds m ≡ left (Done len) out → Readable (take len out) n m la lb
     → lineOf (take len out) la lb ≡ readAs n m la lb (backOf atoms n bonds m)
 
 -- The corollary on two jobs: two such graphs with the same line have the same renumbering. Of the line it is asked that no branch in
 -- it is too many; nothing of its length, and no room is lent.
 abbrev pub OneLine : ℕ → List ℕ → ℕ → List ℕ → ℕ → ℕ → List ℕ → ℕ → List ℕ → ℕ → List ℕ → ℕ → ℕ → List ℕ → Type 0
 OneLine r1 a1 n1 b1 m1 l1 o1 r2 a2 n2 b2 m2 l2 o2 =
-    Plain (graphOf n1 a1 b1) → Plain (graphOf n2 a2 b2) → writeOf r1 a1 n1 b1 m1 ≡ left (Done l1) o1 → writeOf r2 a2 n2 b2 m2 ≡ left (Done l2) o2
+    Plain (graphOf n1 a1 b1) → Plain (graphOf n2 a2 b2) → writePlain r1 a1 n1 b1 m1 ≡ left (Done l1) o1 → writePlain r2 a2 n2 b2 m2 ≡ left (Done l2) o2
     → take l1 o1 ≡ take l2 o2 → nests (parse (take l1 o1)) ≡ false
     → backOf a1 n1 b1 m1 ≡ backOf a2 n2 b2 m2
 
