@@ -1,7 +1,7 @@
 -- The starred lines of the bench: what each is answered, worked out from the written meanings. Assumes nothing.
 use mathlib.Core.Path.{_≡_, refl}
 use mathlib.Core.List.{map}
-use Rattle.feature.specs.Names.{placeOf, names, begins, symAc, symCs}
+use Rattle.feature.specs.Names.{placeOf, names, begins}
 use Rattle.feature.specs.Kinds.{invertOf}
 use Rattle.feature.specs.Bonds.{codeOf, reverseOf, isDirectional, reconcileOf}
 use Rattle.scan.specs.Scan.{peekAt, digitOf, digitAt, missingAt, bracketAt, aromaticOf, aliphaticOf, optionalAt, organicAt, starAt, orElse, otherAt, atomAt, bondOf, markWidth, bondAt, rnumAt, afterCharge, afterConfiguration, afterHydrogens, afterIsotope, afterMap, afterSymbol, chargeAt, closeAt, configurationAt, configured, digitStep, hydrogensAt, insideAt, isotopeAt, mapAt, numberAt, signedAt, slip, symbolAt, symbolOf, fifteenAt, shortAt, longAt, lateAt}

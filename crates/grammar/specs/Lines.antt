@@ -1,5 +1,5 @@
--- What the laws of reading speak of: texts of bytes, texts that a tree spells or begins, where a text is refused, and what
--- the reader's events then are.
+-- What the laws of reading speak of: texts of bytes, texts that a tree spells or begins, where a text is wrong or goes too deep; and
+-- last, for the inner laws, what the reader's events then are. What the read call answers is said in opensmiles_laws.
 use Prim.Native.Nat.{ℕ, _+_, _-_, _<_, _≤_}
 use mathlib.Core.Path.{_≡_}
 use mathlib.Core.List.{List, [], _∷_, _++_}

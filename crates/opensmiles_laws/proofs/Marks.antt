@@ -1,6 +1,6 @@
 -- A mark that can't be turned is one that the reader refuses to turn; and what an event that has room passes. Assumes nothing.
 use Prim.Native.Nat.{ℕ, _+_, _<_, _≤_}
-use mathlib.Core.Path.{_≡_, refl, sym, ap, _∙_, subst}
+use mathlib.Core.Path.{_≡_, refl, ap, _∙_, subst}
 use mathlib.Core.Bool.{Bool, true, false}
 use mathlib.Core.List.{List, [], _∷_, _++_}
 use mathlib.Core.Option.{Option, none, some}
@@ -20,7 +20,7 @@ use Rattle.sketch.specs.Sketch.{countOf}
 use Rattle.read.specs.declared.Answer.{Answer}
 use Rattle.read.specs.declared.Answer.the-variants as answer
 use Rattle.opensmiles_laws.specs.Molecule.{Molecule, asHeld, told}
-use Rattle.opensmiles_laws.specs.Stops.{Unturnable, unturnable, Meets, no-place, no-slots, not-turned, no-slot, not-turned-after, ends, wrong, deep, Passes, counted, countAll, Marked, Turnable, Stops}
+use Rattle.opensmiles_laws.specs.Stops.{Unturnable, unturnable, Meets, no-place, no-slots, not-turned, no-slot, not-turned-after, ends, wrong, deep, Passes, countAll, Marked, Turnable, Stops}
 
 pub by-equal : {A : Type 0} (P : A → Type 0) (q : Bool) {x y : A} → (q ≡ true → P x) → (q ≡ false → P y) → P (pick q x y)
 by-equal P true f g = f refl

@@ -9,7 +9,7 @@ use native.Mathlib.Omega.{arith}
 use Rattle.feature.specs.Pick.{pick}
 use Rattle.feature.specs.Text.{byte, bytes}
 use Rattle.feature.specs.Names.{placeOf, names, begins}
-use Rattle.feature.specs.Kinds.{invertOf, invertBracket, noHydrogens, th1, al}
+use Rattle.feature.specs.Kinds.{invertOf, invertBracket, noHydrogens, th1}
 use Rattle.feature.specs.Bonds.{codeOf, reverseOf, isDirectional, reconcileOf}
 use Rattle.feature.specs.declared.atom_kind.AtomKind.{AtomKind}
 use Rattle.feature.specs.declared.atom_kind.AtomKind.the-variants.{Star, Aliphatic, Aromatic, Bracket}

@@ -13,7 +13,7 @@ use Rattle.record.specs.Words.{atomWords, bondWords}
 use Rattle.graph.specs.Limits.{atomLimit, bondLimit, lesserOf}
 use Rattle.scan.specs.declared.scanner.Missing.the-variants as missing
 use Rattle.reader.specs.declared.lead.Lead.{Lead}
-use Rattle.reader.specs.declared.lead.Lead.the-variants.{Dot, Bond}
+use Rattle.reader.specs.declared.lead.Lead.the-variants.{Bond}
 use Rattle.reader.specs.Events.{Event, Enter, Join, Pop, Miss, Nest}
 use Rattle.sketch.specs.Sketch.{Held, countOf, lookup, openKind, edgesAt}
 use Rattle.read.specs.declared.Answer.{Answer}
