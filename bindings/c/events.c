@@ -40,7 +40,8 @@ static void build(const uint32_t *c, const uint32_t *o)
     static uint8_t out[24 * PLACES + 4 * SLOTS];
     uint64_t state[MAVISDROK_BUILDER_WORDS];
 
-    mavisdrok_builder_start(PLACES, SLOTS, rings, LEN(rings), state, LEN(state), report, LEN(report));
+    mavisdrok_builder_start(atoms, LEN(atoms), entries, LEN(entries), path, LEN(path), rings, LEN(rings),
+                            state, LEN(state), report, LEN(report));
     accepted();
     mavisdrok_builder_root(atoms, LEN(atoms), entries, LEN(entries), path, LEN(path), rings, LEN(rings),
                            state, LEN(state), c[0], c[1], report, LEN(report));

@@ -202,7 +202,7 @@ static void damage(uint32_t *t, size_t n, uint64_t *state, size_t words)
 static void builder(void)
 {
     int fits = below(4) != 0;
-    size_t places = fits ? below(12) : below(3) ? below(12) : (size_t)any(), slots = fits ? below(20) : below(3) ? below(20) : (size_t)any();
+    size_t places = below(12), slots = below(20);
     size_t al = fits ? places * 3 : below(40), el = fits ? slots * 3 : below(60), pl = fits ? places : below(14);
     size_t gl = fits ? 100 : below(120), bl = fits ? slots * 2 : below(50), sl = below(6) ? 11 : below(14), rl = below(5);
     uint32_t *a = words(al), *e = words(el), *p = words(pl), *g = words(gl), *b = words(bl);
@@ -212,7 +212,7 @@ static void builder(void)
     memset(r, 0, rl * sizeof *r);
     keep(c, 5);
     if (below(10))
-        mavisdrok_builder_start(places, slots, g, gl, s, sl, r, rl);
+        mavisdrok_builder_start(a, al, e, el, p, pl, g, gl, s, sl, r, rl);
     settle(c, 5, r, rl, "start");
     for (size_t i = below(14); i > 0; i--) {
         uint32_t k[2];

@@ -73,14 +73,17 @@ void mavisdrok_order(const uint32_t *atoms, size_t atoms_len, size_t n,
 
 /* ---- A builder
  *
- * atoms: three words an atom; entries: three words an entry; path: a word an atom; rings: a hundred words. state: eleven words,
- * as mavisdrok_builder_start lays them and each accepted event leaves them. An atom's kind is its two words, a bond's its
- * number. The events answer 17, 18, 13, 14, 10, or 0; 13 and 14 carry the atoms held, 10 the atom. An event that is not
- * answered 0 changes nothing but the report. */
+ * atoms: three words an atom; entries: three words an entry; path: a word an atom; rings: a hundred words. There is room for as
+ * many atoms and entries as these tables hold, 1024 and 2304 at most, so lend tables of the same lengths to each call. state:
+ * eleven words, as mavisdrok_builder_start lays them and each accepted event leaves them. An atom's kind is its two words, a
+ * bond's its number. The events answer 17, 18, 13, 14, 10, or 0; 13 and 14 carry the atoms held, 10 the atom. An event that is
+ * not answered 0 changes nothing but the report. */
 
-/* A builder that has seen no event, with room for so many atoms and entries: its state, and every ring number free. 17 with
- * nothing changed if the state's words find no room. What it has room for is judged with each event. */
-void mavisdrok_builder_start(size_t places, size_t slots,
+/* A builder that has seen no event, over the tables that its events will be lent: its state, and every ring number free. 17
+ * with nothing changed if the state, the path or the ring numbers have too few words; then every event would answer 17. */
+void mavisdrok_builder_start(const uint32_t *atoms, size_t atoms_len,
+                             const uint32_t *entries, size_t entries_len,
+                             const uint32_t *path, size_t path_len,
                              uint32_t *rings, size_t rings_len,
                              uint64_t *state, size_t state_len,
                              uint64_t *report, size_t report_len);
@@ -121,8 +124,8 @@ void mavisdrok_builder_pop(const uint32_t *atoms, size_t atoms_len,
                            size_t n,
                            uint64_t *report, size_t report_len);
 
-/* The graph in its final form, in the builder's own table of atoms and in a table of bonds: 17, 3, 4, or 0 with the numbers of
- * atoms and of bond entries. After a refusal both tables hold zeros. */
+/* The graph in its final form, in the builder's own table of atoms and in a table of bonds, two words for each entry held: 17,
+ * 3, 4, or 0 with the numbers of atoms and of bond entries. After a refusal both tables hold zeros. */
 void mavisdrok_builder_build(uint32_t *atoms, size_t atoms_len,
                              uint32_t *bonds, size_t bonds_len,
                              const uint32_t *entries, size_t entries_len,

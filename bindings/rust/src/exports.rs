@@ -15,8 +15,9 @@ extern "C" {
         report_len: usize,
     );
     pub fn mavisdrok_builder_start(
-        places: usize, slots: usize, rings: *mut u32, rings_len: usize, state: *mut u64, state_len: usize,
-        report: *mut u64, report_len: usize,
+        atoms: *const u32, atoms_len: usize, entries: *const u32, entries_len: usize, path: *const u32,
+        path_len: usize, rings: *mut u32, rings_len: usize, state: *mut u64, state_len: usize, report: *mut u64,
+        report_len: usize,
     );
     pub fn mavisdrok_builder_root(
         atoms: *mut u32, atoms_len: usize, entries: *const u32, entries_len: usize, path: *mut u32, path_len: usize,

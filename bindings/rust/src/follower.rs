@@ -12,6 +12,9 @@ const ENTRY_WORDS: usize = 3;
 const RINGS: usize = 100;
 const PAIRS: usize = 300;
 
+/// Which word of a builder's state counts the entries held.
+const HELD: usize = 5;
+
 /// The room that a writer begins with.
 const LINE: usize = 256;
 
@@ -50,7 +53,6 @@ pub struct Builder {
     path: Vec<u32>,
     rings: Vec<u32>,
     state: [u64; 11],
-    slots: usize,
 }
 
 impl Default for Builder {
@@ -74,14 +76,14 @@ impl Builder {
             path: vec![0; places],
             rings: vec![0; RINGS],
             state: [0; 11],
-            slots,
         };
         let mut report = [0; 3];
         // The slices are lent for the call alone, and it writes within them alone.
         unsafe {
             mavisdrok_builder_start(
-                places, slots, builder.rings.as_mut_ptr(), RINGS, builder.state.as_mut_ptr(), builder.state.len(),
-                report.as_mut_ptr(), report.len(),
+                builder.atoms.as_ptr(), builder.atoms.len(), builder.entries.as_ptr(), builder.entries.len(),
+                builder.path.as_ptr(), builder.path.len(), builder.rings.as_mut_ptr(), RINGS,
+                builder.state.as_mut_ptr(), builder.state.len(), report.as_mut_ptr(), report.len(),
             );
         }
         builder
@@ -89,7 +91,7 @@ impl Builder {
 
     /// The graph that was told.
     pub fn build(mut self) -> Result<Graph, Error> {
-        let mut bonds = vec![0; self.slots * BOND_WORDS];
+        let mut bonds = vec![0; self.state[HELD] as usize * BOND_WORDS];
         let mut report = [0; 3];
         // As above.
         unsafe {

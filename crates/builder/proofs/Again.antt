@@ -1,5 +1,5 @@
--- What a call hands out from a state can be handed in again: it is not answered 17, however many calls went before. Assumes
--- nothing.
+-- What a call hands out from a state can be handed in again: it is not answered 17, however many calls went before. So 17 is
+-- never the answer to what a start and calls after it have made. Assumes nothing.
 use Prim.{⊥}
 use Prim.Native.Nat.{ℕ, _+_, _<_}
 use mathlib.Core.Path.{_≡_, refl, sym, ap, _∙_, subst}
@@ -26,7 +26,11 @@ use Rattle.graph.specs.declared.builder.Builder.{Builder}
 use Rattle.standing.specs.Standing.{also, isState}
 use Rattle.standing.proofs.Counts.{first}
 use Rattle.standing.proofs.Kept.{Holds, holds, stands, refuse-holds, root-holds, extend-holds, join-holds, pop-holds}
-use Rattle.builder.specs.Events.{badTable, anew, judged, rootD, extendD, joinD, popD}
+use Rattle.desk_numbers.specs.Numbers.{badTable}
+use Rattle.builder.specs.Events.{anew, judged, startD, rootD, extendD, joinD, popD}
+use Rattle.builder.specs.Build.{roomy, buildD}
+use Rattle.builder.proofs.Start.{started}
+use Rattle.builder.proofs.Held.{build-other}
 use Rattle.builder.specs.Runs.{Call, Root, Extend, Join, Pop, callD, fits, callsD}
 
 -- ---- a call on a state leaves a state, accepted or not
@@ -126,6 +130,15 @@ call-other b (Pop n) is fit = judged-other true b (popOf (anew b) n) fit is (pop
 -- so from a state on, after any calls, one that fits is not answered 17
 pub never-bad : (b : Bld) (cs : List Call) (c : Call) → isState b ≡ true → fits c ≡ true → callD (callsD b cs) c .st .refusal ≢ badTable
 never-bad b cs c is fit = call-other (callsD b cs) c (calls-stand b cs is) fit
+
+-- and from the start on
+pub start-never-bad : (a e p r : List ℕ) (cs : List Call) (c : Call) → startD a e p r .st .refusal ≡ 0 → fits c ≡ true → callD (callsD (startD a e p r) cs) c .st .refusal ≢ badTable
+start-never-bad a e p r cs c accepted fit = never-bad (startD a e p r) cs c (started a e p r accepted) fit
+
+-- nor is the build, into a table with room for the entries held
+pub build-never-bad : (a e p r : List ℕ) (cs : List Call) (bonds : List ℕ) → startD a e p r .st .refusal ≡ 0 → roomy (callsD (startD a e p r) cs .st) bonds ≡ true → buildD (callsD (startD a e p r) cs) bonds .number ≢ badTable
+build-never-bad a e p r cs bonds accepted room =
+    build-other (callsD (startD a e p r) cs) bonds (calls-stand (startD a e p r) cs (started a e p r accepted)) room
 
 -- ---- an accepted call was on a state, and leaves one
 judged-bad : (ok : Bool) (b done : Bld) → isState b ≡ false → judged ok b done .st .refusal ≡ badTable

@@ -46,15 +46,15 @@ module _ (b : Bld) (bonds : List ℕ) {q : Bool} (judges : q ≡ isState b) wher
 
   module _ (holds : not q ≡ false) where
     -- too little room
-    pub build-less : {x y : List ℕ} → length bonds < b .st .slots * bondWords → x ≡ zeros (b .atoms) → y ≡ zeros bonds → leftBy BadTable x y ≡ buildD b bonds
+    pub build-less : {x y : List ℕ} → length bonds < b .st .entries * bondWords → x ≡ zeros (b .atoms) → y ≡ zeros bonds → leftBy BadTable x y ≡ buildD b bonds
     unfolding leftBy buildD roomy
-    build-less less ex ey = rw (ex, ey, sym judges ∙ not-false q holds, lt-leb (b .st .slots * bondWords) (length bonds) less)
+    build-less less ex ey = rw (ex, ey, sym judges ∙ not-false q holds, lt-leb (b .st .entries * bondWords) (length bonds) less)
 
     -- what the build comes to
-    pub build-goes : {d x y z : List ℕ} (r : Built) {a : Answer} → b .st .slots * bondWords ≤ length bonds → d ≡ zeros (midOf (b .st .atoms * atomWords) (length (b .atoms) - b .st .atoms * atomWords) (b .atoms)) → outcome r (tables x y z) ≡ buildOf (tables (putMid (b .st .atoms * atomWords) (length (b .atoms) - b .st .atoms * atomWords) (b .atoms) d) bonds (replicate atomLimit 0)) (b .entries) (b .st) → a ≡ calledOf r (b .st .atoms) (b .st .entries) → leftBy a x y ≡ buildD b bonds
+    pub build-goes : {d x y z : List ℕ} (r : Built) {a : Answer} → b .st .entries * bondWords ≤ length bonds → d ≡ zeros (midOf (b .st .atoms * atomWords) (length (b .atoms) - b .st .atoms * atomWords) (b .atoms)) → outcome r (tables x y z) ≡ buildOf (tables (putMid (b .st .atoms * atomWords) (length (b .atoms) - b .st .atoms * atomWords) (b .atoms) d) bonds (replicate atomLimit 0)) (b .entries) (b .st) → a ≡ calledOf r (b .st .atoms) (b .st .entries) → leftBy a x y ≡ buildD b bonds
     unfolding buildD roomy leftOf
     build-goes {d} {x} {y} r room clears is named =
         ap (λ (w : Answer). leftBy w x y) named
         ∙ ap (λ (o : Outcome). leftOf o (b .st)) is
         ∙ ap (λ (t : List ℕ). leftOf (buildOf (tables t bonds (replicate atomLimit 0)) (b .entries) (b .st)) (b .st)) (trimmed-is (b .atoms) d (b .st .atoms * atomWords) (end-within b judges holds .0) clears)
-        ∙ rw (sym judges ∙ not-false q holds, le-leb (b .st .slots * bondWords) (length bonds) room)
+        ∙ rw (sym judges ∙ not-false q holds, le-leb (b .st .entries * bondWords) (length bonds) room)

@@ -1,7 +1,10 @@
 -- What a build that is done leaves: each atom's bonds in its place, and each bond held at both ends as reverses. Assumes
 -- nothing.
+use Prim.{⊥}
 use Prim.Native.Nat.{ℕ, zero, suc, _+_, _*_, _-_, _%_, _<_, _≤_, _^_}
 use mathlib.Core.Path.{_≡_, refl, sym, ap, _∙_, subst}
+use mathlib.Core.Logic.{_≢_}
+use Rattle.desk_numbers.specs.Numbers.{badTable}
 use mathlib.Core.List.{List, [], _∷_, _++_}
 use mathlib.Core.Bool.{Bool, true, false}
 use native.Mathlib.Omega.{arith}
@@ -136,14 +139,14 @@ abbrev startOf : Bld → List ℕ → Tables
 startOf b bonds = tables (trimmed (b .st .atoms * atomWords) (b .atoms)) bonds (replicate atomLimit 0)
 
 module _ (b : Bld) (bonds : List ℕ) where
-  ready : Facts b → b .st .slots * bondWords ≤ length bonds → Ready (startOf b bonds) (b .entries) (b .st)
+  ready : Facts b → b .st .entries * bondWords ≤ length bonds → Ready (startOf b bonds) (b .entries) (b .st)
   ready f room =
       let c = f .counts in
       let within : b .st .atoms * atomWords ≤ length (b .atoms) = omega (arith, c .atoms, c .atom-room) in
       let listed : b .st .entries * entryWords ≤ length (b .entries) = omega (arith, c .entries, c .entry-room) in
       record {
         atoms = omega (arith, within, trimmed-length (b .st .atoms * atomWords) (b .atoms) within);
-        bonds = omega (arith, c .entries, room);
+        bonds = room;
         starts = omega (arith, c .atoms, c .places, length-replicate {A = ℕ} atomLimit 0);
         entries = listed;
         few = omega (arith, c .entries, c .slots);
@@ -167,7 +170,7 @@ module _ (b : Bld) (bonds : List ℕ) where
 
       is-ready : Ready (startOf b bonds) (b .entries) (b .st)
       unfolding roomy
-      is-ready = ready (facts b holds) (leb-true (b .st .slots * bondWords) (length bonds) room)
+      is-ready = ready (facts b holds) (leb-true (b .st .entries * bondWords) (length bonds) room)
 
       failing : b .st .failed ≡ true → buildD b bonds .number ≡ 3
       unfolding leftOf calledOf leftBy
@@ -186,6 +189,17 @@ module _ (b : Bld) (bonds : List ℕ) where
         unfolding leftOf calledOf leftBy
         closing h =
             goes ∙ ap (λ (o : Outcome). leftOf o (b .st)) (built-done (startOf b bonds) (b .entries) (b .st) is-ready joined h)
+
+  -- from a state, into a table with room, it is not answered 17
+  pub build-other : isState b ≡ true → roomy (b .st) bonds ≡ true → buildD b bonds .number ≢ badTable
+  build-other holds room z = by-failure (b .st .failed) refl where
+    by-open : (joined : b .st .failed ≡ false) (q : Bool) → ltb (firstOpen (upto (b .st .atoms) (toldOf (b .st) (b .entries)))) unclosed ≡ q → ⊥
+    by-open joined true e = let is : buildD b bonds .number ≡ 0 = ap (λ (x : Left). x .number) (closing holds room joined (ltb-true _ _ e)) in omega (arith, z, is)
+    by-open joined false e = omega (arith, z, opening holds room joined (ltb-false _ _ e))
+
+    by-failure : (q : Bool) → b .st .failed ≡ q → ⊥
+    by-failure true e = omega (arith, z, failing holds room e)
+    by-failure false e = by-open e (ltb (firstOpen (upto (b .st .atoms) (toldOf (b .st) (b .entries)))) unclosed) refl
 
   -- a build that is answered 0 leaves the graph of its state, and each bond is held at both ends as reverses
   pub done-holds : buildD b bonds .number ≡ 0 → (buildD b bonds ≡ graphOf b bonds) × BothEnds (toldOf (b .st) (b .entries))

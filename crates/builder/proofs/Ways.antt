@@ -8,9 +8,11 @@ use borrow.Author.Tests.{not-true, not-false}
 use Rattle.feature.specs.Pick.{pick}
 use Rattle.graph.specs.State.{Bld, bld, refusedSt, refuse, Small}
 use Rattle.graph.specs.declared.builder.Builder.{Builder}
-use Rattle.builder.specs.Events.{badTable, anew, judged}
+use Rattle.desk_numbers.specs.Numbers.{badTable}
+use Rattle.builder.specs.Events.{anew, judged}
 use Rattle.standing.specs.Standing.{countsStand, isState}
-use Rattle.standing.proofs.Counts.{Counts, first, counts, small}
+use Rattle.standing.proofs.Counts.{Counts, first, counts}
+use Rattle.standing.proofs.Kept.{holds, small}
 
 -- a number handed in stands for nothing
 pub unfit : (ok : Bool) (b done : Bld) (s : Builder) → ok ≡ false → s ≡ refusedSt (b .st) badTable 0 → bld (b .atoms) (b .entries) (b .path) (b .rings) s ≡ judged ok b done
@@ -38,6 +40,6 @@ state-counts b {q} e holds =
 
 -- and so they are whatever the refusal
 pub small-refused : (b : Bld) {q : Bool} (s : Builder) (n c : ℕ) → q ≡ isState b → not q ≡ false → s ≡ refusedSt (b .st) n c → Small s
-small-refused b s n c e holds is = rw is (same (small (state-counts b e holds))) where
+small-refused b {q} s n c e on is = rw is (same (small b (holds b (sym e ∙ not-false q on)))) where
   same : Small (b .st) → Small (refusedSt (b .st) n c)
   same h = record { atoms = h .atoms; entries = h .entries; top = h .top; joins = h .joins }

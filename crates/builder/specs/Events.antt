@@ -1,21 +1,38 @@
--- The builder's single calls, for any tables and any numbers. Where those handed in stand for no state, no atom or no ring
--- number, the answer is 17 and carries 0; else the event gives its own answer, 18, 13, 14 or 10, of which 13 and 14 carry
--- the atoms then held. A bond's kind is one of eight names, so it always stands for a bond.
+-- The builder's start and its single calls, for any tables and any numbers. Where those handed in stand for no state, no atom
+-- or no ring number, the answer is 17 and carries 0; else the event gives its own answer, 18, 13, 14 or 10, of which 13 and 14
+-- carry the atoms then held. A bond's kind is one of eight names, so it always stands for a bond.
 use Prim.Native.Nat.{ℕ}
+use mathlib.Core.List.{List}
 use mathlib.Core.Bool.{Bool, true}
+use lib.ListN.{length}
 use lib.Dec.{ltb}
+use Rattle.desk_numbers.specs.Numbers.{badTable}
 use Rattle.feature.specs.Pick.{pick}
 use Rattle.feature.specs.Kinds.{inRange}
 use Rattle.feature.specs.declared.atom_kind.AtomKind.{AtomKind}
 use Rattle.feature.specs.declared.bond_kind.BondKind.{BondKind}
 use Rattle.graph.specs.Rings.{numbers}
-use Rattle.graph.specs.State.{Bld, refuse, rootOf, extendOf, joinOf, popOf}
-use Rattle.standing.specs.Standing.{also, isState}
+use Rattle.graph.specs.State.{Bld, bld, startOf, refuse, refusedSt, rootOf, extendOf, joinOf, popOf}
+use Rattle.graph.specs.declared.builder.Builder.{Builder}
+use Rattle.build.specs.Build.{zeros}
+use Rattle.standing.specs.Standing.{also, placesIn, slotsIn, isState}
 
--- the desk's number for tables that stand for nothing
-abbrev pub badTable : ℕ
-badTable = 17
+-- ---- the start
+-- no event yet, and room for as many atoms and entries as the tables hold, the limits at most
+unfoldable pub roomsOf : List ℕ → List ℕ → Builder
+roomsOf a e = startOf (placesIn (length a)) (slotsIn (length e))
 
+-- and every ring number free
+unfoldable pub freshOf : List ℕ → List ℕ → List ℕ → List ℕ → Bld
+freshOf a e p r = bld a e p (zeros r) (roomsOf a e)
+
+-- 17 with no table changed where that is no state
+unfoldable pub startD : List ℕ → List ℕ → List ℕ → List ℕ → Bld
+startD a e p r =
+    pick (isState (freshOf a e p r)) (freshOf a e p r)
+    (bld a e p r (refusedSt (roomsOf a e) badTable 0))
+
+-- ---- the events
 -- no refusal yet: what an earlier event was refused for is over
 unfoldable pub anew : Bld → Bld
 anew b = refuse b 0 0

@@ -1,8 +1,8 @@
-// The builder's single calls and its build. Any tables and any numbers may be handed in. Each is judged first; a refused
-// event changes nothing but the refusal, a refused build leaves zeros in both tables.
+// The builder's start, its single calls and its build. Any tables and any numbers may be handed in. Each is judged first; a
+// refused event changes nothing but the refusal, a refused build leaves zeros in both tables.
 ghost use mathlib.Core.Path.{_≡_};
 ghost use Rattle.graph.specs.State.{bld};
-ghost use Rattle.builder.specs.Events.{rootD, extendD, joinD, popD};
+ghost use Rattle.builder.specs.Events.{startD, rootD, extendD, joinD, popD};
 ghost use Rattle.builder.specs.Build.{leftBy, calledOf, buildD};
 use build::Built;
 use build::clear;
@@ -11,7 +11,11 @@ use feature::atom_kind::in_range;
 use feature::bond_kind::BondKind;
 use graph::builder;
 use graph::builder::Builder;
+use graph::builder::ENTRY_WORDS;
 use graph::limits::ATOMS;
+use graph::limits::BONDS;
+use graph::limits::atom_room;
+use graph::limits::lesser;
 use graph::opens::NUMBERS;
 use record::ATOM_WORDS;
 use record::BOND_WORDS;
@@ -30,6 +34,25 @@ pub enum Answer {
     Rnum(u32),
     // It carries 0: the state is judged as a whole.
     BadTable,
+}
+
+// A builder that has seen no event: its room is the lesser of each limit and what was lent, and every ring number is free. A
+// path with no word for each atom that there is room for, or fewer than a hundred words for the ring numbers, hold no state.
+pub fn start(atoms: &[u32], entries: &[u32], path: &[u32], rings: &mut [u32]) -> Builder
+    ensures { λ r. ⌜ bld (now (atoms .entry)) (now (entries .entry)) (now (path .entry)) (now (rings .exit)) r
+        ≡ startD (now (atoms .entry)) (now (entries .entry)) (now (path .entry)) (now (rings .entry)) ⌝ }
+{
+    let places = atom_room(atoms);
+    let slots = lesser(BONDS, entries.len() / ENTRY_WORDS);
+    let b = Builder::start(places, slots);
+    if path.len() < places {
+        return b.refused(BAD_TABLE, 0);
+    }
+    if rings.len() < NUMBERS {
+        return b.refused(BAD_TABLE, 0);
+    }
+    clear(rings);
+    b
 }
 
 // A first atom of a component.
@@ -128,8 +151,8 @@ fn called(r: Built, b: Builder) -> Answer
     }
 }
 
-// The graph in its final form: each atom's entries together, their number in its record, zeros after the last of both. A
-// refused build leaves zeros in both tables. `starts` is work room.
+// The graph in its final form: each atom's entries together, their number in its record, zeros after the last of both. The
+// table of bonds needs room for the entries held. A refused build leaves zeros in both tables. `starts` is work room.
 pub fn build(
     atoms: &mut [u32],
     bonds: &mut [u32],
@@ -146,7 +169,7 @@ pub fn build(
         clear(bonds);
         return Answer::BadTable;
     }
-    if bonds.len() < b.slots * BOND_WORDS {
+    if bonds.len() < b.entries * BOND_WORDS {
         clear(atoms);
         clear(bonds);
         return Answer::BadTable;

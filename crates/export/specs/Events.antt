@@ -1,6 +1,6 @@
--- The builder's events and its build for other languages: words that stand for no state, no atom or no bond are answered 17,
--- carrying 0; else the answer is the event's. An accepted event lays its new state into the state's words; a refused one
--- changes nothing but the report. A refused build leaves zeros in both tables.
+-- The builder's start, its events and its build for other languages: words that stand for no state, no atom or no bond are
+-- answered 17, carrying 0; else the answer is the event's. An accepted event lays its new state into the state's words; a
+-- refused one changes nothing but the report. A refused build leaves zeros in both tables.
 use Prim.Native.Nat.{ℕ}
 use mathlib.Core.List.{List}
 use lib.ListN.{length}
@@ -9,13 +9,13 @@ use lib.Dec.{ltb, eqb}
 use Rattle.feature.specs.Pick.{pick}
 use Rattle.feature.specs.Bonds.{kindOf}
 use Rattle.record.specs.Words.{loadOf}
-use Rattle.graph.specs.State.{Bld, bld, startOf}
+use Rattle.graph.specs.State.{Bld, bld}
 use Rattle.graph.specs.declared.builder.Builder.{Builder}
 use Rattle.build.specs.Build.{zeros}
-use Rattle.builder.specs.Events.{rootD, extendD, joinD, popD}
+use Rattle.builder.specs.Events.{startD, rootD, extendD, joinD, popD}
 use Rattle.builder.specs.Build.{Left, buildD}
 use Rattle.export.specs.Given.{onAtom, onBond, onBuilder}
-use Rattle.report.specs.Report.{report, bad, ofEvent, ofLeft, laidInto}
+use Rattle.report.specs.Report.{bad, ofEvent, ofLeft, laidInto}
 use Rattle.report.specs.State.{builderSize, builderIn, wordsOf}
 
 -- every cell that is lent to an event
@@ -47,6 +47,12 @@ after c b =
 unfoldable pub unheard : Cells → Cells
 unheard c = cells (c .atoms) (c .entries) (c .path) (c .rings) (c .state) (laidInto (c .report) bad)
 
+-- the start over these tables; 17 where its state finds no room
+unfoldable pub startX : Cells → Cells
+startX c =
+    pick (ltb (length (c .state)) builderSize) (unheard c)
+    (after c (startD (c .atoms) (c .entries) (c .path) (c .rings)))
+
 -- an event on the state that is handed in
 unfoldable pub event : Cells → (Bld → Bld) → Cells
 event c f = onBuilder (builderIn (c .state)) (unheard c) (λ s. after c (f (over c s)))
@@ -63,21 +69,6 @@ joinX c bond number = onBond (kindOf bond) (unheard c) (λ e. event c (λ b. joi
 
 unfoldable pub popX : Cells → ℕ → Cells
 popX c n = event c (λ b. popD b n)
-
--- ---- the start
-pub record Started : Type 0 where
-  pub rings : List ℕ
-  pub state : List ℕ
-  pub report : List ℕ
-
-abbrev pub started : List ℕ → List ℕ → List ℕ → Started
-started r s t = record { rings = r; state = s; report = t }
-
--- no event yet, and every ring number free; 17 where the state finds no room
-unfoldable pub startX : ℕ → ℕ → Started → Started
-startX places slots c =
-    pick (ltb (length (c .state)) builderSize) (started (c .rings) (c .state) (laidInto (c .report) bad))
-    (started (zeros (c .rings)) (sets (c .state) 0 (wordsOf (startOf places slots))) (laidInto (c .report) (report 0 0 0)))
 
 -- ---- the build
 pub record Made : Type 0 where

@@ -1,8 +1,8 @@
-// The builder's events and its build, over tables, the words of a state and a report. Words that stand for no state, no atom
-// or no bond are answered 17. An event that is refused changes nothing but the report.
+// The builder's start, its events and its build, over tables, the words of a state and a report. Words that stand for no
+// state, no atom or no bond are answered 17. An event that is refused changes nothing but the report.
 ghost use mathlib.Core.Path.{_≡_};
 ghost use Rattle.report.specs.Report.{ofEvent, laidInto};
-ghost use Rattle.export.specs.Events.{cells, keptIn, startX, started, rootX, extendX, joinX, popX, made, buildX};
+ghost use Rattle.export.specs.Events.{cells, keptIn, startX, rootX, extendX, joinX, popX, made, buildX};
 use build::clear;
 use builder::calls;
 use feature::bond_kind::Coded;
@@ -38,24 +38,24 @@ fn keep(state: &mut [u64], report: &mut [u64], b: Builder)
     lay(report, of_event(b));
 }
 
-// A builder that has seen no event, with room for so many atoms and entries: its state, and its ring numbers all free.
+// A builder that has seen no event, over the tables that its events will be lent: its state, and its ring numbers all free.
 #[no_mangle]
 pub extern "C" fn mavisdrok_builder_start(
-    places: usize,
-    slots: usize,
+    atoms: &[u32],
+    entries: &[u32],
+    path: &[u32],
     rings: &mut [u32],
     state: &mut [u64],
     report: &mut [u64],
 )
-    ensures { λ _. ⌜ started (now (rings .exit)) (now (state .exit)) (now (report .exit))
-        ≡ startX places slots (started (now (rings .entry)) (now (state .entry)) (now (report .entry))) ⌝ }
+    ensures { λ _. ⌜ cells (now (atoms .entry)) (now (entries .entry)) (now (path .entry)) (now (rings .exit)) (now (state .exit)) (now (report .exit))
+        ≡ startX (cells (now (atoms .entry)) (now (entries .entry)) (now (path .entry)) (now (rings .entry)) (now (state .entry)) (now (report .entry))) ⌝ }
 {
     if state.len() < BUILDER_WORDS {
         refuse(report);
         return;
     }
-    clear(rings);
-    keep(state, report, Builder::start(places, slots));
+    keep(state, report, calls::start(atoms, entries, path, rings));
 }
 
 // A first atom of a component.

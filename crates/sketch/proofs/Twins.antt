@@ -85,8 +85,7 @@ same-reverse j k =
         ap codeOf (sym (reverse-twice j) ∙ ap reverseOf (same-code (reverseOf j) (reverseOf k) e) ∙ reverse-twice k)
 
 -- ---- rows
--- as many of each sort at one end as of the reverse at the other
--- and an even number where both are the same
+-- as many of each sort at one end as of the reverse at the other, and an even number where both are the same
 pub record Twins (rs : List Row) : Type 0 where
   pub ends : (a t : ℕ) (k : BondKind) → bondsTo k t (edgesOf rs a) ≡ bondsTo (reverseOf k) a (edgesOf rs t)
   pub even : (a : ℕ) (k : BondKind) → reverseOf k ≡ k → bondsTo k a (edgesOf rs a) % 2 ≡ 0

@@ -139,6 +139,23 @@ least-below n j e m (suc i) h l = go (leb unclosed (targetAt e i)) refl (least-b
   go true is ih = omega (arith, h .waits i (omega arith) (leb-true _ _ is))
   go false is ih = ih
 
+-- an open target is below all that come after it, so no two open entries wait for one join
+least-after : (e : List ℕ) (i k : ℕ) → unclosed ≤ targetAt e i → i < k → ((x : ℕ) → x < k → unclosed ≤ targetAt e x → leastOpen e x ≤ targetAt e x) → targetAt e i < leastOpen e k
+unfolding leastOpen
+least-after e i zero u l rise = absurd (omega arith)
+least-after e i (suc k) u l rise =
+    by-eq k i
+    (λ q. subst (λ (x : ℕ). targetAt e i < pick (leb unclosed (targetAt e x)) (targetAt e x + 1) (leastOpen e x)) (sym q) (rw (le-leb unclosed (targetAt e i) u) (omega arith)))
+    (λ q. go (leb unclosed (targetAt e k)) refl (least-after e i k u (omega (arith, l, q)) (λ x b. rise x (omega arith))))
+  where
+    go : (q : Bool) → leb unclosed (targetAt e k) ≡ q → targetAt e i < leastOpen e k → targetAt e i < pick q (targetAt e k + 1) (leastOpen e k)
+    go true is ih = omega (arith, ih, rise k (omega arith) (leb-true _ _ is))
+    go false is ih = ih
+
+pub joins-differ : (n j : ℕ) (e : List ℕ) (m i k : ℕ) → Plain n j e m → i < k → k < m → unclosed ≤ targetAt e i → unclosed ≤ targetAt e k → targetAt e i < targetAt e k
+joins-differ n j e m i k h l b u v =
+    omega (arith, least-after e i k u l (λ x y. h .later x (omega arith)), h .later k b v)
+
 -- more atoms, more joins
 pub plain-more : (n j n' j' : ℕ) (e : List ℕ) (m : ℕ) → n ≤ n' → j ≤ j' → Plain n j e m → Plain n' j' e m
 plain-more n j n' j' e m hn hj h =

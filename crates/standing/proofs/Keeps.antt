@@ -20,7 +20,7 @@ use Rattle.record.proofs.Laws.{atom-length, load-stored, load-beside}
 use Rattle.graph.specs.Limits.{atomLimit, bondLimit}
 use Rattle.graph.specs.Rings.{numbers}
 use Rattle.graph.specs.State.{unclosed, entryWords, entryList}
-use Rattle.standing.specs.Standing.{sourceAt, kindAt, targetAt, bondsFrom, leastOpen, openRings}
+use Rattle.standing.specs.Standing.{sourceAt, kindAt, targetAt, bondsFrom, leastOpen, openRings, placesIn, slotsIn}
 use Rattle.standing.proofs.Grown.{by-eq, hit, Plain, Pairs, least-below, plain-more, push, push-count, push-plain, push-before, push-target, fill, fill-count, fill-plain, fill-beside, pairs-two, pairs-open}
 
 -- ---- how many ring numbers are open
@@ -60,6 +60,8 @@ pred-below x m h l = omega arith
 
 -- ---- what is kept to: rooms, atoms, entries, path and joins
 pub record Keeps (places slots n m top j : ℕ) (a e p r : List ℕ) : Type 0 where
+  pub places-is : places ≡ placesIn (length a)
+  pub slots-is : slots ≡ slotsIn (length e)
   pub most-places : places ≤ atomLimit
   pub most-slots : slots ≤ bondLimit
   pub atom-room : places * atomWords ≤ length a
@@ -83,6 +85,8 @@ module _ (places slots n m top j : ℕ) (a e p r : List ℕ) (h : Keeps places s
   unfolding isAtom isHeld
   keeps-enter k w g ok room size more fits plain pairs same =
       record {
+        places-is = h .places-is ∙ ap (λ (x : ℕ). placesIn x) (sym (length-sets a (n * atomWords) (listOf k)));
+        slots-is = h .slots-is ∙ ap (λ (x : ℕ). slotsIn x) (sym size);
         most-places = h .most-places;
         most-slots = h .most-slots;
         atom-room = omega (arith, h .atom-room, length-sets a (n * atomWords) (listOf k));
@@ -156,6 +160,8 @@ module _ (places slots n m top j : ℕ) (a e p r : List ℕ) (h : Keeps places s
     keeps-join : (w : ℕ) (g : List ℕ) → length g ≡ length e → w ≤ slots → Plain n (j + 1) g w → Pairs g w → ((i : ℕ) → i < numbers → getD (set r q v) i 0 ≢ 0 → (getD (set r q v) i 0 ≤ w) × (unclosed ≤ targetAt g (getD (set r q v) i 0 - 1))) → (v ≢ 0 → (i : ℕ) → i < numbers → getD r i 0 ≢ v) → j + 1 + openRings (set r q v) numbers ≤ w * 2 → Keeps places slots n w top (j + 1) a g p (set r q v)
     keeps-join w g size fits plain pairs each new few =
         record {
+          places-is = h .places-is;
+          slots-is = h .slots-is ∙ ap (λ (x : ℕ). slotsIn x) (sym size);
           most-places = h .most-places;
           most-slots = h .most-slots;
           atom-room = h .atom-room;
@@ -252,6 +258,8 @@ module _ (places slots n m top j : ℕ) (a e p r : List ℕ) (h : Keeps places s
   pub keeps-pop : (x : ℕ) → Keeps places slots n m (top - x) j a e p r
   keeps-pop x =
       record {
+        places-is = h .places-is;
+        slots-is = h .slots-is;
         most-places = h .most-places;
         most-slots = h .most-slots;
         atom-room = h .atom-room;

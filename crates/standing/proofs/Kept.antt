@@ -33,9 +33,9 @@ use Rattle.record.specs.declared.Entry.the-variants as entry
 use Rattle.record.proofs.Laws.{bond-only}
 use Rattle.graph.specs.Limits.{atomLimit, bondLimit}
 use Rattle.graph.specs.Rings.{numbers}
-use Rattle.graph.specs.State.{Bld, bld, unclosed, entryWords, enough, refuse, lastOf, entered, rootOf, bonded, extendedBy, extendOf, openedOf, openedAt, openingOf, openingKind, failedSt, closedBy, joinOf, popOf, bondRoom}
+use Rattle.graph.specs.State.{Bld, bld, unclosed, entryWords, Small, refuse, lastOf, entered, rootOf, bonded, extendedBy, extendOf, openedOf, openedAt, openingOf, openingKind, failedSt, closedBy, joinOf, popOf, bondRoom}
 use Rattle.graph.specs.declared.builder.Builder.{Builder}
-use Rattle.standing.specs.Standing.{also, isKind, sourceAt, kindAt, targetAt, isTarget, isEntry, bondsFrom, turnedOf, isOwn, isMatched, isPaired, leastOpen, isLater, isStep, isApart, isRing, openRings, joinsStand, countsStand, failureStands, isState}
+use Rattle.standing.specs.Standing.{also, isKind, sourceAt, kindAt, targetAt, isTarget, isEntry, bondsFrom, turnedOf, isOwn, isMatched, isPaired, leastOpen, isLater, isStep, isApart, isRing, openRings, joinsStand, placesIn, slotsIn, countsStand, failureStands, isState}
 use Rattle.standing.proofs.Counts.{first, second, Counts, counts}
 use Rattle.standing.proofs.Ends.{turned-code, reverse-twice, to-matched, both-ends, even-ends}
 use Rattle.standing.proofs.Grown.{by-eq, sure-code, same-code, Plain, Pairs}
@@ -167,12 +167,10 @@ pub record Holds (b : Bld) : Type 0 where
 rooms : (s : Builder) (la le lp lr : ℕ) → countsStand s la le lp lr ≡ true → (s .places ≤ lp) × (numbers ≤ lr)
 unfolding countsStand
 rooms s la le lp lr h1 =
-    let h2 = second (leb (s .places) atomLimit) _ h1 in
-    let h3 = second (leb (s .slots) bondLimit) _ h2 in
-    let h4 = second (leb (s .places * atomWords) la) _ h3 in
-    let h5 = second (leb (s .slots * entryWords) le) _ h4 in
-    let h6 = second (leb (s .places) lp) _ h5 in
-    (leb-true _ _ (first (leb (s .places) lp) _ h5), leb-true _ _ (first (leb numbers lr) _ h6))
+    let h2 = second (eqb (s .places) (placesIn la)) _ h1 in
+    let h3 = second (eqb (s .slots) (slotsIn le)) _ h2 in
+    let h4 = second (leb (s .places) lp) _ h3 in
+    (leb-true _ _ (first (leb (s .places) lp) _ h3), leb-true _ _ (first (leb numbers lr) _ h4))
 
 to-failing : (s : Builder) → failureStands s ≡ true → Failing s
 unfolding failureStands
@@ -207,6 +205,8 @@ holds b h =
     let ring = first (every (isRing s e (b .rings)) numbers) _ h6 in
     record {
       keeps = record {
+        places-is = c .places-is;
+        slots-is = c .slots-is;
         most-places = c .places;
         most-slots = c .slots;
         atom-room = c .atom-room;
@@ -239,16 +239,13 @@ stands b w =
     let m = s .entries in
     let h = w .keeps in
     all-two (countsStand s (length (b .atoms)) (length e) (length (b .path)) (length (b .rings))) _
-    (all-two (leb (s .places) atomLimit) _ (le-leb _ _ (h .most-places))
-    (all-two (leb (s .slots) bondLimit) _ (le-leb _ _ (h .most-slots))
-    (all-two (leb (s .places * atomWords) (length (b .atoms))) _ (le-leb _ _ (h .atom-room))
-    (all-two (leb (s .slots * entryWords) (length e)) _ (le-leb _ _ (h .entry-room))
+    (all-two (eqb (s .places) (placesIn (length (b .atoms)))) _ (eq-eqb _ _ (h .places-is))
+    (all-two (eqb (s .slots) (slotsIn (length e))) _ (eq-eqb _ _ (h .slots-is))
     (all-two (leb (s .places) (length (b .path))) _ (le-leb _ _ (h .path-room))
     (all-two (leb numbers (length (b .rings))) _ (le-leb _ _ (h .ring-room))
     (all-two (leb (s .atoms) (s .places)) _ (le-leb _ _ (h .within))
     (all-two (leb (s .entries) (s .slots)) _ (le-leb _ _ (h .listed))
-    (all-two (leb (s .top) (s .atoms)) _ (le-leb _ _ (h .short))
-    (le-leb (s .joins) enough (omega (arith, h .few, h .listed, h .most-slots))))))))))))
+    (le-leb (s .top) (s .atoms) (h .short))))))))
     (all-two (every (isAtom (b .atoms)) (s .atoms)) _ (every-all (isAtom (b .atoms)) (s .atoms) (h .atoms))
     (all-two (every (isEntry s e) m) _ (every-all (isEntry s e) m (of-plain s e m (h .plain)))
     (all-two (every (isPaired e m) m) _ (every-all (isPaired e m) m (of-pairs s e m (h .plain) (h .pairs) (omega (arith, h .within, h .most-places))))
@@ -257,6 +254,17 @@ stands b w =
     (all-two (every (isRing s e (b .rings)) numbers) _ (every-all (isRing s e (b .rings)) numbers (λ n l. of-ring s e (b .rings) n (h .each n l) (λ i u z. h .apart i n u l z)))
     (all-two (leb (s .joins + openRings (b .rings) numbers) (m * 2)) _ (le-leb _ _ (h .few))
     (of-failing s (w .failing)))))))))
+
+-- so few of each that no sum with them wraps
+pub small : (b : Bld) → Holds b → Small (b .st)
+small b w =
+    let h = w .keeps in
+    record {
+      atoms = omega (arith, h .within, h .most-places);
+      entries = omega (arith, h .listed, h .most-slots);
+      top = omega (arith, h .short, h .within, h .most-places);
+      joins = omega (arith, h .few, h .listed, h .most-slots);
+    }
 
 -- ---- kinds that change
 -- a mark that is toggled stays in range

@@ -1,5 +1,5 @@
 -- One turn of the loops over the joins. Assumes nothing.
-use Prim.Native.Nat.{ℕ, zero, suc, _+_, _≤_}
+use Prim.Native.Nat.{ℕ, zero, suc, _+_, _-_, _<_, _≤_}
 use mathlib.Core.Path.{_≡_, refl, sym, ap}
 use mathlib.Core.List.{List}
 use mathlib.Core.Bool.{Bool, true, false}
@@ -7,6 +7,7 @@ use native.Mathlib.Omega.{arith}
 use native.Mathlib.Numerals.{add-one}
 use lib.ListN.{getD}
 use lib.Dec.{eqb, leb}
+use borrow.Author.Tests.{lt-leb, le-leb}
 use Rattle.feature.specs.Pick.{pick}
 use Rattle.graph.specs.State.{unclosed, entryWords}
 use Rattle.standing.specs.Standing.{targetAt, leastOpen, isLater, openRings}
@@ -33,3 +34,13 @@ pub open-most : (r : List ℕ) (n : ℕ) → openRings r n ≤ n
 unfolding openRings
 open-most r zero = omega arith
 open-most r (suc n) = omega (arith, open-most r n, open-one r n)
+
+-- a sum of joins and open ring numbers held against a bound, without the sum
+pub more-open : (j o m : ℕ) → m < o → leb (j + o) m ≡ false
+more-open j o m h = lt-leb (j + o) m (omega arith)
+
+pub more-joins : (j o m : ℕ) → o ≤ m → m - o < j → leb (j + o) m ≡ false
+more-joins j o m h l = lt-leb (j + o) m (omega arith)
+
+pub no-more : (j o m : ℕ) → o ≤ m → j ≤ m - o → leb (j + o) m ≡ true
+no-more j o m h l = le-leb (j + o) m (omega arith)

@@ -1,9 +1,9 @@
--- Which numbers stand for a builder's state: the counts are within the rooms and the rooms within the limits and what was
--- lent, each record is an atom, each entry is a bond between atoms or one whose join is open, each bond is held at both ends
--- as reverses, one from an atom to itself twice, joins of open entries rise, the path goes over atoms, each open ring number
--- leads to an entry of its own whose join is open, there are no more joins than the entries tell of, and a failure that is
--- remembered names atoms.
-use Prim.Native.Nat.{ℕ, zero, suc, _+_, _*_, _-_, _%_}
+-- Which numbers stand for a builder's state. Room for atoms and for entries is the lesser of the limit and what was lent, and
+-- the counts are within it. Each record is an atom. Each entry is a bond between atoms, or one whose join is open. Each bond is
+-- held at both ends as reverses; so one from an atom to itself is two entries. The joins of open entries rise, so that no two
+-- are the same. The path goes over atoms. Each open ring number leads to an entry of its own whose join is open. There are no
+-- more joins than the entries tell of. A failure that is remembered names atoms.
+use Prim.Native.Nat.{ℕ, zero, suc, _+_, _*_, _-_, _/_, _%_}
 use mathlib.Core.List.{List}
 use mathlib.Core.Bool.{Bool, true, false}
 use lib.ListN.{length, getD}
@@ -14,9 +14,9 @@ use Rattle.feature.specs.Bonds.{codeOf, kindOf, reverseOf}
 use Rattle.feature.specs.declared.bond_kind.Coded.{Coded}
 use Rattle.feature.specs.declared.bond_kind.Coded.the-variants as coded
 use Rattle.record.specs.Words.{atomWords, isAtom}
-use Rattle.graph.specs.Limits.{atomLimit, bondLimit}
+use Rattle.graph.specs.Limits.{atomLimit, bondLimit, lesserOf}
 use Rattle.graph.specs.Rings.{numbers}
-use Rattle.graph.specs.State.{Bld, entryWords, unclosed, enough}
+use Rattle.graph.specs.State.{Bld, entryWords, unclosed}
 use Rattle.graph.specs.declared.builder.Builder.{Builder}
 
 -- both, the second looked at only if the first holds
@@ -115,19 +115,23 @@ openRings r (suc n) = openRings r n + pick (eqb (getD r n 0) 0) 0 1
 unfoldable pub joinsStand : Builder → List ℕ → Bool
 joinsStand s r = leb (s .joins + openRings r numbers) (s .entries * 2)
 
--- the counts and the rooms, for tables of so many words
+-- for how many atoms and for how many entries tables of so many words have room
+abbrev pub placesIn : ℕ → ℕ
+placesIn la = lesserOf atomLimit (la / atomWords)
+
+abbrev pub slotsIn : ℕ → ℕ
+slotsIn le = lesserOf bondLimit (le / entryWords)
+
+-- the rooms and the counts, for tables of so many words: atoms, entries, path and ring numbers
 unfoldable pub countsStand : Builder → ℕ → ℕ → ℕ → ℕ → Bool
 countsStand s la le lp lr =
-    also (leb (s .places) atomLimit)
-    (also (leb (s .slots) bondLimit)
-    (also (leb (s .places * atomWords) la)
-    (also (leb (s .slots * entryWords) le)
+    also (eqb (s .places) (placesIn la))
+    (also (eqb (s .slots) (slotsIn le))
     (also (leb (s .places) lp)
     (also (leb numbers lr)
     (also (leb (s .atoms) (s .places))
     (also (leb (s .entries) (s .slots))
-    (also (leb (s .top) (s .atoms))
-    (leb (s .joins) enough)))))))))
+    (leb (s .top) (s .atoms)))))))
 
 -- the failure that is remembered, if any
 unfoldable pub failureStands : Builder → Bool

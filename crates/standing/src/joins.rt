@@ -8,7 +8,7 @@ ghost use Rattle.feature.specs.Pick.{pick};
 ghost use Rattle.feature.specs.Every.{every};
 ghost use Rattle.graph.specs.Limits.{bondLimit};
 ghost use Rattle.graph.specs.Rings.{numbers};
-ghost use Rattle.graph.specs.State.{unclosed, enough};
+ghost use Rattle.graph.specs.State.{unclosed};
 ghost use Rattle.standing.specs.Standing.{isLater, isApart, openRings, joinsStand};
 use crate::state::TARGET;
 use graph::builder::Builder;
@@ -105,11 +105,15 @@ fn open_rings(rings: &[u32]) -> usize
 
 // Whether there are no more joins, with those to come of the open ring numbers, than two for each entry.
 pub fn joins_stand(b: Builder, rings: &[u32]) -> bool
-    requires { ⌜ (b .joins ≤ enough) × (b .entries ≤ bondLimit) ⌝ }
+    requires { ⌜ b .entries ≤ bondLimit ⌝ }
     ensures { λ r. ⌜ r ≡ joinsStand b (now (rings .entry)) ⌝ }
 {
     let open = open_rings(rings);
-    if b.entries * 2 < b.joins + open {
+    let most = b.entries * 2;
+    if most < open {
+        return false;
+    }
+    if most - open < b.joins {
         return false;
     }
     true

@@ -21,13 +21,11 @@ use graph::builder::ENTRY_WORDS;
 use graph::builder::OPEN;
 use graph::limits::ATOMS;
 use graph::limits::BONDS;
+use graph::limits::lesser;
 use graph::opens::NUMBERS;
 use record::ATOM_WORDS;
 use record::is_atom;
 use record::look;
-
-// What no state counts more joins than.
-const JOINS: usize = 1_000_000;
 
 // Where the words of an entry stand.
 pub const KIND: usize = 1;
@@ -147,20 +145,14 @@ fn rings_stand(b: Builder, entries: &[u32], rings: &[u32]) -> bool
     true
 }
 
-// The counts and the rooms, for tables of so many words.
+// The rooms and the counts, for tables of so many words.
 fn counts_stand(b: Builder, atoms: usize, entries: usize, path: usize, rings: usize) -> bool
     ensures { λ r. ⌜ r ≡ countsStand b atoms entries path rings ⌝ }
 {
-    if ATOMS < b.places {
+    if b.places != lesser(ATOMS, atoms / ATOM_WORDS) {
         return false;
     }
-    if BONDS < b.slots {
-        return false;
-    }
-    if atoms < b.places * ATOM_WORDS {
-        return false;
-    }
-    if entries < b.slots * ENTRY_WORDS {
+    if b.slots != lesser(BONDS, entries / ENTRY_WORDS) {
         return false;
     }
     if path < b.places {
@@ -176,9 +168,6 @@ fn counts_stand(b: Builder, atoms: usize, entries: usize, path: usize, rings: us
         return false;
     }
     if b.atoms < b.top {
-        return false;
-    }
-    if JOINS < b.joins {
         return false;
     }
     true

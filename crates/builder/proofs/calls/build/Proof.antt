@@ -38,7 +38,9 @@ returns c = build-none _ _ (c .before .before .before .before .before .before .b
 
 -- src/builder.rt:149:22
 mul-if2 : tie.Need-mul-if2
-mul-if2 c = omega (arith, state-counts _ (c .before .before .is-state .ensures) (c .before .if1 .left) .slots)
+mul-if2 c =
+    let h = state-counts _ (c .before .before .is-state .ensures) (c .before .if1 .left) in
+    omega (arith, h .entries, h .slots)
 
 -- src/builder.rt:150:9
 clear-requires-3 : tie.Need-clear-requires-3

@@ -1,48 +1,52 @@
 -- Too few words, and the start.
 use borrow.Author.Tests.{le-ltb, lt-ltb}
-use Rattle.export.specs.Events.{startX, keptIn}
-use Rattle.report.specs.Report.{ofEvent}
+use Rattle.export.specs.Events.{startX, after, unheard}
 use borrow.Author.Needs.{needs}
 use Rattle.export.proofs.events.mavisdrok_builder_start.Statement.{statement}
 use Rattle.export.proofs.events.mavisdrok_builder_start.Tie as tie
 use Rattle.export.proofs.events.mavisdrok_builder_start.Reads as reads
 use Rattle.export.proofs.events.mavisdrok_builder_start.Lts as lts
-use Rattle.build.proofs.clear.Reads as clear-reads
+use Rattle.builder.proofs.calls.start.Reads as start-reads
 use Rattle.export.proofs.events.keep.Reads as keep-reads
 use Rattle.report.proofs.answer.refuse.Reads as refuse-reads
-use Rattle.graph.proofs.builder.Builder.start.Reads as start-reads
 
+-- src/events.rt:55:9
 refuse-requires : tie.Need-refuse-requires
 refuse-requires c κs = search needs
 
+-- src/events.rt:56:9
 same-length : tie.Need-same-length
 same-length c = search needs
 
+-- src/events.rt:56:9
 returns : tie.Need-returns
-unfolding startX keptIn ofEvent
+unfolding startX after unheard
 returns c = simp (lt-ltb _ _ (c .before .before .before .before .if1 .taken), ← c .before .before .refuse .ensures)
 
-clear-requires : tie.Need-clear-requires
-clear-requires c κs = search needs
-
+-- src/events.rt:58:25
 start-requires : tie.Need-start-requires
 start-requires c κs = search needs
 
+-- src/events.rt:58:5
 keep-requires : tie.Need-keep-requires
 keep-requires c κs = search needs
 
+-- src/events.rt:42:1
 same-length-2 : tie.Need-same-length-2
 same-length-2 c = search needs
 
+-- src/events.rt:42:1
 same-length-3 : tie.Need-same-length-3
 same-length-3 c = search needs
 
+-- src/events.rt:42:1
 same-length-4 : tie.Need-same-length-4
 same-length-4 c = search needs
 
+-- src/events.rt:42:1
 returns-2 : tie.Need-returns-2
-unfolding startX keptIn ofEvent
-returns-2 c = simp (le-ltb _ _ (c .before .before .before .before .before .before .before .before .before .before .before .before .if1 .left), c .before .before .before .before .before .before .before .before .before .before .clear .ensures, c .before .before .before .before .keep .ensures .0, c .before .before .before .before .keep .ensures .1, c .before .before .before .before .before .start .ensures)
+unfolding startX after unheard
+returns-2 c = simp (le-ltb _ _ (c .before .before .before .before .before .before .before .before .before .before .before .if1 .left), ← c .before .before .before .before .before .before .before .start .ensures, ← c .before .before .before .before .keep .ensures .0, ← c .before .before .before .before .keep .ensures .1)
 
 pub mavisdrok-builder-start-spec : {M : Type 1} → statement M
 mavisdrok-builder-start-spec =
@@ -51,7 +55,6 @@ mavisdrok-builder-start-spec =
     refuse-requires
     same-length
     returns
-    clear-requires
     start-requires
     keep-requires
     same-length-2

@@ -1,3 +1,4 @@
+-- Each way out of `is_later`, from the tests passed and what the calls on the way ensure.
 use borrow.Author.Tests.{lt-ltb, le-ltb, lt-leb, le-leb, eq-eqb, ne-eqb, not-true, not-false}
 use Rattle.standing.proofs.joins.is_later.Statement.{statement}
 use Rattle.standing.proofs.joins.is_later.Tie as tie

@@ -1,3 +1,4 @@
+-- The loop of `joins_rise`: what holds at each turn, and so what it ends with.
 use Rattle.standing.proofs.Turns.{least-step, later-is}
 use Rattle.graph.specs.State.{unclosed}
 use Rattle.feature.specs.Pick.{pick}

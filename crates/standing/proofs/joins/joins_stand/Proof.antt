@@ -1,9 +1,7 @@
-use native.Mathlib.Omega.{arith}
-use borrow.Author.Tests.{lt-leb, le-leb}
-use Rattle.graph.specs.Rings.{numbers}
-use Rattle.standing.specs.Standing.{joinsStand}
-use Rattle.standing.proofs.Turns.{open-most}
+-- Too many open ring numbers, too many joins beside them, or neither.
 use borrow.Author.Needs.{needs}
+use Rattle.standing.specs.Standing.{joinsStand}
+use Rattle.standing.proofs.Turns.{more-open, more-joins, no-more}
 use Rattle.standing.proofs.joins.joins_stand.Statement.{statement}
 use Rattle.standing.proofs.joins.joins_stand.Tie as tie
 use Rattle.standing.proofs.joins.joins_stand.Reads as reads
@@ -14,23 +12,24 @@ use Rattle.standing.proofs.joins.open_rings.Reads as open-rings-reads
 open-rings-requires : tie.Need-open-rings-requires
 open-rings-requires c κs = search needs
 
--- src/joins.rt:112:8
-mul-if1 : tie.Need-mul-if1
-mul-if1 c = search needs
+-- src/joins.rt:112:16
+mul-most : tie.Need-mul-most
+mul-most c = search needs
 
--- src/joins.rt:112:24
-add-if1 : tie.Need-add-if1
-add-if1 c = omega (arith, c .before .before .open-rings .ensures, open-most (c .before .before .before .before .args .rings .now) numbers, c .before .before .before .before .pre .0)
-
--- src/joins.rt:113:9
+-- src/joins.rt:114:9
 returns : tie.Need-returns
 unfolding joinsStand
-returns c = simp (← c .before .before .before .open-rings .ensures, lt-leb _ _ (c .if1 .taken))
+returns c = simp (← c .before .before .open-rings .ensures, more-open (c .before .before .before .before .args .b .joins) _ _ (c .if1 .taken))
 
--- src/joins.rt:107:1
+-- src/joins.rt:117:9
 returns-2 : tie.Need-returns-2
 unfolding joinsStand
-returns-2 c = simp (← c .before .before .before .open-rings .ensures, le-leb _ _ (c .if1 .left))
+returns-2 c = simp (← c .before .before .before .before .open-rings .ensures, more-joins _ _ _ (c .before .before .if1 .left) (c .if2 .taken))
+
+-- src/joins.rt:107:1
+returns-3 : tie.Need-returns-3
+unfolding joinsStand
+returns-3 c = simp (← c .before .before .before .before .open-rings .ensures, no-more _ _ _ (c .before .before .if1 .left) (c .if2 .left))
 
 pub joins-stand-spec : {M : Type 1} → statement M
-joins-stand-spec = tie.close (tie.spec open-rings-requires mul-if1 add-if1 returns returns-2)
+joins-stand-spec = tie.close (tie.spec open-rings-requires mul-most returns returns-2 returns-3)

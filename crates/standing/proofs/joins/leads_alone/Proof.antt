@@ -1,3 +1,4 @@
+-- The loop of `leads_alone`: what holds at each turn, and so what it ends with.
 use Rattle.standing.specs.Standing.{isApart}
 use borrow.Author.Needs.{needs}
 use borrow.Author.Tests.{lt-ltb, le-ltb, lt-leb, le-leb, eq-eqb, ne-eqb, not-true, not-false}

@@ -1,3 +1,4 @@
+-- The loop of `open_rings`: what holds at each turn, and so what it ends with.
 use Rattle.standing.proofs.Turns.{open-step, open-most, open-one}
 use Rattle.graph.specs.Rings.{numbers}
 use Rattle.standing.specs.Standing.{openRings}

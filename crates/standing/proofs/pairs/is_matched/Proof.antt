@@ -1,3 +1,4 @@
+-- Each way out of `is_matched`, from the tests passed and what the calls on the way ensure.
 use Rattle.standing.specs.Standing.{isMatched}
 use borrow.Author.Tests.{lt-ltb, le-ltb, lt-leb, le-leb, eq-eqb, ne-eqb, not-true, not-false}
 use Rattle.standing.proofs.pairs.is_matched.Statement.{statement}

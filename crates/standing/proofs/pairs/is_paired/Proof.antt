@@ -1,3 +1,4 @@
+-- Each way out of `is_paired`, from the tests passed and what the calls on the way ensure.
 use Rattle.standing.specs.Standing.{isPaired}
 use borrow.Author.Tests.{lt-ltb, le-ltb, lt-leb, le-leb, eq-eqb, ne-eqb, not-true, not-false}
 use borrow.Author.Needs.{needs}

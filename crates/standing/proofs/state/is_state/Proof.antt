@@ -70,7 +70,7 @@ returns-7 c = simp (← c .before .before .before .before .before .before .befor
 joins-stand-requires : tie.Need-joins-stand-requires
 joins-stand-requires c κs =
     let h = counts (c .before .before .before .before .before .before .before .before .before .before .before .before .before .before .before .before .before .before .args .b) _ _ _ _ (sym (c .before .before .before .before .before .before .before .before .before .before .before .before .before .counts-stand .ensures) ∙ not-false (c .before .before .before .before .before .before .before .before .before .before .before .before .before .counts-stand .result) (c .before .before .before .before .before .before .before .before .before .before .before .before .if1 .left)) in
-    (h .joins, omega (arith, h .entries, h .slots))
+    omega (arith, h .entries, h .slots)
 
 returns-8 : tie.Need-returns-8
 unfolding isState
