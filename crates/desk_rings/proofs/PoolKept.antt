@@ -1,8 +1,8 @@
 -- A pool that stands still stands after a call, so that what was handed out can be handed in again, and the number is from 1
--- to 99. A pool that has handed out nothing stands. Assumes nothing.
+-- to 99. A pool that has handed out nothing stands. In a pool that stands no pair is open under two numbers. Assumes nothing.
 use Prim.{⊥}
 use Prim.Native.Nat.{ℕ, zero, suc, _+_, _*_, _≤_, _<_}
-use mathlib.Core.Path.{_≡_, refl, sym, _∙_}
+use mathlib.Core.Path.{_≡_, refl, sym, ap, _∙_}
 use mathlib.Core.Bool.{Bool, true, false}
 use mathlib.Core.List.{List, [], _∷_}
 use mathlib.Core.Logic.{inl, inr}
@@ -10,47 +10,20 @@ use native.Mathlib.Omega.{arith}
 use lib.ListN.{length, getD, replicate, length-replicate}
 use lib.Seq.{sets, length-sets}
 use lib.Dec.{ltb, leb, eqb}
-use borrow.Author.Tests.{lt-ltb, le-ltb, le-leb, lt-leb, eq-eqb, ne-eqb, ltb-true, ltb-false, leb-true, eqb-true, eqb-false}
+use borrow.Author.Tests.{lt-ltb, le-ltb, le-leb, lt-leb, eq-eqb, ne-eqb, ltb-true, ltb-false, leb-true, leb-false, eqb-true, eqb-false}
 use Rattle.feature.specs.Pick.{pick, either}
 use Rattle.record.proofs.Laws.{sets-beside, sets-in, sets-first}
 use Rattle.pool.specs.declared.Pool.{Pool}
 use Rattle.pool.specs.declared.Given.{Given}
 use Rattle.pool.specs.declared.Given.the-variants.{Number, Full}
 use Rattle.pool.specs.Pairs.{highest, slotWords, pool, emptyOf, opens, numberOf, slot, grown, counterOf, nextOf, Hits, hits, openOf, closeOf, calledOf, pairOf, hitOf}
-use Rattle.desk_rings.specs.Slots.{top, isFree, isOpen, keptFree, isSlot, isPool}
+use Rattle.desk_rings.specs.Slots.{top, isFree, isOpen, keptFree, isSlot, isFound, isPool}
+use Rattle.feature.specs.Every.{every}
 use Rattle.feature.proofs.Every.{every-at, every-all}
 use Rattle.feature.proofs.Cases.{by-test}
 use Rattle.desk_rings.proofs.Both.{no, first, second, join}
 
--- ---- the test of a pool as facts
-pub record Pooled (p : Pool) (pairs : List ℕ) : Type 0 where
-  pub room : top * slotWords ≤ length pairs
-  pub counter : p .counter ≤ top
-  pub spare : p .spare < p .counter
-  pub each : (n : ℕ) → n < top + 1 → isSlot p pairs n ≡ true
-
-pub facts : (p : Pool) (pairs : List ℕ) → isPool p pairs ≡ true → Pooled p pairs
-unfolding isPool
-facts p pairs h1 =
-    let h2 = second (leb (top * slotWords) (length pairs)) _ h1 in
-    let h3 = second (leb (p .counter) top) _ h2 in
-    let h4 = second (ltb (p .spare) (p .counter)) _ h3 in
-    record {
-      room = leb-true _ _ (first (leb (top * slotWords) (length pairs)) _ h1);
-      counter = leb-true _ _ (first (leb (p .counter) top) _ h2);
-      spare = ltb-true _ _ (first (ltb (p .spare) (p .counter)) _ h3);
-      each = λ (n : ℕ) (l : n < top + 1). every-at (isSlot p pairs) (top + 1) n h4 l;
-    }
-
-pub stands : (p : Pool) (pairs : List ℕ) → Pooled p pairs → isPool p pairs ≡ true
-unfolding isPool
-stands p pairs h =
-    join (le-leb _ _ (h .room))
-    (join (le-leb _ _ (h .counter))
-    (join (lt-ltb _ _ (h .spare))
-    (every-all (isSlot p pairs) (top + 1) (h .each))))
-
--- ---- a slot beside the one that changes, and that one
+-- ---- the search for a pair
 -- no less and not the same
 differ : {n m : ℕ} → (n ≡ m → ⊥) → m ≤ n → m < n
 differ {n} {m} e h = go (ltb m n) refl where
@@ -58,6 +31,125 @@ differ {n} {m} e h = go (ltb m n) refl where
   go true q = ltb-true m n q
   go false q = absurd (let l = ltb-false m n q in e (omega arith))
 
+-- the number that it finds is open for the pair
+found : (pairs : List ℕ) (lo hi n : ℕ) → (numberOf pairs lo hi n ≡ 0 → ⊥) → (numberOf pairs lo hi n ≤ n) × (opens pairs (numberOf pairs lo hi n) lo hi ≡ true)
+unfolding numberOf
+found pairs lo hi zero h = absurd (h refl)
+found pairs lo hi (suc n) h = go (opens pairs (suc n) lo hi) refl h (found pairs lo hi n) where
+  go : (q : Bool) → opens pairs (suc n) lo hi ≡ q → (pick q (suc n) (numberOf pairs lo hi n) ≡ 0 → ⊥) → ((numberOf pairs lo hi n ≡ 0 → ⊥) → (numberOf pairs lo hi n ≤ n) × (opens pairs (numberOf pairs lo hi n) lo hi ≡ true)) → (pick (opens pairs (suc n) lo hi) (suc n) (numberOf pairs lo hi n) ≤ suc n) × (opens pairs (pick (opens pairs (suc n) lo hi) (suc n) (numberOf pairs lo hi n)) lo hi ≡ true)
+  go true q k ih = rw q (omega arith, q)
+  go false q k ih = let i = ih k in rw q (omega (arith, i .0), i .1)
+
+-- and it finds one where a number is open for the pair
+finds : (pairs : List ℕ) (lo hi c n : ℕ) → 0 < n → n ≤ c → opens pairs n lo hi ≡ true → numberOf pairs lo hi c ≡ 0 → ⊥
+unfolding numberOf
+finds pairs lo hi zero n z l o e = omega arith
+finds pairs lo hi (suc c) n z l o e = go (opens pairs (suc c) lo hi) refl (finds pairs lo hi c n z) e where
+  go : (q : Bool) → opens pairs (suc c) lo hi ≡ q → (n ≤ c → opens pairs n lo hi ≡ true → numberOf pairs lo hi c ≡ 0 → ⊥) → pick q (suc c) (numberOf pairs lo hi c) ≡ 0 → ⊥
+  go true q ih k = omega arith
+  go false q ih k =
+      let less = differ {n = suc c} {m = n} (λ s. no (sym q ∙ ap (λ (i : ℕ). opens pairs i lo hi) s ∙ o)) l in
+      ih (omega arith) o k
+
+-- ---- the test of a pool as facts
+-- the words of a number that is open for a pair
+words-of : (pairs : List ℕ) (n lo hi : ℕ) → opens pairs n lo hi ≡ true → (getD pairs (n * slotWords) 0 ≡ 1) × (getD pairs (n * slotWords + 1) 0 ≡ lo) × (getD pairs (n * slotWords + 2) 0 ≡ hi)
+unfolding opens
+words-of pairs n lo hi h =
+    let rest = second (eqb (getD pairs (n * slotWords) 0) 1) _ h in (
+      eqb-true _ _ (first (eqb (getD pairs (n * slotWords) 0) 1) _ h),
+      eqb-true _ _ (first (eqb (getD pairs (n * slotWords + 1) 0) lo) _ rest),
+      eqb-true _ _ (second (eqb (getD pairs (n * slotWords + 1) 0) lo) _ rest),
+    )
+
+-- such a number is not free
+marked : (pairs : List ℕ) (n lo hi : ℕ) → opens pairs n lo hi ≡ true → isFree pairs n ≡ false
+unfolding isFree
+marked pairs n lo hi h =
+    let one = words-of pairs n lo hi h .0 in
+    rw (ne-eqb (getD pairs (n * slotWords) 0) 0 (λ z. omega (arith, one, z)))
+
+-- one that is neither free nor kept free is open for its pair
+open-pair : (pairs : List ℕ) (n : ℕ) → isOpen pairs n ≡ true → opens pairs n (getD pairs (n * slotWords + 1) 0) (getD pairs (n * slotWords + 2) 0) ≡ true
+unfolding isOpen opens
+open-pair pairs n h =
+    join (first (eqb (getD pairs (n * slotWords) 0) 1) _ h) (join (eq-eqb (getD pairs (n * slotWords + 1) 0) (getD pairs (n * slotWords + 1) 0) refl) (eq-eqb (getD pairs (n * slotWords + 2) 0) (getD pairs (n * slotWords + 2) 0) refl))
+
+taken : (f k o : Bool) → f ≡ false → either f (pick k false o) ≡ true → (k ≡ false) × (o ≡ true)
+taken f true o e h = absurd (no (rw e at h))
+taken f false o e h = (refl, rw e at h)
+
+held : (p : Pool) (pairs : List ℕ) (n : ℕ) → isFree pairs n ≡ false → isSlot p pairs n ≡ true → (keptFree p n ≡ false) × (isOpen pairs n ≡ true)
+unfolding isSlot
+held p pairs n f s = taken (isFree pairs n) (keptFree p n) (isOpen pairs n) f s
+
+not-kept : (p : Pool) (n : ℕ) → keptFree p n ≡ false → (0 < n) × (n < p .counter)
+unfolding keptFree
+not-kept p n k = go (eqb n 0) (eqb n (p .spare)) (leb (p .counter) n) refl refl k where
+  go : (a b c : Bool) → eqb n 0 ≡ a → leb (p .counter) n ≡ c → either a (either b c) ≡ false → (0 < n) × (n < p .counter)
+  go true b c e f k = absurd (no (sym k))
+  go false true c e f k = absurd (no (sym k))
+  go false false true e f k = absurd (no (sym k))
+  go false false false e f k = (differ (eqb-false n 0 e) (omega arith), leb-false (p .counter) n f)
+
+-- the search for the pair of an open number finds it
+sought : (p : Pool) (pairs : List ℕ) (n lo hi : ℕ) → opens pairs n lo hi ≡ true → isFound p pairs n ≡ true → numberOf pairs lo hi (p .counter) ≡ n
+unfolding isFound
+sought p pairs n lo hi o h =
+    let w = words-of pairs n lo hi o in
+    eqb-true _ _ (rw (marked pairs n lo hi o, w .1, w .2) at h)
+
+pub record Pooled (p : Pool) (pairs : List ℕ) : Type 0 where
+  pub room : top * slotWords ≤ length pairs
+  pub counter : p .counter ≤ top
+  pub spare : p .spare < p .counter
+  pub each : (n : ℕ) → n < top + 1 → isSlot p pairs n ≡ true
+  pub one : (n m lo hi : ℕ) → n < top + 1 → m < top + 1 → opens pairs n lo hi ≡ true → opens pairs m lo hi ≡ true → n ≡ m
+
+pub facts : (p : Pool) (pairs : List ℕ) → isPool p pairs ≡ true → Pooled p pairs
+unfolding isPool
+facts p pairs h1 =
+    let h2 = second (leb (top * slotWords) (length pairs)) _ h1 in
+    let h3 = second (leb (p .counter) top) _ h2 in
+    let h4 = second (ltb (p .spare) (p .counter)) _ h3 in
+    let h5 = second (every (isSlot p pairs) (top + 1)) _ h4 in
+    record {
+      room = leb-true _ _ (first (leb (top * slotWords) (length pairs)) _ h1);
+      counter = leb-true _ _ (first (leb (p .counter) top) _ h2);
+      spare = ltb-true _ _ (first (ltb (p .spare) (p .counter)) _ h3);
+      each = λ (n : ℕ) (l : n < top + 1). every-at (isSlot p pairs) (top + 1) n (first (every (isSlot p pairs) (top + 1)) _ h4) l;
+      one = λ (n m lo hi : ℕ) (l : n < top + 1) (k : m < top + 1) (o : opens pairs n lo hi ≡ true) (q : opens pairs m lo hi ≡ true). sym (sought p pairs n lo hi o (every-at (isFound p pairs) (top + 1) n h5 l)) ∙ sought p pairs m lo hi q (every-at (isFound p pairs) (top + 1) m h5 k);
+    }
+
+found-one : (p : Pool) (pairs : List ℕ) → Pooled p pairs → (n : ℕ) → n < top + 1 → isFound p pairs n ≡ true
+unfolding isFound
+found-one p pairs h n l = go (isFree pairs n) refl where
+  it : isFree pairs n ≡ false → numberOf pairs (getD pairs (n * slotWords + 1) 0) (getD pairs (n * slotWords + 2) 0) (p .counter) ≡ n
+  it f =
+      let k = held p pairs n f (h .each n l) in
+      let o = open-pair pairs n (k .1) in
+      let b = not-kept p n (k .0) in
+      let s = found pairs (getD pairs (n * slotWords + 1) 0) (getD pairs (n * slotWords + 2) 0) (p .counter) (finds pairs (getD pairs (n * slotWords + 1) 0) (getD pairs (n * slotWords + 2) 0) (p .counter) n (b .0) (omega (arith, b .1)) o) in
+      h .one _ n (getD pairs (n * slotWords + 1) 0) (getD pairs (n * slotWords + 2) 0) (omega (arith, s .0, h .counter)) l (s .1) o
+
+  go : (q : Bool) → isFree pairs n ≡ q → either (isFree pairs n) (eqb (numberOf pairs (getD pairs (n * slotWords + 1) 0) (getD pairs (n * slotWords + 2) 0) (p .counter)) n) ≡ true
+  go true f = rw f
+  go false f = rw f (eq-eqb _ _ (it f))
+
+pub stands : (p : Pool) (pairs : List ℕ) → Pooled p pairs → isPool p pairs ≡ true
+unfolding isPool
+stands p pairs h =
+    join (le-leb _ _ (h .room))
+    (join (le-leb _ _ (h .counter))
+    (join (lt-ltb _ _ (h .spare))
+    (join (every-all (isSlot p pairs) (top + 1) (h .each))
+    (every-all (isFound p pairs) (top + 1) (found-one p pairs h)))))
+
+-- in a pool no pair is open under two numbers
+pub one-number : (p : Pool) (pairs : List ℕ) → isPool p pairs ≡ true → (n m lo hi : ℕ) → n ≤ highest → m ≤ highest → opens pairs n lo hi ≡ true → opens pairs m lo hi ≡ true → n ≡ m
+one-number p pairs h n m lo hi l k o q = facts p pairs h .one n m lo hi (omega arith) (omega arith) o q
+
+-- ---- a slot beside the one that changes, and that one
 module _ (pairs : List ℕ) (m x lo hi : ℕ) where
   beside : (n k : ℕ) → (n ≡ m → ⊥) → n * slotWords ≤ k → k < n * slotWords + 3 → getD (slot pairs m x lo hi) k 0 ≡ getD pairs k 0
   unfolding slot
@@ -73,6 +165,11 @@ module _ (pairs : List ℕ) (m x lo hi : ℕ) where
   free-beside : (n : ℕ) → (n ≡ m → ⊥) → isFree (slot pairs m x lo hi) n ≡ isFree pairs n
   unfolding isFree
   free-beside n e =
+      rw (beside n (n * slotWords) e (omega arith) (omega arith), beside n (n * slotWords + 1) e (omega arith) (omega arith), beside n (n * slotWords + 2) e (omega arith) (omega arith))
+
+  opens-beside : (n : ℕ) → (n ≡ m → ⊥) → (lo′ hi′ : ℕ) → opens (slot pairs m x lo hi) n lo′ hi′ ≡ opens pairs n lo′ hi′
+  unfolding opens
+  opens-beside n e lo′ hi′ =
       rw (beside n (n * slotWords) e (omega arith) (omega arith), beside n (n * slotWords + 1) e (omega arith) (omega arith), beside n (n * slotWords + 2) e (omega arith) (omega arith))
 
   open-beside : (n : ℕ) → (n ≡ m → ⊥) → isOpen (slot pairs m x lo hi) n ≡ isOpen pairs n
@@ -92,6 +189,16 @@ module _ (pairs : List ℕ) (m x lo hi : ℕ) where
     word-2 : getD (slot pairs m x lo hi) (m * slotWords + 2) 0 ≡ hi
     unfolding slot
     word-2 = sets-in pairs (x ∷ lo ∷ hi ∷ []) (m * slotWords) 2 room (omega arith)
+
+-- a number that was freed is open for no pair
+shut : (pairs : List ℕ) (m lo hi : ℕ) → m * slotWords + 3 ≤ length pairs → opens (slot pairs m 0 0 0) m lo hi ≡ true → ⊥
+shut pairs m lo hi room o = let w = words-of (slot pairs m 0 0 0) m lo hi o in omega (arith, w .0, word-0 pairs m 0 0 0 room)
+
+-- one that was opened is open for that pair alone
+open-for : (pairs : List ℕ) (m lo hi lo′ hi′ : ℕ) → m * slotWords + 3 ≤ length pairs → opens (slot pairs m 1 lo hi) m lo′ hi′ ≡ true → (lo′ ≡ lo) × (hi′ ≡ hi)
+open-for pairs m lo hi lo′ hi′ room o =
+    let w = words-of (slot pairs m 1 lo hi) m lo′ hi′ o in
+    (sym (w .1) ∙ word-1 pairs m 1 lo hi room, sym (w .2) ∙ word-2 pairs m 1 lo hi room)
 
 -- ---- what a slot may be
 still : (f k k′ o : Bool) → (k′ ≡ true → k ≡ true) → either f (pick k false o) ≡ true → either f (pick k′ false o) ≡ true
@@ -189,10 +296,13 @@ next-on p h l = go (eqb (p .spare) 0) refl l where
   go true q k = rw (q, le-ltb highest (p .counter) k) (omega arith, omega arith)
   go false q k = let n = eqb-false (p .spare) 0 q in rw q (differ n (omega arith), h)
 
+below-counter : (p : Pool) (pairs : List ℕ) (n lo hi : ℕ) → opens pairs n lo hi ≡ true → isSlot p pairs n ≡ true → (0 < n) × (n < p .counter)
+below-counter p pairs n lo hi o s = not-kept p n (held p pairs n (marked pairs n lo hi o) s .0)
+
 module _ (p : Pool) (pairs : List ℕ) (h : Pooled p pairs) where
-  open-kept : (lo hi : ℕ) → lo ≤ hi → Keeps pairs (openOf p pairs lo hi)
+  open-kept : (lo hi : ℕ) → lo ≤ hi → numberOf pairs lo hi (p .counter) ≡ 0 → Keeps pairs (openOf p pairs lo hi)
   unfolding openOf
-  open-kept lo hi l =
+  open-kept lo hi l unheld =
       by-test (λ (z : Hits). Keeps pairs z) (ltb highest (nextOf p)) {x = hits Full pairs} {y = hits (Number (pool (counterOf p) 0) (nextOf p)) (slot pairs (nextOf p) 1 lo hi)} (λ e. refl) (λ e. given (ltb-false highest (nextOf p) e))
     where
       given : nextOf p ≤ highest → (isPool (pool (counterOf p) 0) (slot pairs (nextOf p) 1 lo hi) ≡ true) × (0 < nextOf p) × (nextOf p ≤ highest)
@@ -205,11 +315,30 @@ module _ (p : Pool) (pairs : List ℕ) (h : Pooled p pairs) where
                   counter = on .1;
                   spare = omega (arith, next .1);
                   each = λ (n : ℕ) (k : n < top + 1). each n k (eqb n (nextOf p)) refl (on .0) (next .0) (next .1);
+                  one = λ (n m lo′ hi′ : ℕ) (k : n < top + 1) (k′ : m < top + 1) (o : opens (slot pairs (nextOf p) 1 lo hi) n lo′ hi′ ≡ true) (o′ : opens (slot pairs (nextOf p) 1 lo hi) m lo′ hi′ ≡ true). one n m lo′ hi′ k k′ o o′ (eqb n (nextOf p)) (eqb m (nextOf p)) refl refl;
                 }),
             next .0,
             small,
           )
         where
+          room : nextOf p * slotWords + 3 ≤ length pairs
+          room = omega (arith, h .room)
+
+          -- no number is open for the pair before
+          other : (m lo′ hi′ : ℕ) → m < top + 1 → (m ≡ nextOf p → ⊥) → opens (slot pairs (nextOf p) 1 lo hi) (nextOf p) lo′ hi′ ≡ true → opens (slot pairs (nextOf p) 1 lo hi) m lo′ hi′ ≡ true → ⊥
+          other m lo′ hi′ k e o o′ =
+              let w = open-for pairs (nextOf p) lo hi lo′ hi′ room o in
+              let old : opens pairs m lo hi ≡ true = rw (opens-beside pairs (nextOf p) 1 lo hi m e lo′ hi′, w .0, w .1) at o′ in
+              let b = below-counter p pairs m lo hi old (h .each m k) in
+              finds pairs lo hi (p .counter) m (b .0) (omega (arith, b .1)) old unheld
+
+          one : (n m lo′ hi′ : ℕ) → n < top + 1 → m < top + 1 → opens (slot pairs (nextOf p) 1 lo hi) n lo′ hi′ ≡ true → opens (slot pairs (nextOf p) 1 lo hi) m lo′ hi′ ≡ true → (q r : Bool) → eqb n (nextOf p) ≡ q → eqb m (nextOf p) ≡ r → n ≡ m
+          one n m lo′ hi′ k k′ o o′ true true q r = eqb-true n (nextOf p) q ∙ sym (eqb-true m (nextOf p) r)
+          one n m lo′ hi′ k k′ o o′ true false q r = absurd (other m lo′ hi′ k′ (eqb-false m (nextOf p) r) (rw (eqb-true n (nextOf p) q) at o) o′)
+          one n m lo′ hi′ k k′ o o′ false true q r = absurd (other n lo′ hi′ k (eqb-false n (nextOf p) q) (rw (eqb-true m (nextOf p) r) at o′) o)
+          one n m lo′ hi′ k k′ o o′ false false q r =
+              h .one n m lo′ hi′ k k′ (rw (opens-beside pairs (nextOf p) 1 lo hi n (eqb-false n (nextOf p) q) lo′ hi′) at o) (rw (opens-beside pairs (nextOf p) 1 lo hi m (eqb-false m (nextOf p) r) lo′ hi′) at o′)
+
           each : (n : ℕ) → n < top + 1 → (q : Bool) → eqb n (nextOf p) ≡ q → p .counter ≤ counterOf p → 0 < nextOf p → nextOf p < counterOf p → isSlot (pool (counterOf p) 0) (slot pairs (nextOf p) 1 lo hi) n ≡ true
           each n k true q on pos less =
               rw (eqb-true n (nextOf p) q)
@@ -228,58 +357,34 @@ module _ (p : Pool) (pairs : List ℕ) (h : Pooled p pairs) where
               counter = on .1;
               spare = omega (arith, on .0);
               each = λ (n : ℕ) (k : n < top + 1). each n k (eqb n r) refl (on .0);
+              one = λ (n m lo′ hi′ : ℕ) (k : n < top + 1) (k′ : m < top + 1) (o : opens (slot pairs r 0 0 0) n lo′ hi′ ≡ true) (o′ : opens (slot pairs r 0 0 0) m lo′ hi′ ≡ true). h .one n m lo′ hi′ k k′ (old n lo′ hi′ o) (old m lo′ hi′ o′);
             }),
         differ z (omega arith),
         omega (arith, h .counter),
       )
     where
+      -- what is open was open before
+      old : (n lo′ hi′ : ℕ) → opens (slot pairs r 0 0 0) n lo′ hi′ ≡ true → opens pairs n lo′ hi′ ≡ true
+      old n lo′ hi′ o =
+          rw (opens-beside pairs r 0 0 0 n (λ e. shut pairs r lo′ hi′ (omega (arith, h .room, h .counter)) (rw e at o)) lo′ hi′) at o
+
       each : (n : ℕ) → n < top + 1 → (q : Bool) → eqb n r ≡ q → p .counter ≤ counterOf p → isSlot (pool (counterOf p) r) (slot pairs r 0 0 0) n ≡ true
       each n k true q on = rw (eqb-true n r q) (slot-freed (pool (counterOf p) r) pairs r (omega (arith, h .room, h .counter)))
       each n k false q on =
           slot-beside p (pool (counterOf p) r) pairs r 0 0 0 n (eqb-false n r q) (fewer p (counterOf p) r n on (λ e. absurd (eqb-false n r q e))) (h .each n k)
 
--- the number that a search finds is open for the pair
-found : (pairs : List ℕ) (lo hi n : ℕ) → (numberOf pairs lo hi n ≡ 0 → ⊥) → (numberOf pairs lo hi n ≤ n) × (opens pairs (numberOf pairs lo hi n) lo hi ≡ true)
-unfolding numberOf
-found pairs lo hi zero h = absurd (h refl)
-found pairs lo hi (suc n) h = go (opens pairs (suc n) lo hi) refl h (found pairs lo hi n) where
-  go : (q : Bool) → opens pairs (suc n) lo hi ≡ q → (pick q (suc n) (numberOf pairs lo hi n) ≡ 0 → ⊥) → ((numberOf pairs lo hi n ≡ 0 → ⊥) → (numberOf pairs lo hi n ≤ n) × (opens pairs (numberOf pairs lo hi n) lo hi ≡ true)) → (pick (opens pairs (suc n) lo hi) (suc n) (numberOf pairs lo hi n) ≤ suc n) × (opens pairs (pick (opens pairs (suc n) lo hi) (suc n) (numberOf pairs lo hi n)) lo hi ≡ true)
-  go true q k ih = rw q (omega arith, q)
-  go false q k ih = let i = ih k in rw q (omega (arith, i .0), i .1)
-
--- such a number is not one that no pair can have
-marked : (pairs : List ℕ) (n lo hi : ℕ) → opens pairs n lo hi ≡ true → isFree pairs n ≡ false
-unfolding opens isFree
-marked pairs n lo hi h =
-    let one = eqb-true (getD pairs (n * slotWords) 0) 1 (first (eqb (getD pairs (n * slotWords) 0) 1) _ h) in
-    rw (ne-eqb (getD pairs (n * slotWords) 0) 0 (λ z. omega (arith, one, z)))
-
-taken : (f k o : Bool) → f ≡ false → either f (pick k false o) ≡ true → k ≡ false
-taken f true o e h = absurd (no (rw e at h))
-taken f false o e h = refl
-
-below-counter : (p : Pool) (pairs : List ℕ) (n lo hi : ℕ) → opens pairs n lo hi ≡ true → isSlot p pairs n ≡ true → n < p .counter
-unfolding isSlot
-below-counter p pairs n lo hi o s = go (ltb n (p .counter)) refl where
-  free : keptFree p n ≡ false
-  free = taken (isFree pairs n) (keptFree p n) (isOpen pairs n) (marked pairs n lo hi o) s
-
-  go : (q : Bool) → ltb n (p .counter) ≡ q → n < p .counter
-  go true q = ltb-true n (p .counter) q
-  go false q = absurd (no (sym free ∙ kept-true p n (beyond (ltb-false n (p .counter) q))))
-
 pair-kept : (p : Pool) (pairs : List ℕ) (lo hi : ℕ) → Pooled p pairs → lo ≤ hi → Keeps pairs (pairOf p pairs lo hi)
 unfolding pairOf calledOf
 pair-kept p pairs lo hi h l =
     by-test (λ (z : Hits). Keeps pairs z) (eqb (numberOf pairs lo hi (p .counter)) 0) {x = openOf p pairs lo hi} {y = closeOf p pairs (numberOf pairs lo hi (p .counter))}
-    (λ e. open-kept p pairs h lo hi l)
+    (λ e. open-kept p pairs h lo hi l (eqb-true (numberOf pairs lo hi (p .counter)) 0 e))
     (λ e. closed (eqb-false (numberOf pairs lo hi (p .counter)) 0 e))
   where
     closed : (numberOf pairs lo hi (p .counter) ≡ 0 → ⊥) → Keeps pairs (closeOf p pairs (numberOf pairs lo hi (p .counter)))
     closed z =
         let f = found pairs lo hi (p .counter) z in
         close-kept p pairs h (numberOf pairs lo hi (p .counter)) lo hi z
-        (below-counter p pairs (numberOf pairs lo hi (p .counter)) lo hi (f .1) (h .each (numberOf pairs lo hi (p .counter)) (omega (arith, f .0, h .counter))))
+        (below-counter p pairs (numberOf pairs lo hi (p .counter)) lo hi (f .1) (h .each (numberOf pairs lo hi (p .counter)) (omega (arith, f .0, h .counter))) .1)
 
 pub hit-kept : (p : Pool) (pairs : List ℕ) (a b : ℕ) → isPool p pairs ≡ true → Keeps pairs (hitOf p pairs a b)
 unfolding hitOf
@@ -306,4 +411,5 @@ empty-stands n h =
       counter = omega arith;
       spare = omega arith;
       each = λ (i : ℕ) (l : i < top + 1). empty-slot n i;
+      one = λ (i m lo hi : ℕ) (l : i < top + 1) (k : m < top + 1) (o : opens (replicate n 0) i lo hi ≡ true) (q : opens (replicate n 0) m lo hi ≡ true). absurd (let w = words-of (replicate n 0) i lo hi o in omega (arith, w .0, zeros-at n (i * slotWords)));
     })

@@ -8,10 +8,10 @@ use lib.Dec.{leb, eqb}
 use borrow.Author.Tests.{eq-eqb, ne-eqb}
 use Rattle.pool.specs.declared.Pool.{Pool}
 use Rattle.pool.specs.declared.Given.{Given}
-use Rattle.pool.specs.Pairs.{slotWords, hits, hitOf}
+use Rattle.pool.specs.Pairs.{slotWords, numberOf, hits, hitOf}
 use Rattle.desk_rings.specs.declared.Handed.{Handed}
 use Rattle.desk_rings.specs.declared.Handed.the-variants as handed
-use Rattle.desk_rings.specs.Slots.{isFree, keptFree, isPool, handedOf, gives, givenBy, hitD}
+use Rattle.desk_rings.specs.Slots.{isFree, keptFree, isFound, isPool, handedOf, gives, givenBy, hitD}
 
 pub free-last : (pairs : List ℕ) (n x y z : ℕ) → x ≡ getD pairs (n * slotWords) 0 → y ≡ getD pairs (n * slotWords + 1) 0 → z ≡ getD pairs (n * slotWords + 2) 0 → x ≡ 0 → y ≡ 0 → eqb z 0 ≡ isFree pairs n
 unfolding isFree
@@ -20,6 +20,10 @@ free-last pairs n x y z e f g a b = simp (eq-eqb _ _ (sym e ∙ a), eq-eqb _ _ (
 pub kept-last : (p : Pool) (n : ℕ) → (n ≡ 0 → ⊥) → (n ≡ p .spare → ⊥) → leb (p .counter) n ≡ keptFree p n
 unfolding keptFree
 kept-last p n e f = simp (ne-eqb _ _ e, ne-eqb _ _ f)
+
+pub found-last : (p : Pool) (pairs : List ℕ) (n lo hi r : ℕ) → isFree pairs n ≡ false → lo ≡ getD pairs (n * slotWords + 1) 0 → hi ≡ getD pairs (n * slotWords + 2) 0 → r ≡ numberOf pairs lo hi (p .counter) → eqb r n ≡ isFound p pairs n
+unfolding isFound
+found-last p pairs n lo hi r f e g h = simp (f, ← e, ← g, ← h)
 
 module _ (p : Pool) (pairs : List ℕ) (a b : ℕ) where
   pub bad-pool : (r : Bool) → r ≡ isPool p pairs → r ≡ false → gives handed.BadTable pairs ≡ hitD p pairs a b

@@ -4,7 +4,8 @@
 -- A table and numbers stand for a pool if the table has a slot for each number to 99, the counter is from 1 to 100 and the
 -- spare below it, and each slot is free, with three zeros, or open for a pair whose lower atom stands first. The slots of 0,
 -- of the spare and of the numbers from the counter on are free. A pair is looked for from the counter down, so that of 100 is
--- one of these; a table that ends before it has it free.
+-- one of these; a table that ends before it has it free. And no pair is open under two numbers: the search for the pair of an
+-- open number finds that number.
 use Prim.Native.Nat.{ℕ, _+_, _*_}
 use mathlib.Core.List.{List, [], _∷_}
 use mathlib.Core.Bool.{Bool, false}
@@ -14,7 +15,7 @@ use Rattle.feature.specs.Pick.{pick, both, either}
 use Rattle.pool.specs.declared.Pool.{Pool}
 use Rattle.pool.specs.declared.Given.{Given}
 use Rattle.pool.specs.declared.Given.the-variants as given
-use Rattle.pool.specs.Pairs.{slotWords, Hits, hitOf}
+use Rattle.pool.specs.Pairs.{slotWords, numberOf as numberFor, Hits, hitOf}
 use Rattle.desk_rings.specs.declared.Handed.{Handed}
 use Rattle.desk_rings.specs.declared.Handed.the-variants.{Number, RingNumbers, BadTable}
 use Rattle.feature.specs.Every.{every}
@@ -42,13 +43,19 @@ keptFree p n = either (eqb n 0) (either (eqb n (p .spare)) (leb (p .counter) n))
 unfoldable pub isSlot : Pool → List ℕ → ℕ → Bool
 isSlot p pairs n = either (isFree pairs n) (pick (keptFree p n) false (isOpen pairs n))
 
+unfoldable pub isFound : Pool → List ℕ → ℕ → Bool
+isFound p pairs n =
+    either (isFree pairs n)
+    (eqb (numberFor pairs (getD pairs (n * slotWords + 1) 0) (getD pairs (n * slotWords + 2) 0) (p .counter)) n)
+
 -- the counter is above the spare, and so from 1 on
 unfoldable pub isPool : Pool → List ℕ → Bool
 isPool p pairs =
     both (leb (top * slotWords) (length pairs))
     (both (leb (p .counter) top)
     (both (ltb (p .spare) (p .counter))
-    (every (isSlot p pairs) (top + 1))))
+    (both (every (isSlot p pairs) (top + 1))
+    (every (isFound p pairs) (top + 1)))))
 
 -- ---- the answers
 unfoldable pub handedOf : Given → Handed

@@ -3,11 +3,12 @@
 ghost use mathlib.Core.Path.{_≡_};
 ghost use Prim.Native.Nat.{_+_};
 ghost use Rattle.feature.specs.Every.{every};
-ghost use Rattle.desk_rings.specs.Slots.{top, isFree, isOpen, keptFree, isSlot, isPool, handedOf, gives, hitD};
+ghost use Rattle.desk_rings.specs.Slots.{top, isFree, isOpen, keptFree, isSlot, isFound, isPool, handedOf, gives, hitD};
 use pool::Given;
 use pool::PAIRS;
 use pool::Pool;
 use pool::SLOT_WORDS;
+use pool::find;
 use record::look;
 
 // What the counter is kept at once there. A pair is looked for from the counter down, so the slot of this one is judged too.
@@ -89,6 +90,32 @@ fn slots_stand(pairs: &[u32], p: Pool) -> bool
     true
 }
 
+// The pool's search for the pair of an open number finds that number, so that no other is open for it.
+fn is_found(pairs: &[u32], p: Pool, n: u32) -> bool
+    ensures { λ r. ⌜ r ≡ isFound p (now (pairs .entry)) n ⌝ }
+{
+    if is_free(pairs, n) {
+        return true;
+    }
+    let at = n as usize * SLOT_WORDS;
+    let lower = look(pairs, at + 1);
+    let higher = look(pairs, at + 2);
+    find(pairs, p.counter, lower, higher) == n
+}
+
+fn pairs_differ(pairs: &[u32], p: Pool) -> bool
+    ensures { λ r. ⌜ r ≡ every (isFound p (now (pairs .entry))) (top + 1) ⌝ }
+{
+    let mut n: u32 = 0;
+    while n <= TOP {
+        if !is_found(pairs, p, n) {
+            return false;
+        }
+        n += 1;
+    }
+    true
+}
+
 fn is_pool(pairs: &[u32], p: Pool) -> bool
     ensures { λ r. ⌜ r ≡ isPool p (now (pairs .entry)) ⌝ }
 {
@@ -101,7 +128,10 @@ fn is_pool(pairs: &[u32], p: Pool) -> bool
     if p.counter <= p.spare {
         return false;
     }
-    slots_stand(pairs, p)
+    if !slots_stand(pairs, p) {
+        return false;
+    }
+    pairs_differ(pairs, p)
 }
 
 // The answer of a pool that stands.

@@ -52,7 +52,7 @@ fn is_open(pairs: &[u32], number: u32, lower: u32, higher: u32) -> bool
 }
 
 // The number up to n that is open for a pair, or 0.
-fn find(pairs: &[u32], n: u32, lower: u32, higher: u32) -> u32
+pub fn find(pairs: &[u32], n: u32, lower: u32, higher: u32) -> u32
     ensures { λ r. ⌜ r ≡ numberOf (now (pairs .entry)) lower higher n ⌝ }
 {
     let mut number = n;
