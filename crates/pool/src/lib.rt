@@ -6,6 +6,7 @@
 //
 // lent: the same of a pool that is lent.
 ghost use mathlib.Core.Path.{_≡_};
+ghost use lib.ListN.{length, replicate};
 ghost use Rattle.pool.specs.Pairs.{emptyOf, opens, numberOf, slot, counterOf, nextOf, hits, openOf, closeOf, pairOf, hitOf};
 use record::look;
 use record::poke;
@@ -73,6 +74,17 @@ fn put_slot(pairs: &mut [u32], number: u32, mark: u32, lower: u32, higher: u32)
     poke(pairs, at, mark);
     poke(pairs, at + 1, lower);
     poke(pairs, at + 2, higher);
+}
+
+// No number open, whatever was.
+pub fn clear(pairs: &mut [u32])
+    ensures { λ _. ⌜ now (pairs .exit) ≡ replicate (length (now (pairs .entry))) 0 ⌝ }
+{
+    let mut at: usize = 0;
+    while at < pairs.len() {
+        pairs[at] = FREE;
+        at += 1;
+    }
 }
 
 impl Pool {

@@ -120,18 +120,18 @@ module _ (k : ℕ) (atoms bonds first : List ℕ) (n m : ℕ) (fst : first ≡ s
 -- work tables that are blank, whatever their length, are such
 module _ (atoms bonds : List ℕ) (n m : ℕ) (first met walked back taken pairs starts laid : List ℕ) (b : Blank n first met walked back taken pairs starts) (is : laid ≡ startsOf n atoms first) where
   abbrev begun : Walk
-  begun = walk startWalker met walked back taken pairs
+  begun = walk startWalker met walked back taken (zeros (length pairs))
 
   abbrev wide : List ℕ
   wide = zeros (length first)
 
   start-blank : begun ≡ fresh (length first) (length first) (length first) (length first) (zeros pairWords)
   start-blank =
-      ap (λ (x : List ℕ). walk startWalker x walked back taken pairs) (b .marks)
-      ∙ ap (λ (x : List ℕ). walk startWalker wide x back taken pairs) (b .order)
-      ∙ ap (λ (x : List ℕ). walk startWalker wide wide x taken pairs) (b .backs)
-      ∙ ap (λ (x : List ℕ). walk startWalker wide wide wide x pairs) (b .takes)
-      ∙ ap (λ (x : List ℕ). walk startWalker wide wide wide wide x) (b .slots)
+      ap (λ (x : List ℕ). walk startWalker x walked back taken (zeros (length pairs))) (b .marks)
+      ∙ ap (λ (x : List ℕ). walk startWalker wide x back taken (zeros (length pairs))) (b .order)
+      ∙ ap (λ (x : List ℕ). walk startWalker wide wide x taken (zeros (length pairs))) (b .backs)
+      ∙ ap (λ (x : List ℕ). walk startWalker wide wide wide x (zeros (length pairs))) (b .takes)
+      ∙ ap (λ (x : ℕ). walk startWalker wide wide wide wide (zeros x)) (ap length (b .slots) ∙ length-replicate {A = ℕ} pairWords 0)
 
   pub blank-written : (room : ℕ) (o out starts′ met′ walked′ back′ taken′ pairs′ : List ℕ) (z : Walker) (line : Writer) (r : Left) → o ≡ zeros room → walk z met′ walked′ back′ taken′ pairs′ ≡ walkTo (graph n atoms bonds laid) (turnsOf n m) begun → spoken line out starts′ ≡ sayAll (spoken (writer 0 0) o starts) (eventsOf (graph n atoms bonds laid) (turnsOf n m) begun) → r ≡ ended out z line → r ≡ graphWritten room atoms n bonds m
   blank-written room o out starts′ met′ walked′ back′ taken′ pairs′ z line r zo w s e =
@@ -170,10 +170,11 @@ start-is z lm lw lb met walked back taken pairs e f g =
     ∙ ap (λ (x : List ℕ). walk z (zeros lm) x back taken pairs) f
     ∙ ap (λ (x : List ℕ). walk z (zeros lm) (zeros lw) x taken pairs) g
 
-pub graph-ordered : (atoms bonds first : List ℕ) (n m lm lw lb : ℕ) (m₀ w₀ b₀ met walked back taken pairs : List ℕ) (z : Walker) (r : made.Order) → first ≡ startsOf n atoms (zeros atomLimit) → m₀ ≡ zeros lm → w₀ ≡ zeros lw → b₀ ≡ zeros lb → walk z met walked back taken pairs ≡ walkTo (graph n atoms bonds first) (turnsOf n m) (walk startWalker m₀ w₀ b₀ (zeros atomLimit) (zeros pairWords)) → r ≡ made.concluded n z walked met back → r ≡ made.graphOrdered lw lm lb atoms n bonds m
+pub graph-ordered : (atoms bonds first : List ℕ) (n m lm lw lb : ℕ) (m₀ w₀ b₀ met walked back taken pairs : List ℕ) (z : Walker) (r : made.Order) → first ≡ startsOf n atoms (zeros atomLimit) → m₀ ≡ zeros lm → w₀ ≡ zeros lw → b₀ ≡ zeros lb → walk z met walked back taken pairs ≡ walkTo (graph n atoms bonds first) (turnsOf n m) (walk startWalker m₀ w₀ b₀ (zeros atomLimit) (zeros (length (zeros pairWords)))) → r ≡ made.concluded n z walked met back → r ≡ made.graphOrdered lw lm lb atoms n bonds m
 unfolding made.graphOrdered walkIn
 graph-ordered atoms bonds first n m lm lw lb m₀ w₀ b₀ met walked back taken pairs z r f e1 e2 e3 w e =
     e
     ∙ ap (λ (x : Walk). made.concluded n (x .at) (x .walked) (x .met) (x .back))
     (walk-is atomLimit atoms bonds first n m f (startIn lm lw lb) (walk z met walked back taken pairs)
-    (w ∙ ap (λ (x : Walk). walkTo (graph n atoms bonds first) (turnsOf n m) x) (start-is startWalker lm lw lb m₀ w₀ b₀ (zeros atomLimit) (zeros pairWords) e1 e2 e3)))
+    (w ∙ ap (λ (i : ℕ). walkTo (graph n atoms bonds first) (turnsOf n m) (walk startWalker m₀ w₀ b₀ (zeros atomLimit) (zeros i))) (length-replicate {A = ℕ} pairWords 0)
+    ∙ ap (λ (x : Walk). walkTo (graph n atoms bonds first) (turnsOf n m) x) (start-is startWalker lm lw lb m₀ w₀ b₀ (zeros atomLimit) (zeros pairWords) e1 e2 e3)))

@@ -31,7 +31,7 @@ use denote.Builtin.{u8, u32, usize}
 use denote.Ref.{RefT, MutRef}
 use denote.Signature.{plain}
 use denote.Slice.{sliceVal, MutSlice, ShrSlice, shr-slice-tells, shr-slice-copy, Room, finally, slice-vals, mut-slice-tells}
-use lib.ListN.{length}
+use lib.ListN.{length, replicate}
 use denote.Steps.{only, owned, peeks, heard, nothing}
 use denote.Struct.Laws as LL
 use denote.Triple.Statement.{Contract, Triple}
@@ -141,8 +141,8 @@ module _ {M : Type 1} (𝓤 : URA M) (H : Heap 𝓤) (A : Atoms 𝓤) (W : Given
   -- what the callee says of the last lists and the last pool
   abbrev Lent : List ℕ → List ℕ → List ℕ → List ℕ → List ℕ → List ℕ → List ℕ → Pool → Turned → Type 0
   Lent met′ walked′ back′ taken′ pairs′ starts′ out′ z r =
-      (made.walk (r .walker) met′ walked′ back′ taken′ pairs′ ≡ made.walkTo (graph size (atoms .now) (bonds .now) (first .now)) (turnsOf size entries) (made.walk made.startWalker (met .now) (walked .now) (back .now) (taken .now) (pairs .now)))
-      × (spoken (r .line) out′ starts′ ≡ sayAll (spoken (writer 0 0) (out .now) (starts .now)) (made.eventsOf (graph size (atoms .now) (bonds .now) (first .now)) (turnsOf size entries) (made.walk made.startWalker (met .now) (walked .now) (back .now) (taken .now) (pairs .now))))
+      (made.walk (r .walker) met′ walked′ back′ taken′ pairs′ ≡ made.walkTo (graph size (atoms .now) (bonds .now) (first .now)) (turnsOf size entries) (made.walk made.startWalker (met .now) (walked .now) (back .now) (taken .now) (replicate (length (pairs .now)) 0)))
+      × (spoken (r .line) out′ starts′ ≡ sayAll (spoken (writer 0 0) (out .now) (starts .now)) (made.eventsOf (graph size (atoms .now) (bonds .now) (first .now)) (turnsOf size entries) (made.walk made.startWalker (met .now) (walked .now) (back .now) (taken .now) (replicate (length (pairs .now)) 0))))
       × (z ≡ r .walker .pool)
 
   -- the call of `walk_in`, with the pool p in the local l, lent for α under the name δ
@@ -164,7 +164,7 @@ module _ {M : Type 1} (𝓤 : URA M) (H : Heap 𝓤) (A : Atoms 𝓤) (W : Given
   asked : (l α : ℕ) (δ : GName) (p : Pool) → ent 𝓤 (onEntry 𝓤 H A g.signature (α ∷ [], (κ0, (κ1, (κ2, (κ3, (κ4, (κ5, (κ6, (κ7, (κ8, (κ9, tt))))))))))) (fullShare, (q0, (q1, (q2, (q3, (q4, (q5, (q6, (q7, (q8, (q9, tt))))))))))) (arg l δ p) (passed l)) (Core 𝓤 H A at-mem run .pre (to l α δ p))
   asked l α δ p = qed W ((‵ (flft (α ∷ []) fullShare) ⊛ ‵ (flft κ0 q0) ⊛ ‵ (flft κ1 q1) ⊛ ‵ (flft κ2 q2) ⊛ ‵ (flft κ3 q3) ⊛ ‵ (flft κ4 q4) ⊛ ‵ (flft κ5 q5) ⊛ ‵ (flft κ6 q6) ⊛ ‵ (flft κ7 q7) ⊛ ‵ (flft κ8 q8) ⊛ ‵ (flft κ9 q9) ⊛ ‵ ftrue) ∷ ‵ (owns (MutRef (named 0) (α ∷ []) T.the-row ∷ usize ∷ usize ∷ ShrSlice (named 1) κ0 u32 ∷ ShrSlice (named 2) κ1 u32 ∷ ShrSlice (named 3) κ2 u32 ∷ MutSlice (named 4) κ3 u32 ∷ MutSlice (named 5) κ4 u32 ∷ MutSlice (named 6) κ5 u32 ∷ MutSlice (named 7) κ6 u32 ∷ MutSlice (named 8) κ7 u32 ∷ MutSlice (named 9) κ8 u32 ∷ MutSlice (named 10) κ9 u8 ∷ []) (arg l δ p) (passed l)) ∷ []) ∵ says ! few $ frame ! $ done !
 
-  exits : (met′ walked′ back′ taken′ pairs′ starts′ out′ : List ℕ) (r : Turned) (u : Val) → Whole emptyOf size entries (atoms .now) (bonds .now) (first .now) (met .now) (walked .now) (back .now) (taken .now) (pairs .now) (starts .now) (out .now) met′ walked′ back′ taken′ pairs′ starts′ out′ r
+  exits : (met′ walked′ back′ taken′ pairs′ starts′ out′ : List ℕ) (r : Turned) (u : Val) → Whole emptyOf size entries (atoms .now) (bonds .now) (first .now) (met .now) (walked .now) (back .now) (taken .now) (replicate (length (pairs .now)) 0) (starts .now) (out .now) met′ walked′ back′ taken′ pairs′ starts′ out′ r
       → length met′ ≡ length (met .now) → length walked′ ≡ length (walked .now) → length back′ ≡ length (back .now) → length taken′ ≡ length (taken .now) → length pairs′ ≡ length (pairs .now) → length starts′ ≡ length (starts .now) → length out′ ≡ length (out .now)
       → ent 𝓤 (⋆ 𝓤 H A ((‵ (flft κ0 q0) ⊛ ‵ (flft κ1 q1) ⊛ ‵ (flft κ2 q2) ⊛ ‵ (flft κ3 q3) ⊛ ‵ (flft κ4 q4) ⊛ ‵ (flft κ5 q5) ⊛ ‵ (flft κ6 q6) ⊛ ‵ (flft κ7 q7) ⊛ ‵ (flft κ8 q8) ⊛ ‵ (flft κ9 q9) ⊛ ‵ ftrue) ∷ ‵ (S.the-row .own r (u ∷ [])) ∷ ‵ (finally u8 (out .name) out′) ∷ ‵ (finally u32 (starts .name) starts′) ∷ ‵ (finally u32 (pairs .name) pairs′) ∷ ‵ (finally u32 (taken .name) taken′) ∷ ‵ (finally u32 (back .name) back′) ∷ ‵ (finally u32 (walked .name) walked′) ∷ ‵ (finally u32 (met .name) met′) ∷ ‵ Shr-first ∷ ‵ Shr-bonds ∷ ‵ Shr-atoms ∷ [])) (Post u)
   exits met′ walked′ back′ taken′ pairs′ starts′ out′ r u said l-met l-walked l-back l-taken l-pairs l-starts l-out =

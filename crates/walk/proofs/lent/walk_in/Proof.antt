@@ -1,4 +1,4 @@
--- `walk::lent::walk_in` meets its contract: a walk of its MIR, by hand. The pool's borrow is opened and an empty pool is written whole; it is read whole and `turns::walk` is called on it, the numbers and the tables, of which those that change go to the callee for good; the pool is written whole from the answer, and the borrow is closed.
+-- `walk::lent::walk_in` meets its contract: a walk of its MIR, by hand. The pool's borrow is opened and an empty pool is written whole; it is read whole and `turns::walk_afresh` is called on it, the numbers and the tables, of which those that change go to the callee for good; the pool is written whole from the answer, and the borrow is closed.
 -- Assumes nothing.
 use mathlib.Core.Path.{_≡_, refl, ap, subst}
 use Prim.Native.Nat.{ℕ, _<_, _^_}
@@ -29,7 +29,7 @@ use denote.Builtin.{u8, u32, usize}
 use denote.Ref.{RefT, MutRef, ptr-vals, mut-tells}
 use denote.Signature.{plain}
 use denote.Slice.{sliceVal, MutSlice, ShrSlice, shr-slice-tells, shr-slice-copy, Room, finally, slice-vals, mut-slice-tells}
-use lib.ListN.{length}
+use lib.ListN.{length, replicate}
 use denote.Steps.{only, opens, closes, owned, peeks, heard, nothing}
 use denote.Struct.Steps.{spelt}
 use denote.Struct.Laws as LL
@@ -56,10 +56,10 @@ use Rattle.walk.proofs.turn.Turned.Laws as S′
 use Rattle.walk.proofs.walker.Walker as Z
 use Rattle.walk.proofs.walker.Walker.Laws as Z′
 use Rattle.walk.proofs.Whole.{Whole, mach}
-use Rattle.walk.proofs.turns.walk as g
-use Rattle.walk.proofs.turns.walk.Symbol as g-def
-use Rattle.walk.proofs.turns.walk.Symbol.{name as #core}
-use Rattle.walk.proofs.turns.walk.Met as g-thm
+use Rattle.walk.proofs.turns.walk_afresh as g
+use Rattle.walk.proofs.turns.walk_afresh.Symbol as g-def
+use Rattle.walk.proofs.turns.walk_afresh.Symbol.{name as #core}
+use Rattle.walk.proofs.turns.walk_afresh.Met as g-thm
 use Rattle.walk.proofs.lent.walk_in.Key.{name as #self}
 use Rattle.walk.proofs.lent.walk_in as f
 use Rattle.walk.proofs.lent.walk_in.Statement as stated
@@ -136,7 +136,7 @@ module _ {M : Type 1} (𝓤 : URA M) (H : Heap 𝓤) (A : Atoms 𝓤) (W : Given
   abbrev Post : Val → SProp 𝓤
   Post = walkOf 𝓤 H A f.ended stayed (f.clauses 𝓤 H A at-mem run) .post (((κp, (κ0, (κ1, (κ2, (κ3, (κ4, (κ5, (κ6, (κ7, (κ8, (κ9, tt))))))))))), (qp, (q0, (q1, (q2, (q3, (q4, (q5, (q6, (q7, (q8, (q9, tt))))))))))), bounds, x, at), tt)
 
-  -- the call of `turns::walk` with the pool p
+  -- the call of `turns::walk_afresh` with the pool p
   abbrev Arg′ : Type 0
   Arg′ = Pool × (ℕ × (ℕ × (RefT (List ℕ) × (RefT (List ℕ) × (RefT (List ℕ) × (RefT (List ℕ) × (RefT (List ℕ) × (RefT (List ℕ) × (RefT (List ℕ) × (RefT (List ℕ) × (RefT (List ℕ) × (RefT (List ℕ) × Unit {0}))))))))))))
 
@@ -152,7 +152,7 @@ module _ {M : Type 1} (𝓤 : URA M) (H : Heap 𝓤) (A : Atoms 𝓤) (W : Given
   asked : (p : Pool) → ent 𝓤 (onEntry 𝓤 H A g.signature (κ0, (κ1, (κ2, (κ3, (κ4, (κ5, (κ6, (κ7, (κ8, (κ9, tt)))))))))) (q0, (q1, (q2, (q3, (q4, (q5, (q6, (q7, (q8, (q9, tt)))))))))) (arg p) (passed p)) (Core 𝓤 H A at-mem run .pre (to p))
   asked p = qed W ((‵ (flft κ0 q0) ⊛ ‵ (flft κ1 q1) ⊛ ‵ (flft κ2 q2) ⊛ ‵ (flft κ3 q3) ⊛ ‵ (flft κ4 q4) ⊛ ‵ (flft κ5 q5) ⊛ ‵ (flft κ6 q6) ⊛ ‵ (flft κ7 q7) ⊛ ‵ (flft κ8 q8) ⊛ ‵ (flft κ9 q9) ⊛ ‵ ftrue) ∷ ‵ (owns (T.the-row ∷ usize ∷ usize ∷ ShrSlice (named 0) κ0 u32 ∷ ShrSlice (named 1) κ1 u32 ∷ ShrSlice (named 2) κ2 u32 ∷ MutSlice (named 3) κ3 u32 ∷ MutSlice (named 4) κ4 u32 ∷ MutSlice (named 5) κ5 u32 ∷ MutSlice (named 6) κ6 u32 ∷ MutSlice (named 7) κ7 u32 ∷ MutSlice (named 8) κ8 u32 ∷ MutSlice (named 9) κ9 u8 ∷ []) (arg p) (passed p)) ∷ []) ∵ says ! few $ frame ! $ done !
 
-  exits : (met′ walked′ back′ taken′ pairs′ starts′ out′ : List ℕ) (r : Turned) (u : Val) → Is S.the-row r (u ∷ []) → Whole emptyOf size entries (atoms .now) (bonds .now) (first .now) (met .now) (walked .now) (back .now) (taken .now) (pairs .now) (starts .now) (out .now) met′ walked′ back′ taken′ pairs′ starts′ out′ r
+  exits : (met′ walked′ back′ taken′ pairs′ starts′ out′ : List ℕ) (r : Turned) (u : Val) → Is S.the-row r (u ∷ []) → Whole emptyOf size entries (atoms .now) (bonds .now) (first .now) (met .now) (walked .now) (back .now) (taken .now) (replicate (length (pairs .now)) 0) (starts .now) (out .now) met′ walked′ back′ taken′ pairs′ starts′ out′ r
       → length met′ ≡ length (met .now) → length walked′ ≡ length (walked .now) → length back′ ≡ length (back .now) → length taken′ ≡ length (taken .now) → length pairs′ ≡ length (pairs .now) → length starts′ ≡ length (starts .now) → length out′ ≡ length (out .now)
       → ent 𝓤 (⋆ 𝓤 H A (‵ (fobs γ (T.the-row .coded .code (r .walker .pool))) ∷ ‵ (fbor κp (Body (mem T.the-row) b o γ)) ∷ ‵ (flft κp qp) ∷ (‵ (flft κ0 q0) ⊛ ‵ (flft κ1 q1) ⊛ ‵ (flft κ2 q2) ⊛ ‵ (flft κ3 q3) ⊛ ‵ (flft κ4 q4) ⊛ ‵ (flft κ5 q5) ⊛ ‵ (flft κ6 q6) ⊛ ‵ (flft κ7 q7) ⊛ ‵ (flft κ8 q8) ⊛ ‵ (flft κ9 q9) ⊛ ‵ ftrue) ∷ ‵ (finally u8 (out .name) out′) ∷ ‵ (finally u32 (starts .name) starts′) ∷ ‵ (finally u32 (pairs .name) pairs′) ∷ ‵ (finally u32 (taken .name) taken′) ∷ ‵ (finally u32 (back .name) back′) ∷ ‵ (finally u32 (walked .name) walked′) ∷ ‵ (finally u32 (met .name) met′) ∷ ‵ Shr-first ∷ ‵ Shr-bonds ∷ ‵ Shr-atoms ∷ [])) (Post u)
   exits met′ walked′ back′ taken′ pairs′ starts′ out′ r u isr said l-met l-walked l-back l-taken l-pairs l-starts l-out =
@@ -208,8 +208,8 @@ module _ {M : Type 1} (𝓤 : URA M) (H : Heap 𝓤) (A : Atoms 𝓤) (W : Given
         -- [what the callee asks; what first, bonds and atoms own; the struct's cell; what a Pool owns; the open borrow; obs; auth; _30; …]
         calls-at ! fm (Core 𝓤 H A at-mem run) known (to p) (and-then ! (load ! (from ! (stop !)) (look ! 37 refl)) (and-then ! (load ! (from ! (stop !)) (look ! 65 refl)) (and-then ! (load ! (from ! (stop !)) (look ! 63 refl)) (and-then ! (load ! (from ! (stop !)) (look ! 61 refl)) (and-then ! (load ! (from ! (stop !)) (look ! 59 refl)) (and-then ! (load ! (from ! (stop !)) (look ! 57 refl)) (and-then ! (load ! (from ! (stop !)) (look ! 33 refl)) (and-then ! (load ! (from ! (stop !)) (look ! 29 refl)) (and-then ! (load ! (from ! (stop !)) (look ! 25 refl)) (and-then ! (load ! (from ! (stop !)) (look ! 21 refl)) (and-then ! (load ! (from ! (stop !)) (look ! 17 refl)) (and-then ! (load ! (from ! (stop !)) (look ! 13 refl)) (and-then ! (load ! (from ! (stop !)) (look ! 9 refl)) (no-more !)))))))))))))) (λ u.
         use1 W (later (some (λ (r : Turned). ((‵ (flft κ0 q0) ⊛ ‵ (flft κ1 q1) ⊛ ‵ (flft κ2 q2) ⊛ ‵ (flft κ3 q3) ⊛ ‵ (flft κ4 q4) ⊛ ‵ (flft κ5 q5) ⊛ ‵ (flft κ6 q6) ⊛ ‵ (flft κ7 q7) ⊛ ‵ (flft κ8 q8) ⊛ ‵ (flft κ9 q9) ⊛ ‵ ftrue) ⊛ ‵ (S.the-row .own r (u ∷ []))) ⊛ raw (ensured 𝓤 H A g.ended (g.clauses 𝓤 H A at-mem run) (κ0, (κ1, (κ2, (κ3, (κ4, (κ5, (κ6, (κ7, (κ8, (κ9, tt)))))))))) (arg p) tt r)))) (id⊢ 𝓤 _) $ await ! tt $ pick ! (λ r.
-        split ! $ move ! (1 ∷ []) $ use1 W (some (λ (zs : Unit {0} × (Unit {0} × (Unit {0} × (Unit {0} × (Unit {0} × (Unit {0} × (List ℕ × (List ℕ × (List ℕ × (List ℕ × (List ℕ × (List ℕ × (List ℕ × Unit {0}))))))))))))). ‵ (lasts g.ended (κ0, (κ1, (κ2, (κ3, (κ4, (κ5, (κ6, (κ7, (κ8, (κ9, tt)))))))))) (arg p) zs) ⊛ raw (fact 𝓤 (Whole p size entries (atoms .now) (bonds .now) (first .now) (met .now) (walked .now) (back .now) (taken .now) (pairs .now) (starts .now) (out .now) (zs .1 .1 .1 .1 .1 .1 .0) (zs .1 .1 .1 .1 .1 .1 .1 .0) (zs .1 .1 .1 .1 .1 .1 .1 .1 .0) (zs .1 .1 .1 .1 .1 .1 .1 .1 .1 .0) (zs .1 .1 .1 .1 .1 .1 .1 .1 .1 .1 .0) (zs .1 .1 .1 .1 .1 .1 .1 .1 .1 .1 .1 .0) (zs .1 .1 .1 .1 .1 .1 .1 .1 .1 .1 .1 .1 .0) r)))) (id⊢ 𝓤 _) $ pick ! (λ zs.
-        split ! $ move ! (1 ∷ []) $ heard ! (Whole p size entries (atoms .now) (bonds .now) (first .now) (met .now) (walked .now) (back .now) (taken .now) (pairs .now) (starts .now) (out .now) (zs .1 .1 .1 .1 .1 .1 .0) (zs .1 .1 .1 .1 .1 .1 .1 .0) (zs .1 .1 .1 .1 .1 .1 .1 .1 .0) (zs .1 .1 .1 .1 .1 .1 .1 .1 .1 .0) (zs .1 .1 .1 .1 .1 .1 .1 .1 .1 .1 .0) (zs .1 .1 .1 .1 .1 .1 .1 .1 .1 .1 .1 .0) (zs .1 .1 .1 .1 .1 .1 .1 .1 .1 .1 .1 .1 .0) r) (λ said. fsplit ! $ drop ! $ fsplit ! $ drop ! $ fsplit ! $ drop ! $ fsplit ! $ drop ! $ fsplit ! $ drop ! $ fsplit ! $ drop ! $
+        split ! $ move ! (1 ∷ []) $ use1 W (some (λ (zs : Unit {0} × (Unit {0} × (Unit {0} × (Unit {0} × (Unit {0} × (Unit {0} × (List ℕ × (List ℕ × (List ℕ × (List ℕ × (List ℕ × (List ℕ × (List ℕ × Unit {0}))))))))))))). ‵ (lasts g.ended (κ0, (κ1, (κ2, (κ3, (κ4, (κ5, (κ6, (κ7, (κ8, (κ9, tt)))))))))) (arg p) zs) ⊛ raw (fact 𝓤 (Whole p size entries (atoms .now) (bonds .now) (first .now) (met .now) (walked .now) (back .now) (taken .now) (replicate (length (pairs .now)) 0) (starts .now) (out .now) (zs .1 .1 .1 .1 .1 .1 .0) (zs .1 .1 .1 .1 .1 .1 .1 .0) (zs .1 .1 .1 .1 .1 .1 .1 .1 .0) (zs .1 .1 .1 .1 .1 .1 .1 .1 .1 .0) (zs .1 .1 .1 .1 .1 .1 .1 .1 .1 .1 .0) (zs .1 .1 .1 .1 .1 .1 .1 .1 .1 .1 .1 .0) (zs .1 .1 .1 .1 .1 .1 .1 .1 .1 .1 .1 .1 .0) r)))) (id⊢ 𝓤 _) $ pick ! (λ zs.
+        split ! $ move ! (1 ∷ []) $ heard ! (Whole p size entries (atoms .now) (bonds .now) (first .now) (met .now) (walked .now) (back .now) (taken .now) (replicate (length (pairs .now)) 0) (starts .now) (out .now) (zs .1 .1 .1 .1 .1 .1 .0) (zs .1 .1 .1 .1 .1 .1 .1 .0) (zs .1 .1 .1 .1 .1 .1 .1 .1 .0) (zs .1 .1 .1 .1 .1 .1 .1 .1 .1 .0) (zs .1 .1 .1 .1 .1 .1 .1 .1 .1 .1 .0) (zs .1 .1 .1 .1 .1 .1 .1 .1 .1 .1 .1 .0) (zs .1 .1 .1 .1 .1 .1 .1 .1 .1 .1 .1 .1 .0) r) (λ said. fsplit ! $ drop ! $ fsplit ! $ drop ! $ fsplit ! $ drop ! $ fsplit ! $ drop ! $ fsplit ! $ drop ! $ fsplit ! $ drop ! $
         fsplit ! $ fsplit ! $ move ! (1 ∷ []) $ feqL ! (λ l-met. move ! (1 ∷ []) $
         fsplit ! $ fsplit ! $ move ! (1 ∷ []) $ feqL ! (λ l-walked. move ! (1 ∷ []) $
         fsplit ! $ fsplit ! $ move ! (1 ∷ []) $ feqL ! (λ l-back. move ! (1 ∷ []) $
@@ -230,7 +230,7 @@ module _ {M : Type 1} (𝓤 : URA M) (H : Heap 𝓤) (A : Atoms 𝓤) (W : Given
         drop ! $ move ! (12 ∷ []) $ drop ! $ owned ! T.the-row (Is T.the-row) ((LL.makes T.the-type T′.the-plain) 𝓤 H A) (r .walker .pool) _ (LL.owes T.the-type T′.the-laws (r .walker .pool) ownP) $ move ! (12 ∷ 0 ∷ 13 ∷ 14 ∷ 15 ∷ []) $ closes ! tt T.the-row (r .walker .pool) (mach (r .walker .pool) ∷ []) b o $
         returns ! (look ! 74 refl) $ forget ! 14 refl $ forget ! 16 refl $ forget ! 18 refl $ forget ! 20 refl $ forget ! 22 refl $ forget ! 24 refl $ forget ! 26 refl $ forget ! 28 refl $ forget ! 30 refl $ forget ! 32 refl $ forget ! 34 refl $ forget ! 36 refl $ forget ! 38 refl $ forget ! 40 refl $ forget ! 42 refl $ forget ! 44 refl $ forget ! 46 refl $ forget ! 48 refl $ forget ! 50 refl $ forget ! 52 refl $ forget ! 54 refl $ forget ! 56 refl $ forget ! 58 refl $ forget ! 60 refl $ forget ! 62 refl $ forget ! 64 refl $ forget ! 66 refl $ forget ! 68 refl $ forget ! 70 refl $ forget ! 72 refl $ forget ! 74 refl $
         move ! (74 ∷ 75 ∷ []) $ free1 ! $ move ! (72 ∷ 73 ∷ []) $ free1 ! $ move ! (70 ∷ 71 ∷ []) $ free1 ! $ move ! (68 ∷ 69 ∷ []) $ free1 ! $ move ! (66 ∷ 67 ∷ []) $ free1 ! $ move ! (64 ∷ 65 ∷ []) $ free1 ! $ move ! (62 ∷ 63 ∷ []) $ free1 ! $ move ! (60 ∷ 61 ∷ []) $ free1 ! $ move ! (58 ∷ 59 ∷ []) $ free1 ! $ move ! (56 ∷ 57 ∷ []) $ free1 ! $ move ! (54 ∷ 55 ∷ []) $ free1 ! $ move ! (52 ∷ 53 ∷ []) $ free1 ! $ move ! (50 ∷ 51 ∷ []) $ free1 ! $ move ! (48 ∷ 49 ∷ []) $ free1 ! $ move ! (46 ∷ 47 ∷ []) $ free1 ! $ move ! (44 ∷ 45 ∷ []) $ free1 ! $ move ! (42 ∷ 43 ∷ []) $ free1 ! $ move ! (40 ∷ 41 ∷ []) $ free1 ! $ move ! (38 ∷ 39 ∷ []) $ free1 ! $ move ! (36 ∷ 37 ∷ []) $ free1 ! $ move ! (34 ∷ 35 ∷ []) $ free1 ! $ move ! (32 ∷ 33 ∷ []) $ free1 ! $ move ! (30 ∷ 31 ∷ []) $ free1 ! $ move ! (28 ∷ 29 ∷ []) $ free1 ! $ move ! (26 ∷ 27 ∷ []) $ free1 ! $ move ! (24 ∷ 25 ∷ []) $ free1 ! $ move ! (22 ∷ 23 ∷ []) $ free1 ! $ move ! (20 ∷ 21 ∷ []) $ free1 ! $ move ! (18 ∷ 19 ∷ []) $ free1 ! $ move ! (16 ∷ 17 ∷ []) $ free1 ! $ move ! (14 ∷ 15 ∷ []) $ free1 ! $ free0 ! $
-        by ! (exits (zs .1 .1 .1 .1 .1 .1 .0) (zs .1 .1 .1 .1 .1 .1 .1 .0) (zs .1 .1 .1 .1 .1 .1 .1 .1 .0) (zs .1 .1 .1 .1 .1 .1 .1 .1 .1 .0) (zs .1 .1 .1 .1 .1 .1 .1 .1 .1 .1 .0) (zs .1 .1 .1 .1 .1 .1 .1 .1 .1 .1 .1 .0) (zs .1 .1 .1 .1 .1 .1 .1 .1 .1 .1 .1 .1 .0) r _ (LL.owes S.the-type S′.the-laws r own) (subst (λ (k : Pool). Whole k size entries (atoms .now) (bonds .now) (first .now) (met .now) (walked .now) (back .now) (taken .now) (pairs .now) (starts .now) (out .now) (zs .1 .1 .1 .1 .1 .1 .0) (zs .1 .1 .1 .1 .1 .1 .1 .0) (zs .1 .1 .1 .1 .1 .1 .1 .1 .0) (zs .1 .1 .1 .1 .1 .1 .1 .1 .1 .0) (zs .1 .1 .1 .1 .1 .1 .1 .1 .1 .1 .0) (zs .1 .1 .1 .1 .1 .1 .1 .1 .1 .1 .1 .0) (zs .1 .1 .1 .1 .1 .1 .1 .1 .1 .1 .1 .1 .0) r) pe said) l-met l-walked l-back l-taken l-pairs l-starts l-out)))))))))))))))))))))))))))))))))))))))))))))))))
+        by ! (exits (zs .1 .1 .1 .1 .1 .1 .0) (zs .1 .1 .1 .1 .1 .1 .1 .0) (zs .1 .1 .1 .1 .1 .1 .1 .1 .0) (zs .1 .1 .1 .1 .1 .1 .1 .1 .1 .0) (zs .1 .1 .1 .1 .1 .1 .1 .1 .1 .1 .0) (zs .1 .1 .1 .1 .1 .1 .1 .1 .1 .1 .1 .0) (zs .1 .1 .1 .1 .1 .1 .1 .1 .1 .1 .1 .1 .0) r _ (LL.owes S.the-type S′.the-laws r own) (subst (λ (k : Pool). Whole k size entries (atoms .now) (bonds .now) (first .now) (met .now) (walked .now) (back .now) (taken .now) (replicate (length (pairs .now)) 0) (starts .now) (out .now) (zs .1 .1 .1 .1 .1 .1 .0) (zs .1 .1 .1 .1 .1 .1 .1 .0) (zs .1 .1 .1 .1 .1 .1 .1 .1 .0) (zs .1 .1 .1 .1 .1 .1 .1 .1 .1 .0) (zs .1 .1 .1 .1 .1 .1 .1 .1 .1 .1 .0) (zs .1 .1 .1 .1 .1 .1 .1 .1 .1 .1 .1 .0) (zs .1 .1 .1 .1 .1 .1 .1 .1 .1 .1 .1 .1 .0) r) pe said) l-met l-walked l-back l-taken l-pairs l-starts l-out)))))))))))))))))))))))))))))))))))))))))))))))))
 
 module _ {M : Type 1} (𝓤 : URA M) (H : Heap 𝓤) (A : Atoms 𝓤) (W : Given 𝓤 H A) (at-mem : Memory → SProp 𝓤) (run : Routine → Fun 𝓤) where
   steps : (C : Calls 𝓤 H) (Λ : Loops 𝓤 H) → FmC 𝓤 H (W .laws) C → Triple 𝓤 (C #empty) (Empty 𝓤 H A at-mem run) → Triple 𝓤 (C #core) (Core 𝓤 H A at-mem run)
@@ -256,4 +256,4 @@ walk-in-spec 𝓤 H 𝓜 𝓖 𝓡 =
     (tables 𝓤 H 𝓜 𝓡 code.env .C) (tables 𝓤 H 𝓜 𝓡 code.env .Λ) #self code.function (code.unfolded 𝓤 H 𝓜 𝓡)
     (meets 𝓤 H (𝓖 .A) (givenOf 𝓤 H 𝓜 𝓖) (𝓜 .mem) (𝓡 .run) (tablesOf 𝓤 H 𝓜 (tables 𝓤 H 𝓜 𝓡 code.env))
     (cited 𝓤 H (Empty 𝓤 H (𝓖 .A) (𝓜 .mem) (𝓡 .run)) 𝓜 𝓡 code.env #empty e-def.routine code.calls-pool·Pool·empty (e-thm.met 𝓤 H 𝓜 𝓖 𝓡))
-    (cited 𝓤 H (Core 𝓤 H (𝓖 .A) (𝓜 .mem) (𝓡 .run)) 𝓜 𝓡 code.env #core g-def.routine code.calls-walk·turns·walk (g-thm.met 𝓤 H 𝓜 𝓖 𝓡)))
+    (cited 𝓤 H (Core 𝓤 H (𝓖 .A) (𝓜 .mem) (𝓡 .run)) 𝓜 𝓡 code.env #core g-def.routine code.calls-walk·turns·walk-afresh (g-thm.met 𝓤 H 𝓜 𝓖 𝓡)))
