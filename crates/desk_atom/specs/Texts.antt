@@ -9,6 +9,7 @@ use mathlib.Core.List.{List, [], _∷_, _++_}
 use lib.ListN.{length, replicate}
 use lib.Dec.{ltb}
 use Rattle.feature.specs.Pick.{pick}
+use Rattle.desk_numbers.specs.Numbers.{Told, told, done, endOfLine, character, outRoom, badTable}
 use Rattle.feature.specs.Kinds.{inRange}
 use Rattle.feature.specs.declared.atom_kind.AtomKind.{AtomKind}
 use Rattle.graph.specs.Rings.{numbers}
@@ -34,42 +35,45 @@ beginsBy text (found.Atom k next) = begins.Atom k next
 beginsBy text found.Nothing = lackedOf (missingAt text 0)
 beginsBy text (found.Lacks m) = lackedOf m
 
-unfoldable pub firstAtom : List ℕ → Begins
-firstAtom text = beginsBy text (atomAt text 0)
+-- an answer in the scope's numbers
+unfoldable pub beginsTold : Begins → Told
+beginsTold (begins.Atom k next) = told done (next ∷ [])
+beginsTold begins.EndOfLine = told endOfLine []
+beginsTold (begins.Character place) = told character (place ∷ [])
 
--- the desk's number for an answer, and the place that goes with it
-unfoldable pub readNumber : Begins → ℕ
-readNumber (begins.Atom k next) = 0
-readNumber begins.EndOfLine = 1
-readNumber (begins.Character place) = 2
+-- the kind that was read; a refusal has none
+unfoldable pub kindsIn : Begins → List AtomKind
+kindsIn (begins.Atom k next) = k ∷ []
+kindsIn begins.EndOfLine = []
+kindsIn (begins.Character place) = []
 
-unfoldable pub placeIn : Begins → List ℕ
-placeIn (begins.Atom k next) = next ∷ []
-placeIn begins.EndOfLine = []
-placeIn (begins.Character place) = place ∷ []
+pub record Reads : Type 0 where
+  pub told : Told
+  pub kinds : List AtomKind
+
+abbrev pub reads : Begins → Reads
+reads b = record { told = beginsTold b; kinds = kindsIn b }
+
+unfoldable pub firstAtom : List ℕ → Reads
+firstAtom text = reads (beginsBy text (atomAt text 0))
 
 -- ---- spelling
 -- what a call answers, with the output that it leaves
 pub record Spells : Type 0 where
-  pub answer : Spelt
+  pub told : Told
   pub out : List ℕ
 
+-- an answer in the scope's numbers
+unfoldable pub speltTold : Spelt → Told
+speltTold (Written n) = told done (n ∷ [])
+speltTold (OutRoom n) = told outRoom (n ∷ [])
+speltTold BadTable = told badTable (0 ∷ [])
+
 abbrev pub spelt : Spelt → List ℕ → Spells
-spelt r out = record { answer = r; out = out }
+spelt r out = record { told = speltTold r; out = out }
 
 abbrev pub zeros : ℕ → List ℕ
 zeros n = replicate n 0
-
--- the desk's number for an answer, and what goes with it
-unfoldable pub numberOf : Spelt → ℕ
-numberOf (Written n) = 0
-numberOf (OutRoom n) = 16
-numberOf BadTable = 17
-
-unfoldable pub carriedBy : Spelt → List ℕ
-carriedBy (Written n) = n ∷ []
-carriedBy (OutRoom n) = n ∷ []
-carriedBy BadTable = 0 ∷ []
 
 -- an output after a text of so many bytes was laid in it as far as there was room
 unfoldable pub settled : List ℕ → ℕ → Spells

@@ -3,7 +3,7 @@
 ghost use mathlib.Core.Path.{_≡_};
 ghost use lib.ListN.{length, replicate};
 ghost use Rattle.spell.specs.Spell.{bondText};
-ghost use Rattle.desk_atom.specs.Texts.{lackedOf, firstAtom, spelt, settled, texted, atomD, rnumD};
+ghost use Rattle.desk_atom.specs.Texts.{lackedOf, reads, firstAtom, spelt, settled, texted, atomD, rnumD};
 use feature::atom_kind::AtomKind;
 use feature::atom_kind::in_range;
 use feature::bond_kind::BondKind;
@@ -39,7 +39,7 @@ fn lacked(m: Missing) -> Begins
 
 // The atom that a text begins with.
 pub fn read_atom(text: &[u8]) -> Begins
-    ensures { λ r. ⌜ r ≡ firstAtom (now (text .entry)) ⌝ }
+    ensures { λ r. ⌜ reads r ≡ firstAtom (now (text .entry)) ⌝ }
 {
     match held::read_atom::read_atom(text, 0) {
         Found::Atom(k, next) => Begins::Atom(k, next),

@@ -1,4 +1,5 @@
 pub mod Stands
 pub mod WriterKept
-pub mod Again
 pub mod Results
+pub mod Again
+pub mod OnPieces

@@ -2,7 +2,7 @@
 -- its line is below 2^31. A writer that holds nothing stands, whatever was lent. Assumes nothing.
 use Prim.{⊥}
 use Prim.Native.Nat.{ℕ, zero, suc, _+_, _-_, _≤_, _<_}
-use mathlib.Core.Path.{_≡_, refl, sym, _∙_}
+use mathlib.Core.Path.{_≡_, refl, sym, ap, _∙_}
 use mathlib.Core.Bool.{Bool, true, false}
 use mathlib.Core.List.{List, _++_}
 use native.Mathlib.Omega.{arith}
@@ -81,6 +81,34 @@ within starts w h (suc k) i e =
     let b = end-inner starts w i (omega arith) in
     let c = within starts w h k (i + 1) (omega arith) in
     omega (arith, a, b, c)
+
+pub starts-within : (starts : List ℕ) (w : Writer) → Laid starts w → (i : ℕ) → i < w .pieces → getD starts i 0 ≤ w .len
+starts-within starts w h i l = within starts w h (w .pieces - i - 1) i (omega arith)
+
+-- the pieces before the last one, which end where that one starts
+pub laid-before : (starts : List ℕ) (n end : ℕ) → Laid starts (writer (suc n) end) → Laid starts (writer n (getD starts n 0))
+laid-before starts n end h =
+    record {
+      none = λ z. ap (λ (i : ℕ). getD starts i 0) z ∙ h .nought (omega arith);
+      nought = λ z. h .nought (omega arith);
+      each = λ (i : ℕ) (l : i < n). go i l (ltb (i + 1) n) refl;
+    }
+  where
+    go : (i : ℕ) → i < n → (q : Bool) → ltb (i + 1) n ≡ q → getD starts i 0 ≤ endOf starts (writer n (getD starts n 0)) i
+    go i l true q =
+        let j = ltb-true (i + 1) n q in
+        let a = h .each i (omega arith) in
+        let b = end-inner starts (writer (suc n) end) i (omega arith) in
+        let c = end-inner starts (writer n (getD starts n 0)) i j in
+        omega (arith, a, b, c)
+    go i l false q =
+        let j = ltb-false (i + 1) n q in
+        let a = h .each i (omega arith) in
+        let b = end-inner starts (writer (suc n) end) i (omega arith) in
+        let c = end-last starts (writer n (getD starts n 0)) i j in
+        let e : i + 1 ≡ n = omega arith in
+        let d : getD starts (i + 1) 0 ≡ getD starts n 0 = ap (λ (k : ℕ). getD starts k 0) e in
+        omega (arith, a, b, c, d)
 
 -- ---- a piece more, which starts where the line ends
 module _ (starts : List ℕ) (w : Writer) (h : Laid starts w) (n : ℕ) (room : w .pieces < length starts) where
@@ -203,7 +231,7 @@ fitting-kept s n h =
     (λ q. (refl, refl))
     (λ q l. stands (spoken (n .at) (n .out) (n .starts)) (h (ltb-false (length (s .out)) (n .at .len) q) l))
 
-room-held : (starts : List ℕ) → pieceRoom starts ≤ length starts
+pub room-held : (starts : List ℕ) → pieceRoom starts ≤ length starts
 unfolding pieceRoom lesserOf
 room-held starts =
     by-test (λ (z : ℕ). z ≤ length starts) (ltb (length starts) atomLimit) {x = length starts} {y = atomLimit} (λ q. omega arith) (λ q. ltb-false (length starts) atomLimit q)

@@ -3,13 +3,15 @@
 ghost use mathlib.Core.Path.{_≡_};
 ghost use mathlib.Core.Bool.{true};
 ghost use Prim.Native.Nat.{_<_};
-ghost use lib.Dec.{ltb};
+ghost use lib.Dec.{eqb, ltb};
+ghost use Rattle.feature.specs.Pick.{pick};
+ghost use Rattle.desk_lines.specs.declared.Said.the-variants.{Held};
 ghost use Rattle.feature.specs.Kinds.{inRange};
 ghost use Rattle.graph.specs.Rings.{numbers};
 ghost use Rattle.writer.specs.Line.{Event};
 ghost use Rattle.writer.specs.Tables.{spoken};
 ghost use Rattle.feature.specs.Every.{every};
-ghost use Rattle.desk_lines.specs.Pieces.{isPiece, piecesStand, isWriter, saidOf, left, eventD};
+ghost use Rattle.desk_lines.specs.Pieces.{isPiece, piecesStand, isWriter, clearedFrom, tailOf, saidOf, left, eventD};
 use feature::atom_kind::AtomKind;
 use feature::atom_kind::in_range;
 use feature::bond_kind::BondKind;
@@ -88,12 +90,36 @@ fn is_writer(out: &[u8], starts: &[u32], w: Writer) -> bool
     pieces_stand(starts, w)
 }
 
-// The answer to an event of a writer that stands.
-fn answer(r: Wrote) -> Said
-    ensures { λ a. ⌜ a ≡ saidOf r ⌝ }
+// Zeros from a place on.
+fn clear_from(out: &mut [u8], from: usize)
+    ensures { λ _. ⌜ now (out .exit) ≡ clearedFrom from (now (out .entry)) ⌝ }
+{
+    let mut at = from;
+    while at < out.len() {
+        out[at] = 0;
+        at += 1;
+    }
+}
+
+// A writer that an event has brought to another state. Where no piece was held, nothing is known of the bytes after the line,
+// so they are cleared. Later events lay bytes after the line only, so there it stays as it is: to clear it each time would
+// make a line's cost grow with its length times the output's.
+fn held(out: &mut [u8], before: Writer, w: Writer) -> Said
+    ensures { λ r. ⌜ (r ≡ Held w) × (now (out .exit) ≡ pick (eqb (before .pieces) 0) (clearedFrom (w .len) (now (out .entry))) (now (out .entry))) ⌝ }
+{
+    if before.pieces != 0 {
+        return Said::Held(w);
+    }
+    clear_from(out, w.len);
+    Said::Held(w)
+}
+
+// The answer to an event of a writer that stands, and what is left of the output.
+fn answer(out: &mut [u8], before: Writer, r: Wrote) -> Said
+    ensures { λ a. ⌜ (a ≡ saidOf r) × (now (out .exit) ≡ tailOf before r (now (out .entry))) ⌝ }
 {
     match r {
-        Wrote::Held(w) => Said::Held(w),
+        Wrote::Held(w) => held(out, before, w),
         Wrote::AtomRoom(n) => Said::AtomRoom(n),
         Wrote::OutRoom(n) => Said::OutRoom(n),
         Wrote::NoPiece => Said::NoPiece,
@@ -111,7 +137,8 @@ pub fn root(out: &mut [u8], starts: &mut [u32], w: Writer, k: AtomKind) -> Said
     if !is_writer(out, starts, w) {
         return Said::BadTable;
     }
-    answer(event::root(out, starts, w, k))
+    let wrote = event::root(out, starts, w, k);
+    answer(out, w, wrote)
 }
 
 // An atom bonded to the one before.
@@ -124,7 +151,8 @@ pub fn extend(out: &mut [u8], starts: &mut [u32], w: Writer, b: BondKind, k: Ato
     if !is_writer(out, starts, w) {
         return Said::BadTable;
     }
-    answer(event::extend(out, starts, w, b, k))
+    let wrote = event::extend(out, starts, w, b, k);
+    answer(out, w, wrote)
 }
 
 // A ring number at the last piece.
@@ -137,7 +165,8 @@ pub fn join(out: &mut [u8], starts: &mut [u32], w: Writer, b: BondKind, n: u32) 
     if !is_writer(out, starts, w) {
         return Said::BadTable;
     }
-    answer(event::join(out, starts, w, b, n))
+    let wrote = event::join(out, starts, w, b, n);
+    answer(out, w, wrote)
 }
 
 // The last pieces, so many, put in brackets onto the piece before.
@@ -147,5 +176,6 @@ pub fn pop(out: &mut [u8], starts: &mut [u32], w: Writer, d: usize) -> Said
     if !is_writer(out, starts, w) {
         return Said::BadTable;
     }
-    answer(event::pop(out, starts, w, d))
+    let wrote = event::pop(out, starts, w, d);
+    answer(out, w, wrote)
 }

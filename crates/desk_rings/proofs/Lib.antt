@@ -1,5 +1,5 @@
 pub mod Both
 pub mod Stands
 pub mod PoolKept
-pub mod Again
 pub mod Results
+pub mod Again

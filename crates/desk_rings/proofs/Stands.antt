@@ -26,13 +26,13 @@ unfolding isFound
 found-last p pairs n lo hi r f e g h = simp (f, ← e, ← g, ← h)
 
 module _ (p : Pool) (pairs : List ℕ) (a b : ℕ) where
-  pub bad-pool : (r : Bool) → r ≡ isPool p pairs → r ≡ false → gives handed.BadTable pairs ≡ hitD p pairs a b
+  pub bad-pool : (r : Bool) → r ≡ isPool p pairs → r ≡ false → gives a b handed.BadTable pairs ≡ hitD p pairs a b
   unfolding hitD
   bad-pool r w f = simp (← w, f)
 
-  pub pooled : (r : Bool) (g : Given) (h : Handed) (l : List ℕ) → r ≡ isPool p pairs → r ≡ true → hits g l ≡ hitOf p pairs a b → h ≡ handedOf g → gives h l ≡ hitD p pairs a b
+  pub pooled : (r : Bool) (g : Given) (h : Handed) (l : List ℕ) → r ≡ isPool p pairs → r ≡ true → hits g l ≡ hitOf p pairs a b → h ≡ handedOf g → gives a b h l ≡ hitD p pairs a b
   unfolding hitD givenBy
   pooled r g h l w f d e =
-      ap (λ (x : Handed). gives x l) e
-      ∙ ap givenBy d
+      ap (λ (x : Handed). gives a b x l) e
+      ∙ ap (givenBy a b) d
       ∙ simp (← w, f)

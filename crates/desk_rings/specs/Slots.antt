@@ -19,6 +19,7 @@ use Rattle.pool.specs.Pairs.{slotWords, numberOf as numberFor, Hits, hitOf}
 use Rattle.desk_rings.specs.declared.Handed.{Handed}
 use Rattle.desk_rings.specs.declared.Handed.the-variants.{Number, RingNumbers, BadTable}
 use Rattle.feature.specs.Every.{every}
+use Rattle.desk_numbers.specs.Numbers.{Told, told, done, ringNumbers, badTable}
 
 -- what the counter is kept at once there
 abbrev pub top : ℕ
@@ -62,28 +63,30 @@ unfoldable pub handedOf : Given → Handed
 handedOf (given.Number p n) = Number p n
 handedOf given.Full = RingNumbers
 
--- the desk's number for each, and what goes with it where the call is for the atoms a and b
-unfoldable pub numberOf : Handed → ℕ
-numberOf (Number p n) = 0
-numberOf RingNumbers = 11
-numberOf BadTable = 17
+-- an answer in the scope's numbers, where the call is for the atoms a and b
+unfoldable pub toldOf : ℕ → ℕ → Handed → Told
+toldOf a b (Number p n) = told done (n ∷ [])
+toldOf a b RingNumbers = told ringNumbers (a ∷ b ∷ [])
+toldOf a b BadTable = told badTable (0 ∷ [])
 
-unfoldable pub carriedBy : ℕ → ℕ → Handed → List ℕ
-carriedBy a b (Number p n) = n ∷ []
-carriedBy a b RingNumbers = a ∷ b ∷ []
-carriedBy a b BadTable = 0 ∷ []
+-- the numbers of the pool that it hands back; a refusal hands back none
+unfoldable pub stateIn : Handed → List ℕ
+stateIn (Number p n) = p .counter ∷ p .spare ∷ []
+stateIn RingNumbers = []
+stateIn BadTable = []
 
 -- ---- the call
--- what it answers, with the words that it leaves
+-- what it answers for the atoms a and b, the pool that it hands back and the words that it leaves
 pub record Gives : Type 0 where
-  pub answer : Handed
+  pub told : Told
+  pub state : List ℕ
   pub left : List ℕ
 
-abbrev pub gives : Handed → List ℕ → Gives
-gives r pairs = record { answer = r; left = pairs }
+abbrev pub gives : ℕ → ℕ → Handed → List ℕ → Gives
+gives a b r pairs = record { told = toldOf a b r; state = stateIn r; left = pairs }
 
-unfoldable pub givenBy : Hits → Gives
-givenBy h = gives (handedOf (h .answer)) (h .left)
+unfoldable pub givenBy : ℕ → ℕ → Hits → Gives
+givenBy a b h = gives a b (handedOf (h .answer)) (h .left)
 
 unfoldable pub hitD : Pool → List ℕ → ℕ → ℕ → Gives
-hitD p pairs a b = pick (isPool p pairs) (givenBy (hitOf p pairs a b)) (gives BadTable pairs)
+hitD p pairs a b = pick (isPool p pairs) (givenBy a b (hitOf p pairs a b)) (gives a b BadTable pairs)

@@ -146,7 +146,7 @@ fn answer(g: Given) -> Handed
 
 // A call for the pair of two atoms: the first opens a number for it, the next closes it.
 pub fn hit(pairs: &mut [u32], p: Pool, a: u32, b: u32) -> Handed
-    ensures { λ r. ⌜ gives r (now (pairs .exit)) ≡ hitD p (now (pairs .entry)) a b ⌝ }
+    ensures { λ r. ⌜ gives a b r (now (pairs .exit)) ≡ hitD p (now (pairs .entry)) a b ⌝ }
 {
     if !is_pool(pairs, p) {
         return Handed::BadTable;

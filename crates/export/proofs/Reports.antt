@@ -1,8 +1,10 @@
 -- What a call leaves, taken apart, and the words of its report. Assumes nothing.
-use Prim.Native.Nat.{ℕ}
+use Prim.Native.Nat.{ℕ, _≤_, _<_}
 use mathlib.Core.Path.{_≡_, _∙_, refl, sym, ap}
 use mathlib.Core.List.{List}
+use lib.ListN.{length}
 use lib.Seq.{sets}
+use borrow.Author.Tests.{lt-ltb, le-ltb}
 use Rattle.read.specs.declared.Answer.{Answer}
 use Rattle.read.specs.Read.{Said, said}
 use Rattle.write.specs.declared.answer.Written.{Written}
@@ -15,13 +17,29 @@ use Rattle.builder.specs.declared.calls.Answer.the-variants as built
 use Rattle.record.specs.Words.{listed}
 use Rattle.record.specs.declared.Pair.{Pair}
 use Rattle.desk_atom.specs.declared.Begins.{Begins}
+use Rattle.desk_atom.specs.Texts.{zeros, kindsIn, reads, firstAtom}
+use Rattle.desk_lines.specs.declared.Said as lines
+use Rattle.desk_lines.specs.declared.Said.the-variants as said
+use Rattle.desk_lines.specs.Pieces.{stateIn}
+use Rattle.desk_rings.specs.declared.Handed.{Handed}
+use Rattle.desk_rings.specs.declared.Handed.the-variants as handed
+use Rattle.desk_rings.specs.Slots as slots
 use Rattle.report.specs.declared.answer.Report.{Report}
+use Rattle.writer.specs.declared.Writer.{Writer}
+use Rattle.pool.specs.declared.Pool.{Pool}
+use Rattle.report.specs.declared.state.AsWriter.{AsWriter}
+use Rattle.report.specs.declared.state.AsWriter.the-variants as writer
+use Rattle.report.specs.declared.state.AsPool.{AsPool}
+use Rattle.report.specs.declared.state.AsPool.the-variants as pool
 use Rattle.report.specs.declared.state.AsBuilder.{AsBuilder}
 use Rattle.report.specs.declared.state.AsBuilder.the-variants as state
-use Rattle.export.specs.Atom.{kindIn}
-use Rattle.export.specs.Given.{onBuilder}
+use Rattle.export.specs.Atom.{kindSize, kindIn, reading, taken, readX}
+use Rattle.export.specs.Given.{onBuilder, onWriter, onPool}
+use Rattle.export.specs.Lines as Lines
+use Rattle.export.specs.Rings as Rings
 use Rattle.export.specs.Events.{Made, made, told}
-use Rattle.report.specs.Report.{ofRead, ofWritten, ofBuilt, ofBegins, laidInto}
+use Rattle.report.specs.Report.{bad, ofRead, ofWritten, ofBuilt, ofBegins, laidInto}
+use Rattle.report.specs.State.{writerList, poolList}
 
 pub read-parts : (s : Said) (r : Answer) (atoms bonds lent left : List ℕ) (p : Report) → said r atoms bonds ≡ s → p ≡ ofRead r → left ≡ laidInto lent p → ((atoms ≡ s .atoms) × (bonds ≡ s .bonds)) × (left ≡ laidInto lent (ofRead (s .answer)))
 read-parts s r atoms bonds lent left p e f g =
@@ -36,9 +54,51 @@ order-parts s r walked number back lent left p e f g =
     ((ap (λ (x : Order). x .walked) e, ap (λ (x : Order). x .number) e, ap (λ (x : Order). x .back) e), g ∙ ap (λ (x : Report). laidInto lent x) (f ∙ ap (λ (x : Order). ofWritten (x .answer)) e))
 
 -- what one atom was read as
-pub atom-parts : (b f : Begins) (w : Pair) (k k′ t t′ : List ℕ) (p : Report) → b ≡ f → w ≡ kindIn b → k′ ≡ sets k 0 (listed w) → p ≡ ofBegins b → t′ ≡ laidInto t p → (k′ ≡ sets k 0 (listed (kindIn f))) × (t′ ≡ laidInto t (ofBegins f))
-atom-parts b f w k k′ t t′ p e g h i j =
-    (h ∙ ap (λ (x : Pair). sets k 0 (listed x)) (g ∙ ap kindIn e), j ∙ ap (λ (x : Report). laidInto t x) (i ∙ ap ofBegins e))
+module _ (k t text : List ℕ) where
+  pub no-room : (k′ t′ : List ℕ) → length k < kindSize → k′ ≡ zeros (length k) → t′ ≡ laidInto t bad → reading k′ t′ ≡ readX (reading k t) text
+  unfolding readX
+  no-room k′ t′ h e f =
+      ap (λ (x : List ℕ). reading x t′) e
+      ∙ ap (λ (x : List ℕ). reading (zeros (length k)) x) f
+      ∙ simp (lt-ltb _ _ h)
+
+  pub atom-read : (b : Begins) (w : Pair) (k′ t′ : List ℕ) (p : Report) → kindSize ≤ length k → reads b ≡ firstAtom text → w ≡ kindIn (kindsIn b) → k′ ≡ sets (zeros (length k)) 0 (listed w) → p ≡ ofBegins b → t′ ≡ laidInto t p → reading k′ t′ ≡ readX (reading k t) text
+  unfolding readX taken
+  atom-read b w k′ t′ p h e g l o m =
+      ap (λ (x : List ℕ). reading x t′) (l ∙ ap (λ (x : Pair). sets (zeros (length k)) 0 (listed x)) g)
+      ∙ ap (λ (x : List ℕ). reading (sets (zeros (length k)) 0 (listed (kindIn (kindsIn b)))) x) (m ∙ ap (λ (x : Report). laidInto t x) o)
+      ∙ ap (taken (reading k t)) e
+      ∙ simp (le-ltb _ _ h)
+
+-- ---- the states' words after a call
+pub writer-kept : (words : List ℕ) (r : lines.Said) → onWriter (Lines.heldBy r) words (λ w. sets words 0 (writerList w)) ≡ Lines.keptIn words r
+unfolding onWriter Lines.heldBy stateIn writerList
+writer-kept words (said.Held w) = refl
+writer-kept words (said.AtomRoom n) = refl
+writer-kept words (said.OutRoom n) = refl
+writer-kept words said.NoPiece = refl
+writer-kept words said.Overpop = refl
+writer-kept words said.BadTable = refl
+
+pub writer-laid : (words left : List ℕ) (r : lines.Said) (h : AsWriter) (w : Writer) → h ≡ Lines.heldBy r → h ≡ writer.Is w → left ≡ sets words 0 (writerList w) → left ≡ Lines.keptIn words r
+unfolding onWriter
+writer-laid words left r h w e f g =
+    g
+    ∙ ap (λ (x : AsWriter). onWriter x words (λ v. sets words 0 (writerList v))) (sym f ∙ e)
+    ∙ writer-kept words r
+
+pub pool-kept : (words : List ℕ) (r : Handed) → onPool (Rings.heldBy r) words (λ p. sets words 0 (poolList p)) ≡ Rings.keptIn words r
+unfolding onPool Rings.heldBy slots.stateIn poolList
+pool-kept words (handed.Number p n) = refl
+pool-kept words handed.RingNumbers = refl
+pool-kept words handed.BadTable = refl
+
+pub pool-laid : (words left : List ℕ) (r : Handed) (h : AsPool) (w : Pool) → h ≡ Rings.heldBy r → h ≡ pool.Is w → left ≡ sets words 0 (poolList w) → left ≡ Rings.keptIn words r
+unfolding onPool
+pool-laid words left r h w e f g =
+    g
+    ∙ ap (λ (x : AsPool). onPool x words (λ v. sets words 0 (poolList v))) (sym f ∙ e)
+    ∙ pool-kept words r
 
 -- the report of an answer, laid
 pub laid-of : (lent left : List ℕ) (p q : Report) → p ≡ q → left ≡ laidInto lent p → left ≡ laidInto lent q

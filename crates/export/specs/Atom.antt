@@ -1,24 +1,50 @@
--- One atom as text, both ways, and the text of a bond and of a ring number, for other languages. Words that stand for no atom
--- and numbers that stand for no bond are answered 17, carrying 0. After 16 and 17 the output is all zeros.
+-- One atom as text, both ways, and the text of a bond and of a ring number, for other languages. Words that stand for no atom,
+-- numbers that stand for no bond and fewer than two words lent for a kind are answered 17, carrying 0. After 16 and 17 the
+-- output is all zeros, and after a refused reading so are the words lent for a kind; after another the words beyond the
+-- kind's own are.
 use Prim.Native.Nat.{ℕ}
-use mathlib.Core.List.{List}
+use mathlib.Core.List.{List, [], _∷_}
 use lib.ListN.{length}
+use lib.Seq.{sets}
+use lib.Dec.{ltb}
+use Rattle.feature.specs.Pick.{pick}
+use Rattle.feature.specs.declared.atom_kind.AtomKind.{AtomKind}
 use Rattle.feature.specs.Bonds.{kindOf}
-use Rattle.record.specs.Words.{pair, wordsOf, loadOf}
+use Rattle.record.specs.Words.{pair, listed, wordsOf, loadOf}
 use Rattle.record.specs.declared.Pair.{Pair}
 use Rattle.spell.specs.Spell.{bondText}
-use Rattle.desk_atom.specs.Texts.{Spells, zeros, texted, atomD}
-use Rattle.desk_atom.specs.declared.Begins.{Begins}
-use Rattle.desk_atom.specs.declared.Begins.the-variants.{Atom, EndOfLine, Character}
+use Rattle.desk_atom.specs.Texts.{Reads, Spells, zeros, firstAtom, texted, atomD}
 use Rattle.export.specs.Given.{onAtom, onBond}
-use Rattle.report.specs.Report.{bad, ofSpelt, laidInto}
+use Rattle.report.specs.Report.{bad, telling, laidInto}
 
 -- ---- reading
+-- a kind's words and a report
+pub record Reading : Type 0 where
+  pub kind : List ℕ
+  pub report : List ℕ
+
+abbrev pub reading : List ℕ → List ℕ → Reading
+reading k t = record { kind = k; report = t }
+
+-- how many words a kind has
+abbrev pub kindSize : ℕ
+kindSize = 2
+
 -- the words of the kind that was read, or zeros
-unfoldable pub kindIn : Begins → Pair
-kindIn (Atom k next) = wordsOf k
-kindIn EndOfLine = pair 0 0
-kindIn (Character place) = pair 0 0
+unfoldable pub kindIn : List AtomKind → Pair
+kindIn [] = pair 0 0
+kindIn (k ∷ ks) = wordsOf k
+
+-- what a reading leaves: the kind's words, or zeros, and zeros after them
+unfoldable pub taken : Reading → Reads → Reading
+taken c r =
+    reading (sets (zeros (length (c .kind))) 0 (listed (kindIn (r .kinds)))) (laidInto (c .report) (telling (r .told)))
+
+-- 17 where there is no room for a kind
+unfoldable pub readX : Reading → List ℕ → Reading
+readX c text =
+    pick (ltb (length (c .kind)) kindSize) (reading (zeros (length (c .kind))) (laidInto (c .report) bad))
+    (taken c (firstAtom text))
 
 -- ---- spelling
 -- an output and a report
@@ -31,7 +57,7 @@ spelling o t = record { out = o; report = t }
 
 -- what a text leaves
 unfoldable pub told : List ℕ → Spells → Spelling
-told t s = spelling (s .out) (laidInto t (ofSpelt (s .answer)))
+told t s = spelling (s .out) (laidInto t (telling (s .told)))
 
 -- 17, and zeros
 unfoldable pub unheard : Spelling → Spelling

@@ -12,14 +12,14 @@ use Rattle.record.specs.Words.{loadOf}
 use Rattle.graph.specs.Rings.{numbers}
 use Rattle.writer.specs.Line.{Event}
 use Rattle.writer.specs.Tables.{spoken}
-use Rattle.desk_lines.specs.Pieces.{Left, eventD}
+use Rattle.desk_lines.specs.Pieces.{stateIn, Left, eventD}
 use Rattle.desk_lines.specs.declared.Said.{Said}
 use Rattle.desk_lines.specs.declared.Said.the-variants.{Held, AtomRoom, OutRoom, NoPiece, Overpop, BadTable}
 use Rattle.report.specs.declared.state.AsWriter.{AsWriter}
 use Rattle.report.specs.declared.state.AsWriter.the-variants as writer
 use Rattle.export.specs.Given.{onAtom, onBond, onWriter}
-use Rattle.report.specs.Report.{bad, ofSaid, laidInto}
-use Rattle.report.specs.State.{writerIn, writerList}
+use Rattle.report.specs.Report.{bad, telling, laidInto}
+use Rattle.report.specs.State.{writerIn}
 
 -- every cell that is lent to an event
 pub record Cells : Type 0 where
@@ -41,12 +41,12 @@ heldBy Overpop = writer.Bad
 heldBy BadTable = writer.Bad
 
 -- the state's words after an event
-unfoldable pub keptIn : List ℕ → Said → List ℕ
-keptIn words said = onWriter (heldBy said) words (λ w. sets words 0 (writerList w))
+abbrev pub keptIn : List ℕ → Said → List ℕ
+keptIn words said = sets words 0 (stateIn said)
 
 -- what an event leaves
 unfoldable pub after : Cells → Left → Cells
-after c l = cells (l .out) (l .starts) (keptIn (c .state) (l .answer)) (laidInto (c .report) (ofSaid (l .answer)))
+after c l = cells (l .out) (l .starts) (sets (c .state) 0 (l .state)) (laidInto (c .report) (telling (l .told)))
 
 -- 17, and nothing else changed
 unfoldable pub unheard : Cells → Cells

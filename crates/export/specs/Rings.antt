@@ -3,14 +3,14 @@
 use Prim.Native.Nat.{ℕ}
 use mathlib.Core.List.{List}
 use lib.Seq.{sets}
-use Rattle.desk_rings.specs.Slots.{Gives, hitD}
+use Rattle.desk_rings.specs.Slots.{stateIn, Gives, hitD}
 use Rattle.desk_rings.specs.declared.Handed.{Handed}
 use Rattle.desk_rings.specs.declared.Handed.the-variants.{Number, RingNumbers, BadTable}
 use Rattle.report.specs.declared.state.AsPool.{AsPool}
 use Rattle.report.specs.declared.state.AsPool.the-variants as pool
 use Rattle.export.specs.Given.{onPool}
-use Rattle.report.specs.Report.{bad, ofHanded, laidInto}
-use Rattle.report.specs.State.{poolIn, poolList}
+use Rattle.report.specs.Report.{bad, telling, laidInto}
+use Rattle.report.specs.State.{poolIn}
 
 -- every cell that is lent to a call
 pub record Cells : Type 0 where
@@ -28,13 +28,13 @@ heldBy RingNumbers = pool.Bad
 heldBy BadTable = pool.Bad
 
 -- the state's words after a call
-unfoldable pub keptIn : List ℕ → Handed → List ℕ
-keptIn words handed = onPool (heldBy handed) words (λ p. sets words 0 (poolList p))
+abbrev pub keptIn : List ℕ → Handed → List ℕ
+keptIn words handed = sets words 0 (stateIn handed)
 
--- what a call for the atoms a and b leaves
-unfoldable pub after : Cells → ℕ → ℕ → Gives → Cells
-after c a b g = cells (g .left) (keptIn (c .state) (g .answer)) (laidInto (c .report) (ofHanded a b (g .answer)))
+-- what a call leaves
+unfoldable pub after : Cells → Gives → Cells
+after c g = cells (g .left) (sets (c .state) 0 (g .state)) (laidInto (c .report) (telling (g .told)))
 
 unfoldable pub hitX : Cells → ℕ → ℕ → Cells
 hitX c a b =
-    onPool (poolIn (c .state)) (cells (c .pairs) (c .state) (laidInto (c .report) bad)) (λ p. after c a b (hitD p (c .pairs) a b))
+    onPool (poolIn (c .state)) (cells (c .pairs) (c .state) (laidInto (c .report) bad)) (λ p. after c (hitD p (c .pairs) a b))

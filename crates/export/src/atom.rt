@@ -1,12 +1,13 @@
 // One atom as text, both ways, and the text of a bond and of a ring number, with the answer in a report. An atom's kind is its
-// two words, a bond's its number. A refused text leaves zeros in the output, a refused reading zeros for a kind.
+// two words, a bond's its number. A refused text leaves zeros in the output, a refused reading zeros for a kind. Words lent for
+// a kind beyond its two are zeros after any reading; fewer than two are answered 17.
 ghost use mathlib.Core.Path.{_≡_};
 ghost use lib.ListN.{length};
 ghost use lib.Seq.{sets};
 ghost use Rattle.record.specs.Words.{listed};
-ghost use Rattle.desk_atom.specs.Texts.{firstAtom, rnumD};
-ghost use Rattle.report.specs.Report.{ofBegins, laidInto};
-ghost use Rattle.export.specs.Atom.{kindIn, spelling, told, atomX, bondX};
+ghost use Rattle.desk_atom.specs.Texts.{zeros, kindsIn, rnumD};
+ghost use Rattle.export.specs.Atom.{reading, kindIn, readX, spelling, told, atomX, bondX};
+use build::clear;
 use desk_atom::Begins;
 use desk_atom::wipe;
 use feature::bond_kind::Coded;
@@ -21,9 +22,12 @@ use report::answer::of_begins;
 use report::answer::of_spelt;
 use report::answer::refuse;
 
+// The words of a kind.
+const KIND_WORDS: usize = 2;
+
 // The words of the kind that was read, or zeros.
 fn kind_in(b: Begins) -> Pair
-    ensures { λ r. ⌜ r ≡ kindIn b ⌝ }
+    ensures { λ r. ⌜ r ≡ kindIn (kindsIn b) ⌝ }
 {
     match b {
         Begins::Atom(k, _next) => words(k),
@@ -38,9 +42,11 @@ fn kind_in(b: Begins) -> Pair
     }
 }
 
+// The words of a kind, and zeros after them.
 fn lay_kind(lent: &mut [u32], w: Pair)
-    ensures { λ _. ⌜ now (lent .exit) ≡ sets (now (lent .entry)) 0 (listed w) ⌝ }
+    ensures { λ _. ⌜ now (lent .exit) ≡ sets (zeros (length (now (lent .entry)))) 0 (listed w) ⌝ }
 {
+    clear(lent);
     poke(lent, 0, w.first);
     poke(lent, 1, w.second);
 }
@@ -48,9 +54,13 @@ fn lay_kind(lent: &mut [u32], w: Pair)
 // The atom that a text begins with.
 #[no_mangle]
 pub extern "C" fn mavisdrok_read_atom(text: &[u8], kind: &mut [u32], report: &mut [u64])
-    ensures { λ _. ⌜ now (kind .exit) ≡ sets (now (kind .entry)) 0 (listed (kindIn (firstAtom (now (text .entry))))) ⌝ }
-    ensures { λ _. ⌜ now (report .exit) ≡ laidInto (now (report .entry)) (ofBegins (firstAtom (now (text .entry)))) ⌝ }
+    ensures { λ _. ⌜ reading (now (kind .exit)) (now (report .exit)) ≡ readX (reading (now (kind .entry)) (now (report .entry))) (now (text .entry)) ⌝ }
 {
+    if kind.len() < KIND_WORDS {
+        clear(kind);
+        refuse(report);
+        return;
+    }
     let found = desk_atom::read_atom(text);
     lay_kind(kind, kind_in(found));
     lay(report, of_begins(found));

@@ -137,7 +137,7 @@ pub extern "C" fn mavisdrok_builder_join(
     rings: &mut [u32],
     state: &mut [u64],
     bond: u32,
-    number: usize,
+    number: u32,
     report: &mut [u64],
 )
     ensures { λ _. ⌜ cells (now (atoms .entry)) (now (entries .exit)) (now (path .entry)) (now (rings .exit)) (now (state .exit)) (now (report .exit))
@@ -156,7 +156,7 @@ pub extern "C" fn mavisdrok_builder_join(
     keep(
         state,
         report,
-        calls::join(atoms, entries, path, rings, b, k, number),
+        calls::join(atoms, entries, path, rings, b, k, number as usize),
     );
 }
 

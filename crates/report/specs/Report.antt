@@ -18,6 +18,7 @@ use Rattle.desk_atom.specs.declared.Spelt.{Spelt}
 use Rattle.desk_lines.specs.Pieces as pieces
 use Rattle.desk_rings.specs.Slots as slots
 use Rattle.desk_atom.specs.Texts as texts
+use Rattle.desk_numbers.specs.Numbers.{Told}
 use Rattle.report.specs.declared.answer.Report.{Report}
 
 abbrev pub report : ℕ → ℕ → ℕ → Report
@@ -57,6 +58,9 @@ ofWritten (write.BadTable place) = report 17 place 0
 abbrev pub carrying : ℕ → List ℕ → Report
 carrying n c = report n (getD c 0 0) (getD c 1 0)
 
+abbrev pub telling : Told → Report
+telling t = carrying (t .number) (t .values)
+
 -- of words that stand for no state, no atom or no bond
 abbrev pub bad : Report
 bad = report 17 0 0
@@ -73,20 +77,20 @@ unfoldable pub ofBuilt : calls.Answer → Report
 ofBuilt a = ofLeft (leftBy a [] [])
 
 -- of a writer's event; 0 carries the length of the line
-unfoldable pub ofSaid : Said → Report
-ofSaid s = carrying (pieces.numberOf s) (pieces.carriedBy s)
+abbrev pub ofSaid : Said → Report
+ofSaid s = telling (pieces.toldOf s)
 
 -- of the pool's call for the atoms a and b; 0 carries the ring number
-unfoldable pub ofHanded : ℕ → ℕ → Handed → Report
-ofHanded a b h = carrying (slots.numberOf h) (slots.carriedBy a b h)
+abbrev pub ofHanded : ℕ → ℕ → Handed → Report
+ofHanded a b h = telling (slots.toldOf a b h)
 
 -- of reading one atom; 0 carries the place after it
-unfoldable pub ofBegins : Begins → Report
-ofBegins b = carrying (texts.readNumber b) (texts.placeIn b)
+abbrev pub ofBegins : Begins → Report
+ofBegins b = telling (texts.beginsTold b)
 
 -- of a text; 0 carries the bytes written
-unfoldable pub ofSpelt : Spelt → Report
-ofSpelt s = carrying (texts.numberOf s) (texts.carriedBy s)
+abbrev pub ofSpelt : Spelt → Report
+ofSpelt s = telling (texts.speltTold s)
 
 -- the words of a report laid into what was lent for it
 unfoldable pub laidInto : List ℕ → Report → List ℕ

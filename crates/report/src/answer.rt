@@ -9,13 +9,30 @@ use builder::calls;
 use desk_atom::Begins;
 use desk_atom::Spelt;
 use desk_lines::Said;
+use desk_numbers::ATOM_ROOM;
+use desk_numbers::BAD_TABLE;
+use desk_numbers::BOND_ROOM;
+use desk_numbers::CHARACTER;
+use desk_numbers::DONE;
+use desk_numbers::DUPLICATE_BOND;
+use desk_numbers::END_OF_LINE;
+use desk_numbers::HALF_BOND;
+use desk_numbers::INCOMPATIBLE_BOND;
+use desk_numbers::INVERSION;
+use desk_numbers::JOIN;
+use desk_numbers::LOOP;
+use desk_numbers::NESTING;
+use desk_numbers::NO_ATOM;
+use desk_numbers::OUT_ROOM;
+use desk_numbers::OVERPOP;
+use desk_numbers::RING_NUMBERS;
+use desk_numbers::RNUM;
+use desk_numbers::TEXT_TOO_LONG;
+use desk_numbers::UNKNOWN_TARGET;
 use desk_rings::Handed;
 use graph::builder::Builder;
 use read::Answer;
 use write::answer::Written;
-
-// The desk's number for numbers that stand for nothing.
-const BAD_TABLE: u64 = 17;
 
 pub struct Report {
     pub number: u64,
@@ -59,20 +76,20 @@ pub fn of_read(a: Answer) -> Report
 {
     match a {
         Answer::Done(n, m) => Report {
-            number: 0,
+            number: DONE,
             first: n as u64,
             second: m as u64,
         },
-        Answer::EndOfLine => alone(1),
-        Answer::Character(place) => with_one(2, place),
-        Answer::Join(closing, opening) => with_two(3, closing, opening),
-        Answer::Rnum(join) => with_one(4, join as usize),
-        Answer::Inversion(atom) => with_one(10, atom),
-        Answer::TextTooLong(size) => with_one(12, size),
-        Answer::AtomRoom(place) => with_one(13, place),
-        Answer::BondRoom(place) => with_one(14, place),
-        Answer::Nesting(place) => with_one(15, place),
-        Answer::NoAtom => alone(18),
+        Answer::EndOfLine => alone(END_OF_LINE),
+        Answer::Character(place) => with_one(CHARACTER, place),
+        Answer::Join(closing, opening) => with_two(JOIN, closing, opening),
+        Answer::Rnum(join) => with_one(RNUM, join as usize),
+        Answer::Inversion(atom) => with_one(INVERSION, atom),
+        Answer::TextTooLong(size) => with_one(TEXT_TOO_LONG, size),
+        Answer::AtomRoom(place) => with_one(ATOM_ROOM, place),
+        Answer::BondRoom(place) => with_one(BOND_ROOM, place),
+        Answer::Nesting(place) => with_one(NESTING, place),
+        Answer::NoAtom => alone(NO_ATOM),
     }
 }
 
@@ -81,18 +98,18 @@ pub fn of_written(w: Written) -> Report
     ensures { λ r. ⌜ r ≡ ofWritten w ⌝ }
 {
     match w {
-        Written::Done(n) => with_one(0, n),
-        Written::UnknownTarget(source, target) => with_two(5, source, target),
-        Written::Loop(source) => with_one(6, source as usize),
-        Written::HalfBond(source, target) => with_two(7, source, target),
-        Written::DuplicateBond(source, target) => with_two(8, source, target),
-        Written::IncompatibleBond(target, source) => with_two(9, target, source),
-        Written::Inversion(atom) => with_one(10, atom as usize),
-        Written::RingNumbers(source, target) => with_two(11, source, target),
-        Written::AtomRoom(n) => with_one(13, n),
-        Written::BondRoom(m) => with_one(14, m),
-        Written::OutRoom(bytes) => with_one(16, bytes),
-        Written::BadTable(place) => with_one(17, place),
+        Written::Done(n) => with_one(DONE, n),
+        Written::UnknownTarget(source, target) => with_two(UNKNOWN_TARGET, source, target),
+        Written::Loop(source) => with_one(LOOP, source as usize),
+        Written::HalfBond(source, target) => with_two(HALF_BOND, source, target),
+        Written::DuplicateBond(source, target) => with_two(DUPLICATE_BOND, source, target),
+        Written::IncompatibleBond(target, source) => with_two(INCOMPATIBLE_BOND, target, source),
+        Written::Inversion(atom) => with_one(INVERSION, atom as usize),
+        Written::RingNumbers(source, target) => with_two(RING_NUMBERS, source, target),
+        Written::AtomRoom(n) => with_one(ATOM_ROOM, n),
+        Written::BondRoom(m) => with_one(BOND_ROOM, m),
+        Written::OutRoom(bytes) => with_one(OUT_ROOM, bytes),
+        Written::BadTable(place) => with_one(BAD_TABLE, place),
     }
 }
 
@@ -109,12 +126,12 @@ pub fn of_built(a: calls::Answer) -> Report
 {
     match a {
         calls::Answer::Done(n, m) => Report {
-            number: 0,
+            number: DONE,
             first: n as u64,
             second: m as u64,
         },
-        calls::Answer::Join(closing, opening) => with_two(3, closing, opening),
-        calls::Answer::Rnum(join) => with_one(4, join as usize),
+        calls::Answer::Join(closing, opening) => with_two(JOIN, closing, opening),
+        calls::Answer::Rnum(join) => with_one(RNUM, join as usize),
         calls::Answer::BadTable => alone(BAD_TABLE),
     }
 }
@@ -124,11 +141,11 @@ pub fn of_said(s: Said) -> Report
     ensures { λ r. ⌜ r ≡ ofSaid s ⌝ }
 {
     match s {
-        Said::Held(w) => with_one(0, w.len),
-        Said::AtomRoom(n) => with_one(13, n),
-        Said::OutRoom(n) => with_one(16, n),
-        Said::NoPiece => alone(18),
-        Said::Overpop => alone(19),
+        Said::Held(w) => with_one(DONE, w.len),
+        Said::AtomRoom(n) => with_one(ATOM_ROOM, n),
+        Said::OutRoom(n) => with_one(OUT_ROOM, n),
+        Said::NoPiece => alone(NO_ATOM),
+        Said::Overpop => alone(OVERPOP),
         Said::BadTable => alone(BAD_TABLE),
     }
 }
@@ -138,8 +155,8 @@ pub fn of_handed(h: Handed, a: u32, b: u32) -> Report
     ensures { λ r. ⌜ r ≡ ofHanded a b h ⌝ }
 {
     match h {
-        Handed::Number(_p, n) => with_one(0, n as usize),
-        Handed::RingNumbers => with_two(11, a, b),
+        Handed::Number(_p, n) => with_one(DONE, n as usize),
+        Handed::RingNumbers => with_two(RING_NUMBERS, a, b),
         Handed::BadTable => alone(BAD_TABLE),
     }
 }
@@ -149,9 +166,9 @@ pub fn of_begins(b: Begins) -> Report
     ensures { λ r. ⌜ r ≡ ofBegins b ⌝ }
 {
     match b {
-        Begins::Atom(_k, next) => with_one(0, next),
-        Begins::EndOfLine => alone(1),
-        Begins::Character(place) => with_one(2, place),
+        Begins::Atom(_k, next) => with_one(DONE, next),
+        Begins::EndOfLine => alone(END_OF_LINE),
+        Begins::Character(place) => with_one(CHARACTER, place),
     }
 }
 
@@ -160,8 +177,8 @@ pub fn of_spelt(s: Spelt) -> Report
     ensures { λ r. ⌜ r ≡ ofSpelt s ⌝ }
 {
     match s {
-        Spelt::Written(n) => with_one(0, n),
-        Spelt::OutRoom(n) => with_one(16, n),
+        Spelt::Written(n) => with_one(DONE, n),
+        Spelt::OutRoom(n) => with_one(OUT_ROOM, n),
         Spelt::BadTable => alone(BAD_TABLE),
     }
 }

@@ -1,13 +1,19 @@
 -- The writer's answer in the words of the call.
-use Rattle.desk_lines.specs.Pieces.{saidOf}
+use mathlib.Core.Path.{refl}
+use Rattle.desk_lines.specs.Pieces.{saidOf, tailOf}
+use Rattle.desk_lines.proofs.Stands.{answer-held}
 use borrow.Author.Needs.{needs}
 use Rattle.desk_lines.proofs.answer.Statement.{statement}
 use Rattle.desk_lines.proofs.answer.Tie as tie
 use Rattle.desk_lines.proofs.answer.Reads as reads
 use Rattle.desk_lines.proofs.answer.Lts as lts
+use Rattle.desk_lines.proofs.held.Reads as held-reads
 
 enum-known-r : tie.Need-enum-known-r
 enum-known-r c = search needs
+
+held-requires : tie.Need-held-requires
+held-requires c κs = search needs
 
 enum-known-r-2 : tie.Need-enum-known-r-2
 enum-known-r-2 c = search needs
@@ -21,35 +27,39 @@ enum-told c = search needs
 enum-told-2 : tie.Need-enum-told-2
 enum-told-2 c = search needs
 
+same-length : tie.Need-same-length
+same-length c = search needs
+
 returns : tie.Need-returns
-unfolding saidOf
-returns c = simp (c .before .r .given .1)
+returns c = answer-held (c .before .before .before .before .before .before .before .before .args .before) (c .before .before .before .before .before .before .before .before .args .out .now) (c .before .before .before .before .before .before .before .before .args .r) _ _ _ (c .before .before .before .before .before .r .given .1) (c .before .before .held .ensures)
 
 returns-2 : tie.Need-returns-2
-unfolding saidOf
-returns-2 c = simp (c .before .r2 .given .1)
+unfolding saidOf tailOf
+returns-2 c = rw (c .before .r2 .given .1) (refl, refl)
 
 returns-3 : tie.Need-returns-3
-unfolding saidOf
-returns-3 c = simp (c .before .r3 .given .1)
+unfolding saidOf tailOf
+returns-3 c = rw (c .before .r3 .given .1) (refl, refl)
 
 returns-4 : tie.Need-returns-4
-unfolding saidOf
-returns-4 c = simp (c .enum-told .given .1)
+unfolding saidOf tailOf
+returns-4 c = rw (c .enum-told .given .1) (refl, refl)
 
 returns-5 : tie.Need-returns-5
-unfolding saidOf
-returns-5 c = simp (c .enum-told2 .given .1)
+unfolding saidOf tailOf
+returns-5 c = rw (c .enum-told2 .given .1) (refl, refl)
 
 pub answer-spec : {M : Type 1} → statement M
 answer-spec =
     tie.close
     (tie.spec
     enum-known-r
+    held-requires
     enum-known-r-2
     enum-known-r-3
     enum-told
     enum-told-2
+    same-length
     returns
     returns-2
     returns-3

@@ -38,7 +38,7 @@ same-length-4 : tie.Need-same-length-4
 same-length-4 c = search needs
 
 returns-2 : tie.Need-returns-2
-returns-2 c = stood (spoken (c .before .before .before .before .before .before .before .before .before .before .before .before .before .before .args .w) (c .before .before .before .before .before .before .before .before .before .before .before .before .before .before .args .out .now) (c .before .before .before .before .before .before .before .before .before .before .before .before .before .before .args .starts .now)) (Event.Pop (c .before .before .before .before .before .before .before .before .before .before .before .before .before .before .args .d)) _ _ _ _ _ _ refl (c .before .before .before .before .before .before .before .before .before .is-writer .ensures) (not-false _ (c .before .before .before .before .before .before .before .before .if1 .left)) (c .before .before .before .before .before .pop .ensures) (c .answer .ensures)
+returns-2 c = stood (spoken (c .before .before .before .before .before .before .before .before .before .before .before .before .before .before .before .before .before .args .w) (c .before .before .before .before .before .before .before .before .before .before .before .before .before .before .before .before .before .args .out .now) (c .before .before .before .before .before .before .before .before .before .before .before .before .before .before .before .before .before .args .starts .now)) (Event.Pop (c .before .before .before .before .before .before .before .before .before .before .before .before .before .before .before .before .before .args .d)) _ _ _ _ _ _ _ refl (c .before .before .before .before .before .before .before .before .before .before .before .before .is-writer .ensures) (not-false _ (c .before .before .before .before .before .before .before .before .before .before .before .if1 .left)) (c .before .before .before .before .before .before .before .before .pop .ensures) (c .before .before .answer .ensures)
 
 pub pop-spec : {M : Type 1} → statement M
 pop-spec =

@@ -1,5 +1,9 @@
 -- A refused call keeps the words, another lays its state.
-use Rattle.export.specs.Rings.{keptIn}
+use mathlib.Core.Path.{_≡_, _∙_}
+use lib.Seq.{sets}
+use Rattle.report.specs.State.{poolList}
+use Rattle.export.specs.Rings.{heldBy}
+use Rattle.export.proofs.Reports.{pool-kept, pool-laid}
 use Rattle.export.specs.Given.{onPool}
 use borrow.Author.Needs.{needs}
 use Rattle.export.proofs.rings.keep_state.Statement.{statement}
@@ -19,8 +23,10 @@ enum-told : tie.Need-enum-told
 enum-told c = search needs
 
 returns : tie.Need-returns
-unfolding keptIn onPool
-returns c = simp (← c .before .before .held-by .ensures, c .enum-told .given .1)
+unfolding onPool
+returns c =
+    let e : c .before .before .before .before .args .state .now ≡ onPool (heldBy (c .before .before .before .before .args .handed)) (c .before .before .before .before .args .state .now) (λ w. sets (c .before .before .before .before .args .state .now) 0 (poolList w)) = simp (← c .before .before .held-by .ensures, c .enum-told .given .1) in
+    e ∙ pool-kept (c .before .before .before .before .args .state .now) (c .before .before .before .before .args .handed)
 
 lay-pool-requires : tie.Need-lay-pool-requires
 lay-pool-requires c κs = search needs
@@ -29,8 +35,7 @@ same-length : tie.Need-same-length
 same-length c = search needs
 
 returns-2 : tie.Need-returns-2
-unfolding keptIn onPool
-returns-2 c = simp (← c .before .before .before .before .before .before .before .held-by .ensures, c .before .before .before .before .before .held .given .1, ← c .before .before .lay-pool .ensures)
+returns-2 c = pool-laid (c .before .before .before .before .before .before .before .before .before .args .state .now) _ (c .before .before .before .before .before .before .before .before .before .args .handed) _ _ (c .before .before .before .before .before .before .before .held-by .ensures) (c .before .before .before .before .before .held .given .1) (c .before .before .lay-pool .ensures)
 
 pub keep-state-spec : {M : Type 1} → statement M
 keep-state-spec =

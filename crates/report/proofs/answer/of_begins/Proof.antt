@@ -1,6 +1,5 @@
 -- Each answer of reading one atom.
-use Rattle.report.specs.Report.{ofBegins}
-use Rattle.desk_atom.specs.Texts.{readNumber, placeIn}
+use Rattle.desk_atom.specs.Texts.{beginsTold}
 use borrow.Author.Needs.{needs}
 use Rattle.report.proofs.answer.of_begins.Statement.{statement}
 use Rattle.report.proofs.answer.of_begins.Tie as tie
@@ -28,15 +27,15 @@ with-one-requires-2 : tie.Need-with-one-requires-2
 with-one-requires-2 c κs = search needs
 
 returns : tie.Need-returns
-unfolding ofBegins readNumber placeIn
+unfolding beginsTold
 returns c = simp (c .before .before .b .given .1, ← c .with-one .ensures)
 
 returns-2 : tie.Need-returns-2
-unfolding ofBegins readNumber placeIn
+unfolding beginsTold
 returns-2 c = simp (c .before .enum-told .given .1, ← c .alone .ensures)
 
 returns-3 : tie.Need-returns-3
-unfolding ofBegins readNumber placeIn
+unfolding beginsTold
 returns-3 c = simp (c .before .before .b2 .given .1, ← c .with-one2 .ensures)
 
 pub of-begins-spec : {M : Type 1} → statement M

@@ -1,6 +1,5 @@
 -- Each answer of the pool's call.
-use Rattle.report.specs.Report.{ofHanded}
-use Rattle.desk_rings.specs.Slots.{numberOf, carriedBy}
+use Rattle.desk_rings.specs.Slots.{toldOf}
 use borrow.Author.Needs.{needs}
 use Rattle.report.proofs.answer.of_handed.Statement.{statement}
 use Rattle.report.proofs.answer.of_handed.Tie as tie
@@ -32,15 +31,15 @@ alone-requires : tie.Need-alone-requires
 alone-requires c κs = search needs
 
 returns : tie.Need-returns
-unfolding ofHanded numberOf carriedBy
+unfolding toldOf
 returns c = simp (c .before .before .h .given .1, ← c .with-one .ensures)
 
 returns-2 : tie.Need-returns-2
-unfolding ofHanded numberOf carriedBy
+unfolding toldOf
 returns-2 c = simp (c .before .enum-told .given .1, ← c .with-two .ensures)
 
 returns-3 : tie.Need-returns-3
-unfolding ofHanded numberOf carriedBy
+unfolding toldOf
 returns-3 c = simp (c .before .enum-told2 .given .1, ← c .alone .ensures)
 
 pub of-handed-spec : {M : Type 1} → statement M

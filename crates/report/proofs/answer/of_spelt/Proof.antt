@@ -1,6 +1,5 @@
 -- Each answer of a text.
-use Rattle.report.specs.Report.{ofSpelt}
-use Rattle.desk_atom.specs.Texts.{numberOf, carriedBy}
+use Rattle.desk_atom.specs.Texts.{speltTold}
 use borrow.Author.Needs.{needs}
 use Rattle.report.proofs.answer.of_spelt.Statement.{statement}
 use Rattle.report.proofs.answer.of_spelt.Tie as tie
@@ -28,15 +27,15 @@ alone-requires : tie.Need-alone-requires
 alone-requires c κs = search needs
 
 returns : tie.Need-returns
-unfolding ofSpelt numberOf carriedBy
+unfolding speltTold
 returns c = simp (c .before .before .s .given .1, ← c .with-one .ensures)
 
 returns-2 : tie.Need-returns-2
-unfolding ofSpelt numberOf carriedBy
+unfolding speltTold
 returns-2 c = simp (c .before .before .s2 .given .1, ← c .with-one2 .ensures)
 
 returns-3 : tie.Need-returns-3
-unfolding ofSpelt numberOf carriedBy
+unfolding speltTold
 returns-3 c = simp (c .before .enum-told .given .1, ← c .alone .ensures)
 
 pub of-spelt-spec : {M : Type 1} → statement M
