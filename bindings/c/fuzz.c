@@ -154,7 +154,7 @@ static void all_zero(const void *at, size_t bytes, const char *call)
 {
     for (size_t i = 0; i < bytes; i++)
         if (((const uint8_t *)at)[i] != 0) {
-            printf("%s: refused, and byte %zu is not zero\n", call, i);
+            printf("%s: byte %zu is not zero\n", call, i);
             exit(1);
         }
 }
@@ -185,9 +185,9 @@ static uint32_t bond_number(void)
     return below(20) ? 1 + (uint32_t)below(8) : (uint32_t)below(12);
 }
 
-static size_t ring_number(void)
+static mavisdrok_rnum ring_number(void)
 {
-    return below(20) ? below(4) : below(3) ? 95 + below(10) : (size_t)any();
+    return (mavisdrok_rnum)(below(20) ? below(4) : below(3) ? 95 + below(10) : any());
 }
 
 /* One number of a table or of a state changed. */
@@ -255,6 +255,7 @@ static void writer(void)
     uint32_t *b = words(bl);
     uint64_t *s = state_words(sl), *r = block(rl * sizeof *r);
     struct cells c[] = {{o, ol, 0}, {b, bl * 4, 0}, {s, sl * 8, 0}};
+    int tidy = 0;
 
     memset(r, 0, rl * sizeof *r);
     if (below(10))
@@ -262,8 +263,11 @@ static void writer(void)
     for (size_t i = below(14); i > 0; i--) {
         uint32_t k[2];
         kind_words(k);
-        if (below(12) == 0)
+        if (below(12) == 0) {
             damage(b, bl, s, sl);
+            tidy = 0;
+        }
+        int first = sl >= 2 && s[0] == 0;
         keep(c, 3);
         switch (below(6)) {
         case 0:
@@ -273,13 +277,19 @@ static void writer(void)
             mavisdrok_writer_pop(o, ol, b, bl, s, sl, below(8) ? below(4) : (size_t)any(), r, rl);
             break;
         case 2:
-            mavisdrok_writer_join(o, ol, b, bl, s, sl, bond_number(), (uint32_t)ring_number(), r, rl);
+            mavisdrok_writer_join(o, ol, b, bl, s, sl, bond_number(), ring_number(), r, rl);
             break;
         default:
             mavisdrok_writer_extend(o, ol, b, bl, s, sl, bond_number(), k[0], k[1], r, rl);
         }
         settle(c, 3, r, rl, "writer's event");
         count(r, rl);
+        /* From a first event on, zeros after the line. */
+        if (rl >= 2 && r[0] == 0) {
+            tidy |= first;
+            if (tidy)
+                all_zero(o + r[1], ol - r[1], "writer's tail");
+        }
     }
     free(o), free(b), free(s), free(r);
 }
@@ -319,8 +329,14 @@ static void one_text(void)
     memset(r, 0, rl * sizeof *r);
     mavisdrok_read_atom(t, tl, k, kl, r, rl);
     count(r, rl);
+    if (rl && kl < 2 && r[0] != 17) {
+        printf("read_atom: %zu words for a kind, answered %llu\n", kl, (unsigned long long)r[0]);
+        exit(1);
+    }
     if (rl && r[0] != 0)
-        all_zero(k, (kl < 2 ? kl : 2) * 4, "read_atom");
+        all_zero(k, kl * 4, "read_atom");
+    else if (kl > 2)
+        all_zero(k + 2, (kl - 2) * 4, "read_atom");
     kind_words(w);
     mavisdrok_spell_atom(o, ol, w[0], w[1], r, rl);
     count(r, rl);
@@ -330,7 +346,7 @@ static void one_text(void)
     count(r, rl);
     if (rl && r[0] != 0)
         all_zero(o, ol, "spell_bond");
-    mavisdrok_spell_rnum(o, ol, (uint32_t)ring_number(), r, rl);
+    mavisdrok_spell_rnum(o, ol, ring_number(), r, rl);
     count(r, rl);
     if (rl && r[0] != 0)
         all_zero(o, ol, "spell_rnum");

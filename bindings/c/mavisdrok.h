@@ -1,13 +1,21 @@
 /* Mavisdrok's calls, for C: the read call, the write call and the walk order; the single calls of a builder, of a writer and
  * of the pool; one atom, bond or ring number as text. The archive is made by tools/archive.
  *
- * Every call takes any bytes, any tables, any words and any counts, ends, and writes nothing outside what it is lent. A slice
- * is a pointer and a length in elements; the pointer of an empty one may be anything but null. A call takes less than 256 KiB
- * of stack: a line of 128 nested branches is read in 192.
+ * Every call takes any bytes, any tables, any words and any counts, ends, and writes nothing outside what it is lent.
+ *
+ * What is lent: a slice is a pointer and a length in elements. The pointer is never null and is aligned for its elements, one
+ * byte, four or eight, also where the length is 0. The slices lent to one call do not overlap, but two that are only read may.
+ * What is lent to be written holds values already, whichever. A call keeps no pointer.
  *
  * report: three words, as far as there is room: the desk's number, and the two values that it carries, 0 where it carries
- * fewer: crates/report/specs/Report.antt has them for each answer. docs/PACKING.md says how atoms, bonds and states stand in
- * words. */
+ * fewer: crates/report/specs/Report.antt has them for each answer. Words after the third are untouched. So are words of a
+ * state after its own. docs/PACKING.md says how atoms, bonds and states stand in words.
+ *
+ * What is left: after 0 of a read, a write, an order, a build, a reading of an atom or a spelling, what is lent to be written
+ * is zero after what the call has laid there; after a refusal it is zero all through. A single event or a call of the pool that
+ * is refused changes nothing but the report.
+ *
+ * A call takes less than STACK KiB of stack. */
 #ifndef MAVISDROK_H
 #define MAVISDROK_H
 
@@ -35,6 +43,9 @@ extern "C" {
 #define MAVISDROK_POOL_WORDS 2
 #define MAVISDROK_RINGS 100
 #define MAVISDROK_PAIRS 300
+
+/* A ring number, 0 to 99. One that is larger is answered 17. */
+typedef uint32_t mavisdrok_rnum;
 
 /* A bond's kind. */
 enum {
@@ -106,13 +117,13 @@ void mavisdrok_builder_extend(uint32_t *atoms, size_t atoms_len,
                               uint32_t bond, uint32_t first, uint32_t second,
                               uint64_t *report, size_t report_len);
 
-/* A ring number, 0 to 99, at the atom that stands. */
+/* A ring number at the atom that stands. */
 void mavisdrok_builder_join(const uint32_t *atoms, size_t atoms_len,
                             uint32_t *entries, size_t entries_len,
                             const uint32_t *path, size_t path_len,
                             uint32_t *rings, size_t rings_len,
                             uint64_t *state, size_t state_len,
-                            uint32_t bond, size_t number,
+                            uint32_t bond, mavisdrok_rnum number,
                             uint64_t *report, size_t report_len);
 
 /* So many atoms off the path. A pop beyond it empties it. */
@@ -138,7 +149,12 @@ void mavisdrok_builder_build(uint32_t *atoms, size_t atoms_len,
  *
  * out: the bytes of the line; starts: a word a piece; state: two words, two zeros to begin with. The events answer 17, 18, 19,
  * 13 with the pieces held, 16 with the bytes that the line would have, or 0 with the bytes that it has. An event that is not
- * answered 0 changes nothing but the report. */
+ * answered 0 changes nothing but the report.
+ *
+ * An event that is answered 0 where no piece was held leaves zeros after the line, whatever was there. A later one writes
+ * nothing after the line that it makes and never makes it shorter, so the zeros stay, as long as nobody else writes there
+ * (crates/desk_lines/specs/OnPieces.antt, Onward). They are not laid again with each event: a line would then cost its
+ * length times the output's. */
 
 /* A first atom of a component. */
 void mavisdrok_writer_root(uint8_t *out, size_t out_len,
@@ -154,11 +170,11 @@ void mavisdrok_writer_extend(uint8_t *out, size_t out_len,
                              uint32_t bond, uint32_t first, uint32_t second,
                              uint64_t *report, size_t report_len);
 
-/* A ring number, 0 to 99, at the last piece. */
+/* A ring number at the last piece. */
 void mavisdrok_writer_join(uint8_t *out, size_t out_len,
                            uint32_t *starts, size_t starts_len,
                            uint64_t *state, size_t state_len,
-                           uint32_t bond, uint32_t number,
+                           uint32_t bond, mavisdrok_rnum number,
                            uint64_t *report, size_t report_len);
 
 /* The last n pieces, put in brackets onto the piece before. */
@@ -179,8 +195,8 @@ void mavisdrok_pool_hit(uint32_t *pairs, size_t pairs_len,
 
 /* ---- One atom, bond or ring number as text */
 
-/* The atom that a text begins with: 1, 2 with a place, or 0 with the place after it and its two words in kind. After a
- * refusal kind holds two zeros. */
+/* The atom that a text begins with: 17 where fewer than two words are lent for its kind, 1, 2 with a place, or 0 with the
+ * place after it and its two words in kind, with zeros after them. After a refusal kind holds zeros. */
 void mavisdrok_read_atom(const uint8_t *text, size_t text_len,
                          uint32_t *kind, size_t kind_len,
                          uint64_t *report, size_t report_len);
@@ -193,7 +209,7 @@ void mavisdrok_spell_atom(uint8_t *out, size_t out_len, uint32_t first, uint32_t
 void mavisdrok_spell_bond(uint8_t *out, size_t out_len, uint32_t bond,
                           uint64_t *report, size_t report_len);
 
-void mavisdrok_spell_rnum(uint8_t *out, size_t out_len, uint32_t number,
+void mavisdrok_spell_rnum(uint8_t *out, size_t out_len, mavisdrok_rnum number,
                           uint64_t *report, size_t report_len);
 
 #ifdef __cplusplus

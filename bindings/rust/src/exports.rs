@@ -31,7 +31,7 @@ extern "C" {
     );
     pub fn mavisdrok_builder_join(
         atoms: *const u32, atoms_len: usize, entries: *mut u32, entries_len: usize, path: *const u32, path_len: usize,
-        rings: *mut u32, rings_len: usize, state: *mut u64, state_len: usize, bond: u32, number: usize,
+        rings: *mut u32, rings_len: usize, state: *mut u64, state_len: usize, bond: u32, number: u32,
         report: *mut u64, report_len: usize,
     );
     pub fn mavisdrok_builder_pop(

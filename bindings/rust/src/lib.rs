@@ -7,6 +7,10 @@
 //! assert_eq!(graph.order().unwrap().walked, [0, 3, 2, 1, 4]);
 //! assert_eq!(mavisdrok::read(b"C)"), Err(mavisdrok::Error::Character(1)));
 //! ```
+//!
+//! A call takes less than STACK KiB of stack, so a thread that is made with a smaller one than Rust's own of 2 MiB has to have
+//! that much left. Nothing else is asked of a caller: slices are lent for the call alone, tables that stand for nothing are
+//! refused by name, and a refused call leaves the builder, the writer or the pool as it was.
 
 mod exports;
 mod feature;
@@ -99,7 +103,9 @@ fn told(report: [u64; 3]) -> Result<(usize, usize), Error> {
         16 => Error::OutRoom(a),
         17 => Error::BadTable(a),
         18 => Error::NoAtom,
-        _ => Error::Overpop,
+        19 => Error::Overpop,
+        // The library has no other answer; an archive that does is not of this version.
+        number => panic!("the library answered {number}, which names nothing"),
     })
 }
 
