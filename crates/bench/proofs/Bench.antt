@@ -20,7 +20,11 @@ use Rattle.ways.specs.Graph.{kindOr, kindIn, degreeIn, bondIn}
 use Rattle.ways.specs.Ways.{isRefused, isFixed, turnedOr, even, saidAs, scanIn, judgedBack, wayOf}
 use Rattle.walk.specs.Walk as walk
 use Rattle.judge.specs.Judge as judge
+use Rattle.trek.specs.Plain as plain
 use Rattle.write.specs.Write as write
+use Rattle.write.specs.Plain as written
+use Rattle.write.specs.Numbers as write-numbers
+use Rattle.read.specs.Numbers as read-numbers
 use Rattle.read.specs.Read.{refusalOf, builtAnswer}
 use Rattle.read.specs.Line as line
 use Rattle.report.specs.Report.{ofRead, ofWritten}
@@ -29,5 +33,5 @@ use Rattle.bench.specs.Asked.{Asked, Says, readAs, writtenAs, rewriteOf,
 
 -- EACH IS ANSWERED SO, and leaves this
 pub rows-said : map (λ (r : Asked × Says). answerOf (r .0)) rows ≡ map (λ (r : Asked × Says). r .1) rows
-unfolding placeOf names begins peekAt digitOf digitAt missingAt bracketAt aromaticOf aliphaticOf optionalAt organicAt starAt orElse otherAt atomAt markWidth rnumAt afterCharge afterConfiguration afterHydrogens afterIsotope afterMap afterSymbol chargeAt closeAt configurationAt configured digitStep hydrogensAt insideAt isotopeAt mapAt numberAt signedAt slip symbolAt symbolOf fifteenAt shortAt longAt lateAt lesserOf ledAt bodyOf bodyAt missP foundP atomP ringP unionBy unionP unitBy unitP lineP closeP branchP bodies endP parse sketchOf runS stepS enterS numberS missedS rootS extendS bondedS joinS ringS openedS closedS firstOf numberOf countOf upd addEdge edgesAt openKind waits fillEdges fill lookup without invertOf reverseOf reconcileOf isDirectional codeOf openHere openIn firstOpenS ringsSay saysS finishS leftS refusalOf builtAnswer atomTable bondTable edgeTable targetOf padded inRange bracketInRange invertBracket kindOf words.bracketPair words.pairOf words.wordsOf words.listOf words.plainOf words.bracketOf words.loadOf words.loadAt words.entryOf words.bondOf words.bondAt bondOf bondAt spell.digits spell.numberText spell.nameText spell.symbolText spell.templateText spell.markedText spell.configurationText spell.hydrogensText spell.chargeText spell.mapText spell.bracketText spell.organic spell.kindText spell.atomText spell.bondText spell.rnumText sumOf startsOf pool.opens pool.numberOf pool.slot pool.grown pool.counterOf pool.nextOf pool.openOf pool.closeOf pool.calledOf pool.pairOf pool.hitOf lineOf dotText addPiece onLast wrapped popPieces writeEvent writeEvents kindOr sureKind kindIn degreeIn bondIn isRefused isFixed turnedOr even saidAs scanIn judgedBack wayOf walk.popsOf walk.rootOf walk.leftIn walk.numberedOf walk.ringOf walk.enteredOf walk.enterOf walk.bondTurn walk.entryOf walk.atomOf walk.turnOf walk.stepOf walk.walkTo walk.eventsOf walk.turnsOf words.isHeld judge.isEntry words.isAtom judge.bondStands judge.atomsFrom judge.bondsFrom judge.afterAtoms judge.badRecord write.walkIn write.saidIn write.refusalOf write.atomRoom write.bondRoom write.putLine write.concluded write.graphWritten write.writeOf line.wholeOf line.graphOf line.lineOf ofRead ofWritten readAs writtenAs rewriteOf numberGiven poolGiven callsFrom answerOf
+unfolding placeOf names begins peekAt digitOf digitAt missingAt bracketAt aromaticOf aliphaticOf optionalAt organicAt starAt orElse otherAt atomAt markWidth rnumAt afterCharge afterConfiguration afterHydrogens afterIsotope afterMap afterSymbol chargeAt closeAt configurationAt configured digitStep hydrogensAt insideAt isotopeAt mapAt numberAt signedAt slip symbolAt symbolOf fifteenAt shortAt longAt lateAt lesserOf ledAt bodyOf bodyAt missP foundP atomP ringP unionBy unionP unitBy unitP lineP closeP branchP bodies endP parse sketchOf runS stepS enterS numberS missedS rootS extendS bondedS joinS ringS openedS closedS firstOf numberOf countOf upd addEdge edgesAt openKind waits fillEdges fill lookup without invertOf reverseOf reconcileOf isDirectional codeOf openHere openIn firstOpenS ringsSay saysS finishS leftS refusalOf builtAnswer atomTable bondTable edgeTable targetOf padded inRange bracketInRange invertBracket kindOf words.bracketPair words.pairOf words.wordsOf words.listOf words.plainOf words.bracketOf words.loadOf words.loadAt words.entryOf words.bondOf words.bondAt bondOf bondAt spell.digits spell.numberText spell.nameText spell.symbolText spell.templateText spell.markedText spell.configurationText spell.hydrogensText spell.chargeText spell.mapText spell.bracketText spell.organic spell.kindText spell.atomText spell.bondText spell.rnumText sumOf startsOf pool.opens pool.numberOf pool.slot pool.grown pool.counterOf pool.nextOf pool.openOf pool.closeOf pool.calledOf pool.pairOf pool.hitOf lineOf dotText addPiece onLast wrapped popPieces writeEvent writeEvents kindOr sureKind kindIn degreeIn bondIn isRefused isFixed turnedOr even saidAs scanIn judgedBack wayOf walk.popsOf plain.andThen plain.numberFrom plain.joins plain.rings plain.enters plain.follows plain.entriesFrom plain.visitOf plain.rootsFrom plain.plainWalk words.isHeld judge.isEntry words.isAtom judge.bondStands judge.atomsFrom judge.bondsFrom judge.afterAtoms judge.badRecord write.refusalOf write.atomRoom write.bondRoom write.putLine written.outcomeWritten written.writePlain read-numbers.tells write-numbers.tells line.wholeOf line.graphOf line.lineOf ofRead ofWritten readAs writtenAs rewriteOf numberGiven poolGiven callsFrom answerOf
 rows-said = refl

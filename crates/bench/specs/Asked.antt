@@ -7,7 +7,8 @@ use Rattle.feature.specs.Pick.{pick}
 use Rattle.feature.specs.Text.{bytes}
 use Rattle.read.specs.Read.{Said}
 use Rattle.read.specs.Line.{lineOf}
-use Rattle.write.specs.Write.{Left, writeOf, zeros, pairWords}
+use Rattle.write.specs.Write.{Left, zeros, pairWords}
+use Rattle.write.specs.Plain.{writePlain}
 use Rattle.pool.specs.declared.Pool.{Pool}
 use Rattle.pool.specs.declared.Given.{Given}
 use Rattle.pool.specs.declared.Given.the-variants.{Number, Full}
@@ -44,7 +45,7 @@ writtenAs s l = says (ofWritten (l .answer)) (s .atoms ∷ s .bonds ∷ l .out �
 unfoldable pub rewriteOf : Said → Says
 rewriteOf s =
     pick (eqb (ofRead (s .answer) .number) 0)
-    (writtenAs s (writeOf lent (s .atoms) (ofRead (s .answer) .first) (s .bonds) (ofRead (s .answer) .second)))
+    (writtenAs s (writePlain lent (s .atoms) (ofRead (s .answer) .first) (s .bonds) (ofRead (s .answer) .second)))
     (readAs s)
 
 -- the number that a call of a pool is answered, 0 for none, and the pool after it

@@ -1,54 +1,63 @@
--- An answer is settled by its number and what it carries, so two results that meet the claim of a build are the same.
--- Assumes nothing.
+-- Two results that meet the promise of a builder's call are equal: a line for each event, and the build, whose answer is settled by
+-- its number and what it carries. Assumes nothing.
 use Prim.Native.Nat.{ℕ}
-use mathlib.Core.Path.{_≡_, refl, sym, ap, _∙_}
+use mathlib.Core.Path.{_≡_, refl}
 use mathlib.Core.List.{List}
-use native.Mathlib.Omega.{arith}
 use lib.ListN.{getD}
-use Rattle.builder.specs.Build.{Left, leftBy}
+use lib.Dec.{eqb}
+use Rattle.feature.specs.Pick.{pick}
+use Rattle.feature.specs.declared.atom_kind.AtomKind.{AtomKind}
+use Rattle.feature.specs.declared.bond_kind.BondKind.{BondKind}
+use Rattle.desk_numbers.specs.Numbers as desk
+use Rattle.desk_numbers.proofs.One.{one-result, one-equal}
+use Rattle.graph.specs.State.{Bld}
+use Rattle.builder.specs.Events.{rootD, extendD, joinD, popD}
+use Rattle.builder.specs.Build.{Left, leftBy, buildD}
 use Rattle.builder.specs.declared.calls.Answer.{Answer}
 use Rattle.builder.specs.declared.calls.Answer.the-variants.{Done, Join, Rnum, BadTable}
 
-numbers : {l r : Left} (x y : ℕ) → l ≡ r → l .number ≡ x → r .number ≡ y → x ≡ y
-numbers x y e f g = sym f ∙ ap (λ (w : Left). w .number) e ∙ g
+-- ---- the events: the tables, and the builder's numbers with its refusal
+pub one-root : (b : Bld) (k : AtomKind) (x y : Bld) → x ≡ rootD b k → y ≡ rootD b k → x ≡ y
+one-root b k = one-equal (rootD b k)
 
-carried : {l r : Left} (i : ℕ) → l ≡ r → getD (l .carries) i 0 ≡ getD (r .carries) i 0
-carried i e = ap (λ (w : Left). getD (w .carries) i 0) e
+pub one-extend : (b : Bld) (e : BondKind) (k : AtomKind) (x y : Bld) → x ≡ extendD b e k → y ≡ extendD b e k → x ≡ y
+one-extend b e k = one-equal (extendD b e k)
 
-pub one-answer : (r s : Answer) (a b c d : List ℕ) → leftBy r a b ≡ leftBy s c d → r ≡ s
+pub one-join : (b : Bld) (e : BondKind) (n : ℕ) (x y : Bld) → x ≡ joinD b e n → y ≡ joinD b e n → x ≡ y
+one-join b e n = one-equal (joinD b e n)
+
+pub one-pop : (b : Bld) (n : ℕ) (x y : Bld) → x ≡ popD b n → y ≡ popD b n → x ≡ y
+one-pop b n = one-equal (popD b n)
+
+-- ---- the build: its answer, and both tables
+pub record Result : Type 0 where
+  pub answer : Answer
+  pub atoms : List ℕ
+  pub bonds : List ℕ
+
+abbrev result : Answer → List ℕ → List ℕ → Result
+result r a b = record { answer = r; atoms = a; bonds = b }
+
+abbrev said : Result → Left
+said x = leftBy (x .answer) (x .atoms) (x .bonds)
+
+-- the answer with a number and what it carries
+abbrev answerTo : Left → Answer
+answerTo l =
+    pick (eqb (l .number) desk.done) (Done (getD (l .carries) 0 0) (getD (l .carries) 1 0))
+    (pick (eqb (l .number) desk.join) (Join (getD (l .carries) 0 0) (getD (l .carries) 1 0))
+    (pick (eqb (l .number) desk.rnum) (Rnum (getD (l .carries) 0 0))
+    BadTable))
+
+abbrev meant : Left → Result
+meant l = result (answerTo l) (l .atoms) (l .bonds)
+
+back : (r : Answer) (a b : List ℕ) → meant (leftBy r a b) ≡ result r a b
 unfolding leftBy
-one-answer (Done x0 x1) (Done y0 y1) a b c d e = ap (λ (i : ℕ). Done i x1) (carried 0 e) ∙ ap (λ (i : ℕ). Done y0 i) (carried 1 e)
-one-answer (Done x0 x1) (Join y0 y1) a b c d e = absurd (omega (arith, numbers 0 3 e refl refl))
-one-answer (Done x0 x1) (Rnum y0) a b c d e = absurd (omega (arith, numbers 0 4 e refl refl))
-one-answer (Done x0 x1) BadTable a b c d e = absurd (omega (arith, numbers 0 17 e refl refl))
-one-answer (Join x0 x1) (Done y0 y1) a b c d e = absurd (omega (arith, numbers 3 0 e refl refl))
-one-answer (Join x0 x1) (Join y0 y1) a b c d e = ap (λ (i : ℕ). Join i x1) (carried 0 e) ∙ ap (λ (i : ℕ). Join y0 i) (carried 1 e)
-one-answer (Join x0 x1) (Rnum y0) a b c d e = absurd (omega (arith, numbers 3 4 e refl refl))
-one-answer (Join x0 x1) BadTable a b c d e = absurd (omega (arith, numbers 3 17 e refl refl))
-one-answer (Rnum x0) (Done y0 y1) a b c d e = absurd (omega (arith, numbers 4 0 e refl refl))
-one-answer (Rnum x0) (Join y0 y1) a b c d e = absurd (omega (arith, numbers 4 3 e refl refl))
-one-answer (Rnum x0) (Rnum y0) a b c d e = ap (λ (i : ℕ). Rnum i) (carried 0 e)
-one-answer (Rnum x0) BadTable a b c d e = absurd (omega (arith, numbers 4 17 e refl refl))
-one-answer BadTable (Done y0 y1) a b c d e = absurd (omega (arith, numbers 17 0 e refl refl))
-one-answer BadTable (Join y0 y1) a b c d e = absurd (omega (arith, numbers 17 3 e refl refl))
-one-answer BadTable (Rnum y0) a b c d e = absurd (omega (arith, numbers 17 4 e refl refl))
-one-answer BadTable BadTable a b c d e = refl
+back (Done n m) a b = refl
+back (Join x y) a b = refl
+back (Rnum j) a b = refl
+back BadTable a b = refl
 
-left-atoms : (r : Answer) (a b : List ℕ) → leftBy r a b .atoms ≡ a
-unfolding leftBy
-left-atoms (Done n m) a b = refl
-left-atoms (Join x y) a b = refl
-left-atoms (Rnum j) a b = refl
-left-atoms BadTable a b = refl
-
-left-bonds : (r : Answer) (a b : List ℕ) → leftBy r a b .bonds ≡ b
-unfolding leftBy
-left-bonds (Done n m) a b = refl
-left-bonds (Join x y) a b = refl
-left-bonds (Rnum j) a b = refl
-left-bonds BadTable a b = refl
-
--- and so are the tables
-pub one-table : (r s : Answer) (a b c d : List ℕ) → leftBy r a b ≡ leftBy s c d → (a ≡ c) × (b ≡ d)
-one-table r s a b c d e =
-    (sym (left-atoms r a b) ∙ ap (λ (w : Left). w .atoms) e ∙ left-atoms s c d, sym (left-bonds r a b) ∙ ap (λ (w : Left). w .bonds) e ∙ left-bonds s c d)
+pub one-build : (b : Bld) (bonds : List ℕ) (x y : Result) → said x ≡ buildD b bonds → said y ≡ buildD b bonds → x ≡ y
+one-build b bonds = one-result said meant (λ x. back (x .answer) (x .atoms) (x .bonds)) (buildD b bonds)

@@ -8,11 +8,12 @@ use lib.Dec.{eqb}
 use Rattle.feature.specs.Pick.{pick}
 use Rattle.feature.specs.declared.atom_kind.AtomKind.{AtomKind}
 use Rattle.desk_numbers.specs.Numbers.{Told, done, endOfLine, outRoom}
+use Rattle.desk_numbers.proofs.One.{one-result}
 use Rattle.desk_atom.specs.declared.Begins.{Begins}
 use Rattle.desk_atom.specs.declared.Begins.the-variants.{Atom, EndOfLine, Character}
 use Rattle.desk_atom.specs.declared.Spelt.{Spelt}
 use Rattle.desk_atom.specs.declared.Spelt.the-variants.{Written, OutRoom, BadTable}
-use Rattle.desk_atom.specs.Texts.{Reads, reads, beginsTold, kindsIn, Spells, spelt, speltTold}
+use Rattle.desk_atom.specs.Texts.{Reads, reads, beginsTold, kindsIn, Spells, spelt, speltTold, firstAtom, texted, atomD, rnumD}
 
 -- ---- reading
 begunBy : Told → List AtomKind → Begins
@@ -42,3 +43,29 @@ spelt-known BadTable = refl
 
 pub one-spelling : {r s : Spelt} {o p : List ℕ} → spelt r o ≡ spelt s p → r ≡ s
 one-spelling {r} {s} e = sym (spelt-known r) ∙ ap (λ (x : Spells). speltBy (x .told)) e ∙ spelt-known s
+
+-- ---- two results that meet a promise are equal
+pub one-read-atom : (text : List ℕ) (x y : Begins) → reads x ≡ firstAtom text → reads y ≡ firstAtom text → x ≡ y
+one-read-atom text = one-result reads (λ (r : Reads). begunBy (r .told) (r .kinds)) begun-known (firstAtom text)
+
+-- what a call hands back: its answer, and the output that is left
+pub record Result : Type 0 where
+  pub answer : Spelt
+  pub out : List ℕ
+
+abbrev result : Spelt → List ℕ → Result
+result r o = record { answer = r; out = o }
+
+pub one-spelt : (claim : Spells) (x y : Result) → spelt (x .answer) (x .out) ≡ claim → spelt (y .answer) (y .out) ≡ claim → x ≡ y
+one-spelt =
+    one-result (λ (x : Result). spelt (x .answer) (x .out)) (λ (s : Spells). result (speltBy (s .told)) (s .out))
+    (λ x. ap (λ (r : Spelt). result r (x .out)) (spelt-known (x .answer)))
+
+pub one-spell-atom : (k : AtomKind) (n : ℕ) (x y : Result) → spelt (x .answer) (x .out) ≡ atomD k n → spelt (y .answer) (y .out) ≡ atomD k n → x ≡ y
+one-spell-atom k n = one-spelt (atomD k n)
+
+pub one-spell-bond : (text : List ℕ) (n : ℕ) (x y : Result) → spelt (x .answer) (x .out) ≡ texted text n → spelt (y .answer) (y .out) ≡ texted text n → x ≡ y
+one-spell-bond text n = one-spelt (texted text n)
+
+pub one-spell-rnum : (r n : ℕ) (x y : Result) → spelt (x .answer) (x .out) ≡ rnumD r n → spelt (y .answer) (y .out) ≡ rnumD r n → x ≡ y
+one-spell-rnum r n = one-spelt (rnumD r n)

@@ -10,6 +10,7 @@ use Rattle.feature.specs.Pick.{pick, both}
 use Rattle.writer.specs.Line.{Event}
 use Rattle.writer.specs.Tables.{Spoken, writer}
 use Rattle.desk_numbers.specs.Numbers as desk
+use Rattle.desk_numbers.proofs.One.{one-result}
 use Rattle.desk_lines.specs.declared.Said.{Said}
 use Rattle.desk_lines.specs.declared.Said.the-variants as said
 use Rattle.desk_lines.specs.Pieces as pieces
@@ -43,3 +44,19 @@ known said.BadTable o t = refl
 
 pub one-answer : {r q : Said} {o p s t : List ℕ} → pieces.left r o s ≡ pieces.left q p t → r ≡ q
 one-answer {r} {q} {o} {p} {s} {t} e = sym (known r o s) ∙ ap saidBy e ∙ known q p t
+
+-- what a call hands back: its answer, the output and the starts that are left
+pub record Result : Type 0 where
+  pub answer : Said
+  pub out : List ℕ
+  pub starts : List ℕ
+
+abbrev result : Said → List ℕ → List ℕ → Result
+result r o t = record { answer = r; out = o; starts = t }
+
+-- two results that meet the promise of an event, whichever it is, are equal
+pub one-event : (ok : Bool) (s : Spoken) (e : Event) (x y : Result) → pieces.left (x .answer) (x .out) (x .starts) ≡ pieces.eventD ok s e
+    → pieces.left (y .answer) (y .out) (y .starts) ≡ pieces.eventD ok s e → x ≡ y
+one-event ok s e =
+    one-result (λ (x : Result). pieces.left (x .answer) (x .out) (x .starts)) (λ (l : pieces.Left). result (saidBy l) (l .out) (l .starts))
+    (λ x. ap (λ (r : Said). result r (x .out) (x .starts)) (known (x .answer) (x .out) (x .starts))) (pieces.eventD ok s e)

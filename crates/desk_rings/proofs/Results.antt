@@ -8,15 +8,12 @@ use lib.ListN.{getD}
 use lib.Dec.{eqb}
 use Rattle.feature.specs.Pick.{pick}
 use Rattle.desk_numbers.specs.Numbers.{told, done, ringNumbers, badTable}
+use Rattle.desk_numbers.proofs.One.{one-result}
 use Rattle.pool.specs.declared.Pool.{Pool}
 use Rattle.pool.specs.Pairs.{pool}
 use Rattle.desk_rings.specs.declared.Handed.{Handed}
 use Rattle.desk_rings.specs.declared.Handed.the-variants as handed
 use Rattle.desk_rings.specs.Slots as slots
-
--- two results that meet one claim are equal: so for the call here, and for every call of desk_lines and desk_atom
-pub one-result : {A : Type 0} (claim x y : A) → x ≡ claim → y ≡ claim → x ≡ y
-one-result claim x y p q = p ∙ sym q
 
 -- the numbers, the values and the state tell the answer
 handedBy : slots.Gives → Handed
@@ -32,6 +29,21 @@ known a b handed.BadTable l = refl
 
 pub one-answer : (a b : ℕ) {r q : Handed} {l m : List ℕ} → slots.gives a b r l ≡ slots.gives a b q m → r ≡ q
 one-answer a b {r} {q} {l} {m} e = sym (known a b r l) ∙ ap handedBy e ∙ known a b q m
+
+-- what a call hands back: its answer, and the words that are left
+pub record Result : Type 0 where
+  pub answer : Handed
+  pub left : List ℕ
+
+abbrev result : Handed → List ℕ → Result
+result r l = record { answer = r; left = l }
+
+-- two results that meet the promise are equal
+pub one-hit : (p : Pool) (pairs : List ℕ) (a b : ℕ) (x y : Result) → slots.gives a b (x .answer) (x .left) ≡ slots.hitD p pairs a b
+    → slots.gives a b (y .answer) (y .left) ≡ slots.hitD p pairs a b → x ≡ y
+one-hit p pairs a b =
+    one-result (λ (x : Result). slots.gives a b (x .answer) (x .left)) (λ (g : slots.Gives). result (handedBy g) (g .left))
+    (λ x. ap (λ (r : Handed). result r (x .left)) (known a b (x .answer) (x .left))) (slots.hitD p pairs a b)
 
 pub pool-17 : (p : Pool) (pairs : List ℕ) (a b : ℕ) → slots.isPool p pairs ≡ false → slots.hitD p pairs a b ≡ slots.gives a b handed.BadTable pairs
 unfolding slots.hitD

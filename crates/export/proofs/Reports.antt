@@ -34,6 +34,7 @@ use Rattle.report.specs.declared.state.AsPool.the-variants as pool
 use Rattle.report.specs.declared.state.AsBuilder.{AsBuilder}
 use Rattle.report.specs.declared.state.AsBuilder.the-variants as state
 use Rattle.export.specs.Atom.{kindSize, kindIn, reading, taken, readX}
+use Rattle.export.specs.Calls.{readCells, readBy, writeCells, writtenBy, orderCells, orderedBy}
 use Rattle.export.specs.Given.{onBuilder, onWriter, onPool}
 use Rattle.export.specs.Lines as Lines
 use Rattle.export.specs.Rings as Rings
@@ -41,17 +42,18 @@ use Rattle.export.specs.Events.{Made, made, told}
 use Rattle.report.specs.Report.{bad, ofRead, ofWritten, ofBuilt, ofBegins, laidInto}
 use Rattle.report.specs.State.{writerList, poolList}
 
-pub read-parts : (s : Said) (r : Answer) (atoms bonds lent left : List ℕ) (p : Report) → said r atoms bonds ≡ s → p ≡ ofRead r → left ≡ laidInto lent p → ((atoms ≡ s .atoms) × (bonds ≡ s .bonds)) × (left ≡ laidInto lent (ofRead (s .answer)))
+-- the read call, the write call and the walk order
+pub read-parts : (s : Said) (r : Answer) (atoms bonds lent left : List ℕ) (p : Report) → said r atoms bonds ≡ s → p ≡ ofRead r → left ≡ laidInto lent p → readCells atoms bonds left ≡ readBy lent s
 read-parts s r atoms bonds lent left p e f g =
-    ((ap (λ (x : Said). x .atoms) e, ap (λ (x : Said). x .bonds) e), g ∙ ap (λ (x : Report). laidInto lent x) (f ∙ ap (λ (x : Said). ofRead (x .answer)) e))
+    ap (readCells atoms bonds) (g ∙ ap (λ (x : Report). laidInto lent x) f) ∙ ap (readBy lent) e
 
-pub write-parts : (s : write.Left) (r : Written) (out lent left′ : List ℕ) (p : Report) → write.left r out ≡ s → p ≡ ofWritten r → left′ ≡ laidInto lent p → (out ≡ s .out) × (left′ ≡ laidInto lent (ofWritten (s .answer)))
+pub write-parts : (s : write.Left) (r : Written) (out lent left′ : List ℕ) (p : Report) → write.left r out ≡ s → p ≡ ofWritten r → left′ ≡ laidInto lent p → writeCells out left′ ≡ writtenBy lent s
 write-parts s r out lent left′ p e f g =
-    (ap (λ (x : write.Left). x .out) e, g ∙ ap (λ (x : Report). laidInto lent x) (f ∙ ap (λ (x : write.Left). ofWritten (x .answer)) e))
+    ap (writeCells out) (g ∙ ap (λ (x : Report). laidInto lent x) f) ∙ ap (writtenBy lent) e
 
-pub order-parts : (s : Order) (r : Written) (walked number back lent left : List ℕ) (p : Report) → order r walked number back ≡ s → p ≡ ofWritten r → left ≡ laidInto lent p → ((walked ≡ s .walked) × (number ≡ s .number) × (back ≡ s .back)) × (left ≡ laidInto lent (ofWritten (s .answer)))
+pub order-parts : (s : Order) (r : Written) (walked number back lent left : List ℕ) (p : Report) → order r walked number back ≡ s → p ≡ ofWritten r → left ≡ laidInto lent p → orderCells walked number back left ≡ orderedBy lent s
 order-parts s r walked number back lent left p e f g =
-    ((ap (λ (x : Order). x .walked) e, ap (λ (x : Order). x .number) e, ap (λ (x : Order). x .back) e), g ∙ ap (λ (x : Report). laidInto lent x) (f ∙ ap (λ (x : Order). ofWritten (x .answer)) e))
+    ap (orderCells walked number back) (g ∙ ap (λ (x : Report). laidInto lent x) f) ∙ ap (orderedBy lent) e
 
 -- what one atom was read as
 module _ (k t text : List ℕ) where

@@ -1,3 +1,4 @@
+pub mod Calls
 pub mod Atom
 pub mod Events
 pub mod Given

@@ -11,9 +11,7 @@ pub mod rings;
 
 ghost use mathlib.Core.Path.{_≡_};
 ghost use lib.ListN.{length};
-ghost use Rattle.read.specs.Line.{lineOf};
-ghost use Rattle.write.specs.Plain.{writePlain, orderPlain};
-ghost use Rattle.report.specs.Report.{ofRead, ofWritten, laidInto};
+ghost use Rattle.export.specs.Calls.{readCells, readX, writeCells, writeX, orderCells, orderX};
 use report::answer::lay;
 use report::answer::of_read;
 use report::answer::of_written;
@@ -26,9 +24,8 @@ pub extern "C" fn mavisdrok_read(
     bonds: &mut [u32],
     report: &mut [u64],
 )
-    ensures { λ _. ⌜ (now (atoms .exit) ≡ lineOf (now (text .entry)) (length (now (atoms .entry))) (length (now (bonds .entry))) .atoms)
-        × (now (bonds .exit) ≡ lineOf (now (text .entry)) (length (now (atoms .entry))) (length (now (bonds .entry))) .bonds) ⌝ }
-    ensures { λ _. ⌜ now (report .exit) ≡ laidInto (now (report .entry)) (ofRead (lineOf (now (text .entry)) (length (now (atoms .entry))) (length (now (bonds .entry))) .answer)) ⌝ }
+    ensures { λ _. ⌜ readCells (now (atoms .exit)) (now (bonds .exit)) (now (report .exit))
+        ≡ readX (now (text .entry)) (length (now (atoms .entry))) (length (now (bonds .entry))) (now (report .entry)) ⌝ }
 {
     let answer = read::read(text, atoms, bonds);
     lay(report, of_read(answer));
@@ -44,8 +41,8 @@ pub extern "C" fn mavisdrok_write(
     out: &mut [u8],
     report: &mut [u64],
 )
-    ensures { λ _. ⌜ now (out .exit) ≡ writePlain (length (now (out .entry))) (now (atoms .entry)) n (now (bonds .entry)) m .out ⌝ }
-    ensures { λ _. ⌜ now (report .exit) ≡ laidInto (now (report .entry)) (ofWritten (writePlain (length (now (out .entry))) (now (atoms .entry)) n (now (bonds .entry)) m .answer)) ⌝ }
+    ensures { λ _. ⌜ writeCells (now (out .exit)) (now (report .exit))
+        ≡ writeX (length (now (out .entry))) (now (atoms .entry)) n (now (bonds .entry)) m (now (report .entry)) ⌝ }
 {
     let answer = write::write(atoms, n, bonds, m, out);
     lay(report, of_written(answer));
@@ -63,10 +60,8 @@ pub extern "C" fn mavisdrok_order(
     back: &mut [u32],
     report: &mut [u64],
 )
-    ensures { λ _. ⌜ (now (walked .exit) ≡ orderPlain (length (now (walked .entry))) (length (now (number .entry))) (length (now (back .entry))) (now (atoms .entry)) n (now (bonds .entry)) m .walked)
-        × (now (number .exit) ≡ orderPlain (length (now (walked .entry))) (length (now (number .entry))) (length (now (back .entry))) (now (atoms .entry)) n (now (bonds .entry)) m .number)
-        × (now (back .exit) ≡ orderPlain (length (now (walked .entry))) (length (now (number .entry))) (length (now (back .entry))) (now (atoms .entry)) n (now (bonds .entry)) m .back) ⌝ }
-    ensures { λ _. ⌜ now (report .exit) ≡ laidInto (now (report .entry)) (ofWritten (orderPlain (length (now (walked .entry))) (length (now (number .entry))) (length (now (back .entry))) (now (atoms .entry)) n (now (bonds .entry)) m .answer)) ⌝ }
+    ensures { λ _. ⌜ orderCells (now (walked .exit)) (now (number .exit)) (now (back .exit)) (now (report .exit))
+        ≡ orderX (length (now (walked .entry))) (length (now (number .entry))) (length (now (back .entry))) (now (atoms .entry)) n (now (bonds .entry)) m (now (report .entry)) ⌝ }
 {
     let answer = write::order::order(atoms, n, bonds, m, walked, number, back);
     lay(report, of_written(answer));

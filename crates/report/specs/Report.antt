@@ -5,9 +5,9 @@ use mathlib.Core.List.{List, [], _∷_}
 use lib.ListN.{getD}
 use lib.Seq.{sets}
 use Rattle.read.specs.declared.Answer.{Answer}
-use Rattle.read.specs.declared.Answer.the-variants as read
+use Rattle.read.specs.Numbers as read
 use Rattle.write.specs.declared.answer.Written.{Written}
-use Rattle.write.specs.declared.answer.Written.the-variants as write
+use Rattle.write.specs.Numbers as write
 use Rattle.graph.specs.declared.builder.Builder.{Builder}
 use Rattle.builder.specs.declared.calls.Answer as calls
 use Rattle.builder.specs.Build.{Left, leftBy}
@@ -24,36 +24,6 @@ use Rattle.report.specs.declared.answer.Report.{Report}
 abbrev pub report : ℕ → ℕ → ℕ → Report
 report n a b = record { number = n; first = a; second = b }
 
--- of the read call; 0 carries the atoms and the bond entries
-unfoldable pub ofRead : Answer → Report
-ofRead (read.Done n m) = report 0 n m
-ofRead read.EndOfLine = report 1 0 0
-ofRead (read.Character place) = report 2 place 0
-ofRead (read.Join closing opening) = report 3 closing opening
-ofRead (read.Rnum join) = report 4 join 0
-ofRead (read.Inversion atom) = report 10 atom 0
-ofRead (read.TextTooLong size) = report 12 size 0
-ofRead (read.AtomRoom place) = report 13 place 0
-ofRead (read.BondRoom place) = report 14 place 0
-ofRead (read.Nesting place) = report 15 place 0
-ofRead read.NoAtom = report 18 0 0
-
--- of the write call and the walk order; 0 carries the bytes written, or the atoms walked
-unfoldable pub ofWritten : Written → Report
-ofWritten (write.Done n) = report 0 n 0
-ofWritten (write.UnknownTarget source target) = report 5 source target
-ofWritten (write.Loop source) = report 6 source 0
-ofWritten (write.HalfBond source target) = report 7 source target
-ofWritten (write.DuplicateBond source target) = report 8 source target
-ofWritten (write.IncompatibleBond target source) = report 9 target source
-ofWritten (write.Inversion atom) = report 10 atom 0
-ofWritten (write.RingNumbers source target) = report 11 source target
-ofWritten (write.AtomRoom n) = report 13 n 0
-ofWritten (write.BondRoom m) = report 14 m 0
-ofWritten (write.OutRoom bytes) = report 16 bytes 0
-ofWritten (write.BadTable place) = report 17 place 0
-
--- ---- the single calls
 -- a number with the values that it carries, in a row
 abbrev pub carrying : ℕ → List ℕ → Report
 carrying n c = report n (getD c 0 0) (getD c 1 0)
@@ -61,6 +31,15 @@ carrying n c = report n (getD c 0 0) (getD c 1 0)
 abbrev pub telling : Told → Report
 telling t = carrying (t .number) (t .values)
 
+-- of the read call; 0 carries the atoms and the bond entries
+unfoldable pub ofRead : Answer → Report
+ofRead a = telling (read.tells a)
+
+-- of the write call and the walk order; 0 carries the bytes written, or the atoms walked
+unfoldable pub ofWritten : Written → Report
+ofWritten w = telling (write.tells w)
+
+-- ---- the single calls
 -- of words that stand for no state, no atom or no bond
 abbrev pub bad : Report
 bad = report 17 0 0

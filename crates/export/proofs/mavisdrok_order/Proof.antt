@@ -1,6 +1,7 @@
 -- What the walk order leaves, and the report of its answer.
 use Rattle.export.proofs.Reports.{order-parts}
 use Rattle.write.proofs.One.{same-order}
+use Rattle.export.specs.Calls.{orderX}
 use borrow.Author.Needs.{needs}
 use Rattle.export.proofs.mavisdrok_order.Statement.{statement}
 use Rattle.export.proofs.mavisdrok_order.Tie as tie
@@ -27,6 +28,7 @@ same-length-4 : tie.Need-same-length-4
 same-length-4 c = search needs
 
 returns : tie.Need-returns
+unfolding orderX
 returns c = order-parts _ _ _ _ _ _ _ _ (same-order _ _ (c .before .before .before .before .before .before .before .before .before .before .before .order .ensures)) (c .before .before .before .of-written .ensures) (c .before .before .lay .ensures)
 
 pub mavisdrok-order-spec : {M : Type 1} → statement M

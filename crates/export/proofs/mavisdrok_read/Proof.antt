@@ -1,6 +1,7 @@
 -- What the read call leaves, and the report of its answer.
 use Rattle.export.proofs.Reports.{read-parts}
 use Rattle.read.proofs.One.{same-said}
+use Rattle.export.specs.Calls.{readX}
 use borrow.Author.Needs.{needs}
 use Rattle.export.proofs.mavisdrok_read.Statement.{statement}
 use Rattle.export.proofs.mavisdrok_read.Tie as tie
@@ -24,6 +25,7 @@ same-length-3 : tie.Need-same-length-3
 same-length-3 c = search needs
 
 returns : tie.Need-returns
+unfolding readX
 returns c = read-parts _ _ _ _ _ _ _ (same-said _ _ (c .before .before .before .before .before .before .before .before .before .read .ensures)) (c .before .before .before .of-read .ensures) (c .before .before .lay .ensures)
 
 pub mavisdrok-read-spec : {M : Type 1} → statement M
