@@ -248,6 +248,53 @@ static void builder(void)
     free(a), free(e), free(p), free(g), free(b), free(s), free(r);
 }
 
+static void must_stand(const uint64_t *report, const char *call)
+{
+    count(report, MAVISDROK_REPORT_WORDS);
+    if (report[0] == 17) {
+        printf("%s: answered 17 on what a start and events have made\n", call);
+        exit(1);
+    }
+}
+
+/* What a start and events have made stands: no event of good words is answered 17, nor is the build. */
+static void told(void)
+{
+    size_t places = below(30), slots = below(90), al = places * 3 + below(3), el = slots * 3 + below(3), pl = places + below(3);
+    uint32_t *a = words(al), *e = words(el), *p = words(pl), *g = words(MAVISDROK_RINGS), *b;
+    uint64_t s[MAVISDROK_BUILDER_WORDS], r[MAVISDROK_REPORT_WORDS];
+
+    mavisdrok_builder_start(a, al, e, el, p, pl, g, MAVISDROK_RINGS, s, MAVISDROK_BUILDER_WORDS, r, 3);
+    must_stand(r, "start");
+    for (size_t i = below(80); i > 0; i--) {
+        static const char *const atoms[] = {"C", "c", "*", "[C@H]", "[C@@]", "[13CH4+2:7]", "[Fe@OH3H2]"};
+        const char *atom = atoms[below(7)];
+        uint32_t k[2], bond = 1 + (uint32_t)below(8);
+
+        mavisdrok_read_atom((const uint8_t *)atom, strlen(atom), k, 2, r, 3);
+        switch (below(8)) {
+        case 0:
+            mavisdrok_builder_root(a, al, e, el, p, pl, g, MAVISDROK_RINGS, s, MAVISDROK_BUILDER_WORDS, k[0], k[1], r, 3);
+            break;
+        case 1:
+            mavisdrok_builder_pop(a, al, e, el, p, pl, g, MAVISDROK_RINGS, s, MAVISDROK_BUILDER_WORDS, below(4), r, 3);
+            break;
+        case 2:
+        case 3:
+        case 4:
+            mavisdrok_builder_join(a, al, e, el, p, pl, g, MAVISDROK_RINGS, s, MAVISDROK_BUILDER_WORDS, bond, below(6), r, 3);
+            break;
+        default:
+            mavisdrok_builder_extend(a, al, e, el, p, pl, g, MAVISDROK_RINGS, s, MAVISDROK_BUILDER_WORDS, bond, k[0], k[1], r, 3);
+        }
+        must_stand(r, "builder's event");
+    }
+    b = words(s[5] * 2);
+    mavisdrok_builder_build(a, al, b, s[5] * 2, e, el, p, pl, g, MAVISDROK_RINGS, s, MAVISDROK_BUILDER_WORDS, r, 3);
+    must_stand(r, "build");
+    free(a), free(e), free(p), free(g), free(b);
+}
+
 static void writer(void)
 {
     size_t ol = below(60), bl = below(12), sl = below(6) ? 2 : below(5), rl = below(5);
@@ -361,6 +408,7 @@ int main(int argc, char **argv)
         round_trip();
         tables();
         builder();
+        told();
         writer();
         pool();
         one_text();

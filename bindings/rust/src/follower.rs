@@ -33,8 +33,8 @@ pub trait Follower {
     fn pop(&mut self, depth: usize) -> Result<(), Error>;
 }
 
-/// A `Follower` that builds a graph. Each event judges the whole state, so that its time grows with the square of the bond
-/// entries; a line is read faster by `read`.
+/// A `Follower` that builds a graph. Each event judges the whole state, so that its time grows with the atoms and bond entries
+/// held; a line is read faster by `read`.
 ///
 /// ```
 /// use mavisdrok::{AtomKind, BondKind, Builder, Follower};

@@ -14,7 +14,7 @@ use Rattle.graph.specs.State.{entryWords}
 use Rattle.graph.specs.declared.builder.Builder.{Builder}
 use Rattle.standing.specs.Standing.{also, placesIn, slotsIn, countsStand}
 
-no : false ≡ true → ⊥
+pub no : false ≡ true → ⊥
 no e = let z : _≡_ {A = ℕ} 0 1 = cc in omega arith
 
 pub first : (a b : Bool) → also a b ≡ true → a ≡ true

@@ -36,13 +36,11 @@ use Rattle.graph.specs.Rings.{numbers}
 use Rattle.graph.specs.State.{Bld, bld, unclosed, entryWords, Small, refuse, lastOf, entered, rootOf, bonded, extendedBy, extendOf, openedOf, openedAt, openingOf, openingKind, failedSt, closedBy, joinOf, popOf, bondRoom}
 use Rattle.graph.specs.declared.builder.Builder.{Builder}
 use Rattle.standing.specs.Standing.{also, isKind, sourceAt, kindAt, targetAt, isTarget, isEntry, bondsFrom, turnedOf, isOwn, isMatched, isPaired, leastOpen, isLater, isStep, isApart, isRing, openRings, joinsStand, placesIn, slotsIn, countsStand, failureStands, isState}
-use Rattle.standing.proofs.Counts.{first, second, Counts, counts}
+use Rattle.standing.specs.Chains.{Between}
+use Rattle.standing.proofs.Counts.{no, first, second, Counts, counts}
 use Rattle.standing.proofs.Ends.{turned-code, reverse-twice, to-matched, both-ends, even-ends}
 use Rattle.standing.proofs.Grown.{by-eq, sure-code, same-code, Plain, Pairs}
 use Rattle.standing.proofs.Keeps.{Keeps, keeps-root, keeps-extend, keeps-open, keeps-fail, keeps-close, keeps-pop}
-
-no : false ≡ true → ⊥
-no e = let z : _≡_ {A = ℕ} 0 1 = cc in omega arith
 
 -- ---- tests joined
 all-two : (a b : Bool) → a ≡ true → b ≡ true → also a b ≡ true
@@ -68,6 +66,21 @@ code-kind bonds.Up = refl
 code-kind bonds.Down = refl
 
 -- ---- entries
+-- entries that stand are between atoms
+pub between : (s : Builder) (e : List ℕ) (m : ℕ) → m ≤ bondLimit → s .atoms ≤ atomLimit → every (isEntry s e) m ≡ true → Between e m (s .atoms)
+unfolding isEntry isTarget
+between s e m few most all =
+    record {
+      few = few;
+      most = most;
+      kind = λ i l. kind-code (kindAt e i) (first (isKind (kindOf (kindAt e i))) _ (second (ltb (sourceAt e i) (s .atoms)) _ (at i l)));
+      source = λ i l. ltb-true _ _ (first (ltb (sourceAt e i) (s .atoms)) _ (at i l));
+      target = λ i l u. ltb-true _ _ (subst (λ (q : Bool). pick q (ltb (targetAt e i) (s .atoms)) (ltb (targetAt e i - unclosed) (s .joins)) ≡ true) (lt-ltb (targetAt e i) unclosed u) (second (isKind (kindOf (kindAt e i))) _ (second (ltb (sourceAt e i) (s .atoms)) _ (at i l))));
+    }
+  where
+    at : (i : ℕ) → i < m → isEntry s e i ≡ true
+    at i l = every-at (isEntry s e) m i all l
+
 module _ (s : Builder) (e : List ℕ) (m : ℕ) where
   to-plain : every (isEntry s e) m ≡ true → every (isLater e) m ≡ true → Plain (s .atoms) (s .joins) e m
   unfolding isEntry isTarget isLater

@@ -5,3 +5,6 @@ pub mod Turns
 pub mod Grown
 pub mod Keeps
 pub mod Kept
+pub mod Links
+pub mod Levels
+pub mod Ways

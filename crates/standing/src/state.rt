@@ -197,7 +197,7 @@ pub fn is_state(atoms: &[u32], entries: &[u32], path: &[u32], rings: &[u32], b: 
     if !entries_stand(b, entries, b.entries) {
         return false;
     }
-    if !pairs_stand(entries, b.entries) {
+    if !pairs_stand(entries, b.entries, b.atoms) {
         return false;
     }
     if !joins_rise(entries, b.entries) {

@@ -5,6 +5,7 @@ use native.Mathlib.Omega.{arith}
 use borrow.Author.Needs.{needs}
 use Rattle.standing.specs.Standing.{isState}
 use Rattle.standing.proofs.Counts.{counts}
+use Rattle.standing.proofs.Kept.{between}
 use Rattle.standing.proofs.state.is_state.Statement.{statement}
 use Rattle.standing.proofs.state.is_state.Tie as tie
 
@@ -36,7 +37,7 @@ returns-3 c = simp (← c .before .before .before .before .before .counts-stand 
 pairs-stand-requires : tie.Need-pairs-stand-requires
 pairs-stand-requires c κs =
     let h = counts (c .before .before .before .before .before .before .before .before .before .before .args .b) _ _ _ _ (sym (c .before .before .before .before .before .counts-stand .ensures) ∙ not-false (c .before .before .before .before .before .counts-stand .result) (c .before .before .before .before .if1 .left)) in
-    omega (arith, h .entries, h .slots)
+    between (c .before .before .before .before .before .before .before .before .before .before .args .b) _ _ (omega (arith, h .entries, h .slots)) (omega (arith, h .atoms, h .places)) (sym (c .before .entries-stand .ensures) ∙ not-false (c .before .entries-stand .result) (c .if3 .left))
 
 returns-4 : tie.Need-returns-4
 unfolding isState
