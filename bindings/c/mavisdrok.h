@@ -15,7 +15,9 @@
  * is zero after what the call has laid there; after a refusal it is zero all through. A single event or a call of the pool that
  * is refused changes nothing but the report.
  *
- * A call takes less than STACK KiB of stack. */
+ * A call takes less than 256 KiB of stack. The reader calls itself for each branch that is open, of which there are at most
+ * 128: measured as tools/archive compiles it, such a line takes 147 KiB on x86-64 and 192 on ARM, another line or another call
+ * less than 40. Each page of it is touched in turn, so that too little stack ends in a fault at its guard page. */
 #ifndef MAVISDROK_H
 #define MAVISDROK_H
 
