@@ -7,3 +7,4 @@ pub mod Calls
 pub mod Said
 pub mod Plain
 pub mod One
+pub mod Bound

@@ -25,6 +25,7 @@ use Rattle.trek.proofs.Ended as trek
 use Rattle.trek.proofs.Judged.{judged-degrees}
 use Rattle.write.specs.declared.answer.Written.{Written}
 use Rattle.write.specs.declared.answer.Written.the-variants.{Done, UnknownTarget, Loop, HalfBond, DuplicateBond, IncompatibleBond, Inversion, RingNumbers, AtomRoom, BondRoom, OutRoom, BadTable}
+use Rattle.write.specs.Bound.{lineBound, bytesOf, Short}
 use Rattle.write.specs.Write.{zeros, pairWords, graphOf, walkIn, walkOf, saidIn, saidOf, lineSaid, refusalOf, atomRoom, bondRoom, admitted, Left, left, refusing, putLine, concluded, graphWritten, writeOf}
 
 -- ---- the first bad record is one of them, or the one after
@@ -78,7 +79,7 @@ module _ (atoms bonds : List ℕ) (n m : ℕ) (few : n ≤ atomLimit) where
     whole : degrees (graphOf n atoms bonds) n ≤ m
     whole = omega (arith, judged-degrees n m atoms bonds (startsOf n atoms (zeros atomLimit)) sound)
 
-    pub line-short : length (lineSaid (saidOf atoms n bonds m)) ≤ 24 * n + 4 * m
+    pub line-short : length (lineSaid (saidOf atoms n bonds m)) ≤ lineBound n m
     unfolding saidIn
     line-short =
         line-bound (graphOf n atoms bonds) atomLimit atomLimit atomLimit atomLimit (zeros pairWords) room atomLimit few m whole (turnsOf n m)
@@ -88,24 +89,6 @@ module _ (atoms bonds : List ℕ) (n m : ℕ) (few : n ≤ atomLimit) where
     all-walked e = trek.ended (graphOf n atoms bonds) atomLimit atomLimit atomLimit atomLimit (zeros pairWords) room m whole e
 
 -- ---- every write
--- the bytes that an answer tells of
-unfoldable pub bytesOf : Written → ℕ
-bytesOf (Done k) = k
-bytesOf (OutRoom k) = k
-bytesOf (UnknownTarget a b) = 0
-bytesOf (Loop a) = 0
-bytesOf (HalfBond a b) = 0
-bytesOf (DuplicateBond a b) = 0
-bytesOf (IncompatibleBond a b) = 0
-bytesOf (Inversion a) = 0
-bytesOf (RingNumbers a b) = 0
-bytesOf (AtomRoom k) = 0
-bytesOf (BondRoom k) = 0
-bytesOf (BadTable k) = 0
-
-pub record Short (most : ℕ) (r : Written) : Type 0 where
-  pub bytes : bytesOf r ≤ most
-
 no-bytes : (most : ℕ) (r : Written) → bytesOf r ≡ 0 → Short most r
 no-bytes most r e = record { bytes = omega (arith, e) }
 
@@ -128,7 +111,7 @@ none : (most room : ℕ) (r : Written) → bytesOf r ≡ 0 → ShortLeft most (r
 none most room r e = record { said = no-bytes most r e }
 
 module _ (room : ℕ) (atoms bonds : List ℕ) (n m : ℕ) where
-  short : ltb (atomRoom atoms) n ≡ false → ltb (badRecord atoms n bonds m) (n + m) ≡ false → length (lineSaid (saidOf atoms n bonds m)) ≤ 24 * n + 4 * m
+  short : ltb (atomRoom atoms) n ≡ false → ltb (badRecord atoms n bonds m) (n + m) ≡ false → length (lineSaid (saidOf atoms n bonds m)) ≤ lineBound n m
   short a c =
       line-short atoms bonds n m (few-atoms atoms n a) (omega (arith, bad-most atoms bonds n m, ltb-false (badRecord atoms n bonds m) (n + m) c))
 
@@ -137,19 +120,19 @@ module _ (room : ℕ) (atoms bonds : List ℕ) (n m : ℕ) where
   put-short l most line h =
       by-test (ShortLeft most) (ltb l (length line)) (λ q. record { said = record { bytes = h } }) (λ q. record { said = record { bytes = h } })
 
-  graph-short : length (lineSaid (saidOf atoms n bonds m)) ≤ 24 * n + 4 * m → ShortLeft (24 * n + 4 * m) (graphWritten room atoms n bonds m)
+  graph-short : length (lineSaid (saidOf atoms n bonds m)) ≤ lineBound n m → ShortLeft (lineBound n m) (graphWritten room atoms n bonds m)
   unfolding graphWritten concluded
   graph-short h =
-      by-test (ShortLeft (24 * n + 4 * m)) (eqb (walkOf atoms n bonds m .at .refusal) 0) (λ q. put-short room (24 * n + 4 * m) (lineSaid (saidOf atoms n bonds m)) h)
-      (λ q. record { said = refusal-short (walkOf atoms n bonds m .at) (24 * n + 4 * m) })
+      by-test (ShortLeft (lineBound n m)) (eqb (walkOf atoms n bonds m .at .refusal) 0) (λ q. put-short room (lineBound n m) (lineSaid (saidOf atoms n bonds m)) h)
+      (λ q. record { said = refusal-short (walkOf atoms n bonds m .at) (lineBound n m) })
 
-  all-short : ShortLeft (24 * n + 4 * m) (writeOf room atoms n bonds m)
+  all-short : ShortLeft (lineBound n m) (writeOf room atoms n bonds m)
   unfolding writeOf bytesOf
   all-short =
-      by-test (ShortLeft (24 * n + 4 * m)) (ltb (atomRoom atoms) n) (λ q. none (24 * n + 4 * m) room (AtomRoom n) refl)
-      (λ a. by-test (ShortLeft (24 * n + 4 * m)) (ltb (bondRoom bonds) m) (λ q. none (24 * n + 4 * m) room (BondRoom m) refl)
-      (λ b. by-test (ShortLeft (24 * n + 4 * m)) (ltb (badRecord atoms n bonds m) (n + m)) (λ q. none (24 * n + 4 * m) room (BadTable (badRecord atoms n bonds m)) refl)
+      by-test (ShortLeft (lineBound n m)) (ltb (atomRoom atoms) n) (λ q. none (lineBound n m) room (AtomRoom n) refl)
+      (λ a. by-test (ShortLeft (lineBound n m)) (ltb (bondRoom bonds) m) (λ q. none (lineBound n m) room (BondRoom m) refl)
+      (λ b. by-test (ShortLeft (lineBound n m)) (ltb (badRecord atoms n bonds m) (n + m)) (λ q. none (lineBound n m) room (BadTable (badRecord atoms n bonds m)) refl)
       (λ c. graph-short (short a c))))
 
-  pub written-short : Short (24 * n + 4 * m) (writeOf room atoms n bonds m .answer)
+  pub written-short : Short (lineBound n m) (writeOf room atoms n bonds m .answer)
   written-short = all-short .said

@@ -4,3 +4,4 @@ pub mod Lengths
 pub mod Rooms
 pub mod Plain
 pub mod Numbers
+pub mod Bound
