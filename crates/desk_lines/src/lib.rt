@@ -102,8 +102,8 @@ fn clear_from(out: &mut [u8], from: usize)
 }
 
 // A writer that an event has brought to another state. Where no piece was held, nothing is known of the bytes after the line,
-// so they are cleared. Later events lay bytes after the line only, so there it stays as it is: to clear it each time would
-// make a line's cost grow with its length times the output's.
+// so they are cleared. A later event lays none after the line that it makes and makes it no shorter, so they stay zeros: to
+// clear them each time would make a line cost its length times the output's.
 fn held(out: &mut [u8], before: Writer, w: Writer) -> Said
     ensures { λ r. ⌜ (r ≡ Held w) × (now (out .exit) ≡ pick (eqb (before .pieces) 0) (clearedFrom (w .len) (now (out .entry))) (now (out .entry))) ⌝ }
 {
