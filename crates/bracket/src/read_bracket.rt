@@ -1,6 +1,5 @@
 // A bracket atom: "[", isotope, symbol, configuration, hydrogens, charge, map, "]".
 ghost use mathlib.Core.Path.{_≡_};
-ghost use Prim.Native.Nat.{ℕ, _≤_};
 ghost use Rattle.scan.specs.Scan.{isotopeAt, hydrogensAt, mapAt, closeAt, afterConfiguration, insideAt, bracketAt};
 use crate::read_charge::read_charge;
 use crate::read_configuration::read_configuration;

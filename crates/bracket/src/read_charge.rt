@@ -1,7 +1,6 @@
 // A charge: a sign alone, doubled, or with 1 to 9 or 11 to 15.
 ghost use mathlib.Core.Path.{_≡_};
-ghost use Prim.Native.Nat.{ℕ, _+_, _*_, _<_, _≤_};
-ghost use lib.ListN.{length};
+ghost use Prim.Native.Nat.{_+_, _<_};
 ghost use Rattle.scan.specs.Scan.{Sized, fifteenAt, signedAt, chargeAt};
 use feature::atom_kind::NEUTRAL;
 use feature::atom_kind::NO_CHARGE;

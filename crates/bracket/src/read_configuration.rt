@@ -1,6 +1,6 @@
 // A configuration: "@" and "@@", or "@" with a template's two letters and a number.
 ghost use mathlib.Core.Path.{_≡_};
-ghost use Prim.Native.Nat.{ℕ, _<_, _≤_};
+ghost use Prim.Native.Nat.{_<_, _≤_};
 ghost use Rattle.scan.specs.Scan.{shortAt, lateAt, longAt, alleneAt, octahedralAt, squareAt, trigonalAt, configurationAt};
 use feature::atom_kind::AL;
 use feature::atom_kind::NO_CONFIGURATION;

@@ -1,6 +1,6 @@
 // A symbol of a bracket atom, by the table of names.
 ghost use mathlib.Core.Path.{_≡_};
-ghost use Prim.Native.Nat.{ℕ, _+_, _*_, _≤_};
+ghost use Prim.Native.Nat.{_+_, _*_, _≤_};
 ghost use Rattle.feature.specs.Text.{twoLetters};
 ghost use Rattle.feature.specs.Names.{names, placeOf};
 ghost use Rattle.scan.specs.Scan.{slip, symbolAt};

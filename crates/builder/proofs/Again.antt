@@ -1,8 +1,7 @@
 -- What a call hands out from a state can be handed in again: it is not answered 17, however many calls went before. So 17 is
 -- never the answer to what a start and calls after it have made. Assumes nothing.
-use Prim.{⊥}
-use Prim.Native.Nat.{ℕ, _+_, _<_}
-use mathlib.Core.Path.{_≡_, refl, sym, ap, _∙_, subst}
+use Prim.Native.Nat.{ℕ, _+_}
+use mathlib.Core.Path.{_≡_, refl}
 use mathlib.Core.Logic.{_≢_}
 use mathlib.Core.List.{List, [], _∷_}
 use mathlib.Core.Bool.{Bool, true, false}

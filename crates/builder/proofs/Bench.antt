@@ -1,25 +1,20 @@
 -- Small graphs made event by event from a start, and numbers that stand for no state, worked out from the definitions. So the
 -- judge neither refuses everything nor nothing. Assumes nothing.
-use Prim.Native.Nat.{ℕ, zero, suc, _*_, _<_, _≤_}
+use Prim.Native.Nat.{ℕ}
 use mathlib.Core.Path.{_≡_, refl}
 use mathlib.Core.List.{List, [], _∷_, map}
-use mathlib.Core.Bool.{Bool, true, false}
-use native.Mathlib.Omega.{arith}
-use lib.ListN.{length, getD, replicate}
-use borrow.Author.Tests.{le-leb}
+use mathlib.Core.Bool.{false}
+use lib.ListN.{replicate}
 use Rattle.feature.specs.Kinds.{inRange, invertOf}
 use Rattle.feature.specs.Bonds.{codeOf, kindOf, reverseOf, isDirectional, reconcileOf, sureKind}
 use Rattle.feature.specs.declared.atom_kind.AtomKind.the-variants.{Star}
 use Rattle.feature.specs.declared.bond_kind.BondKind.{BondKind}
 use Rattle.feature.specs.declared.bond_kind.BondKind.the-variants.{Elided, Double, Triple}
-use Rattle.record.specs.Words.{atomWords, pairOf, wordsOf, listOf, plainOf, bracketOf, loadOf, loadAt}
-use Rattle.graph.specs.Limits.{atomLimit, bondLimit, lesserOf}
-use Rattle.graph.specs.Rings.{numbers}
-use Rattle.graph.specs.State.{Bld, bld, state, startOf, entryWords, failedSt, refuse, lastOf, entered, rootOf, bonded, extendedBy, extendOf, openedOf, openedAt, openingOf, openingKind, closedBy, joinOf, popOf}
-use Rattle.graph.specs.declared.builder.Builder.{Builder}
+use Rattle.record.specs.Words.{pairOf, wordsOf, listOf, plainOf, bracketOf, loadOf, loadAt}
+use Rattle.graph.specs.Limits.{lesserOf}
+use Rattle.graph.specs.State.{Bld, bld, state, failedSt, refuse, lastOf, entered, rootOf, bonded, extendedBy, extendOf, openedOf, openedAt, openingOf, openingKind, closedBy, joinOf, popOf}
 use Rattle.build.specs.Build.{blanked, counted, sumOf, startsOf, placed, moved, firstOpen, gathered, atomsOf, entriesOf, bondsOf, closedOf, buildOf}
 use Rattle.feature.specs.Every.{every}
-use Rattle.feature.proofs.Every.{every-all}
 use Rattle.record.specs.Words.{isHeld, isAtom}
 use Rattle.builder.specs.Events.{anew, judged, roomsOf, freshOf, startD, rootD, extendD, joinD, popD}
 use Rattle.standing.specs.Standing.{isKind, isTarget, isEntry, isBond, bondsFrom, turnedOf, isOwn, isMatched, isPaired, leastOpen, isLater, isStep, isApart, isRing, openRings, joinsStand, countsStand, failureStands, isState}

@@ -8,11 +8,9 @@ use lib.ListN.{length, take, drop, replicate, length-drop, drop-of-length-le}
 use lib.Seq.{take-all}
 use borrow.Author.Tests.{not-true, not-false, lt-leb, le-leb}
 use borrow.Rule.Slice.PartMut.{midOf, putMid}
-use Rattle.feature.specs.Pick.{pick}
 use Rattle.record.specs.Words.{atomWords, bondWords}
 use Rattle.graph.specs.Limits.{atomLimit}
 use Rattle.graph.specs.State.{Bld}
-use Rattle.graph.specs.declared.builder.Builder.{Builder}
 use Rattle.build.specs.Build.{Outcome, outcome, tables, zeros, buildOf}
 use Rattle.build.specs.declared.Built.{Built}
 use Rattle.standing.specs.Standing.{isState}

@@ -1,21 +1,20 @@
 -- The start: what is lent holds a state, or is answered 17. Assumes nothing.
 use Prim.Native.Nat.{ℕ, zero, suc, _<_, _≤_}
-use mathlib.Core.Path.{_≡_, refl, sym, _∙_}
+use mathlib.Core.Path.{_≡_, refl}
 use mathlib.Core.List.{List}
 use mathlib.Core.Bool.{Bool, true, false}
 use native.Mathlib.Omega.{arith}
 use lib.ListN.{length, getD, replicate, length-replicate}
-use lib.Dec.{leb}
 use borrow.Author.Tests.{le-leb, lt-leb, eq-eqb}
 use Rattle.feature.specs.Pick.{pick}
 use Rattle.feature.specs.Every.{every}
 use Rattle.feature.proofs.Every.{every-all}
 use Rattle.desk_numbers.specs.Numbers.{badTable}
 use Rattle.graph.specs.Rings.{numbers}
-use Rattle.graph.specs.State.{Bld, bld, startOf, refusedSt}
+use Rattle.graph.specs.State.{bld, startOf, refusedSt}
 use Rattle.graph.specs.declared.builder.Builder.{Builder}
 use Rattle.build.specs.Build.{zeros}
-use Rattle.standing.specs.Standing.{also, placesIn, slotsIn, isRing, openRings, joinsStand, countsStand, failureStands, isState}
+use Rattle.standing.specs.Standing.{placesIn, slotsIn, isRing, openRings, joinsStand, countsStand, failureStands, isState}
 use Rattle.builder.specs.Events.{roomsOf, freshOf, startD}
 
 -- ---- no event yet

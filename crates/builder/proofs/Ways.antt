@@ -1,11 +1,9 @@
 -- The ways out of a call that judges what is handed in: each from what the calls on the way ensure. Assumes nothing.
 use Prim.Native.Nat.{ℕ}
 use mathlib.Core.Path.{_≡_, ap, sym, _∙_}
-use mathlib.Core.List.{List}
 use mathlib.Core.Bool.{Bool, true, false, not}
 use lib.ListN.{length}
 use borrow.Author.Tests.{not-true, not-false}
-use Rattle.feature.specs.Pick.{pick}
 use Rattle.graph.specs.State.{Bld, bld, refusedSt, refuse, Small}
 use Rattle.graph.specs.declared.builder.Builder.{Builder}
 use Rattle.desk_numbers.specs.Numbers.{badTable}

@@ -12,7 +12,6 @@ use Rattle.writer.specs.declared.Wrote.{Wrote}
 use Rattle.writer.specs.declared.Wrote.the-variants as wrote
 use Rattle.writer.specs.Line.{Event}
 use Rattle.writer.specs.Tables.{Spoken, spoken, eventOf, far}
-use Rattle.desk_lines.specs.declared.Said.{Said}
 use Rattle.desk_lines.specs.declared.Said.the-variants as said
 use Rattle.desk_lines.specs.Pieces.{isWriter, clearedFrom, tailOf, saidOf, Left, left, leftBy, eventD}
 use Rattle.desk_rings.proofs.Both.{second}

@@ -1,7 +1,7 @@
 -- A state that stands holds pieces, and an event on it is the event on those pieces: what it answers, and the output and the
 -- starts that it leaves. After an event that is held the bytes after the line are zeros, if they were before it or no piece was
 -- held. Assumes nothing.
-use Prim.Native.Nat.{ℕ, zero, suc, _+_, _-_, _≤_, _<_}
+use Prim.Native.Nat.{ℕ, zero, suc, _+_, _-_, _≤_}
 use mathlib.Core.Path.{_≡_, refl, sym, ap, _∙_, subst}
 use mathlib.Core.Bool.{Bool, true, false}
 use mathlib.Core.List.{List, [], _∷_, _++_}
@@ -10,23 +10,20 @@ use native.Mathlib.Nat.{zero-add}
 use lib.ListN.{length, getD, take, drop, replicate, length-take, length-append, length-replicate, take-append-drop}
 use lib.Seq.{sets, length-sets, sets-eq, take-suc, take-add, take-take, take-at, drop-at, drop-drop, getD-take, getD-at}
 use lib.Dec.{ltb, leb, eqb}
-use borrow.Author.Tests.{ltb-false, leb-true, eqb-true, eqb-false}
-use Rattle.feature.specs.Pick.{pick, both}
+use borrow.Author.Tests.{ltb-false, eqb-false}
+use Rattle.feature.specs.Pick.{pick}
 use Rattle.feature.proofs.Cases.{by-test}
 use Rattle.feature.proofs.Lists.{drop-zeros}
 use Rattle.desk_numbers.specs.Numbers as desk
-use Rattle.spell.specs.Spell.{atomText, bondText, rnumText}
-use Rattle.writer.specs.declared.Writer.{Writer}
-use Rattle.writer.specs.declared.Wrote.{Wrote}
 use Rattle.writer.specs.declared.Wrote.the-variants.{Held, AtomRoom, OutRoom, NoPiece, Overpop}
 use Rattle.writer.specs.Line.{Event, Root, Extend, Join, Pop, lineOf, writeEvent}
 use Rattle.writer.specs.Tables.{Spoken, spoken, writer, pieceRoom, part, added, pieceT, longer, joinT, wrapT, popT, sayT, Told, told, refusing, fitting, eventOf}
 use Rattle.writer.specs.Pieces.{startsOf, Holds}
 use Rattle.writer.proofs.Pieces.{length-starts, holds-step, pick-both}
 use Rattle.desk_lines.specs.declared.Said.the-variants as said
-use Rattle.desk_lines.specs.Pieces.{endOf, isWriter, saidOf, toldOf, stateIn, clearedFrom, tailOf, Left, left, leftBy, eventD}
-use Rattle.desk_lines.specs.OnPieces.{piecesTo, piecesIn, fitsIn, answerOf, groundOf, after, handedBack, OnPieces, Blank, Onward}
-use Rattle.desk_lines.proofs.WriterKept.{Laid, Writes, facts, room-held, laid-before, starts-within}
+use Rattle.desk_lines.specs.Pieces.{isWriter, saidOf, toldOf, stateIn, clearedFrom, tailOf, left, leftBy, eventD}
+use Rattle.desk_lines.specs.OnPieces.{piecesTo, piecesIn, fitsIn, answerOf, groundOf, after, OnPieces, Onward}
+use Rattle.desk_lines.proofs.WriterKept.{Laid, facts, room-held, laid-before, starts-within}
 
 -- ---- the pieces of a state
 piece-count : (out starts : List ℕ) (n end : ℕ) → length (piecesTo out starts n end) ≡ n

@@ -8,7 +8,6 @@ use lib.ListN.{length, getD, drop, replicate}
 use lib.Dec.{ltb, leb, eqb}
 use Rattle.feature.specs.Pick.{pick}
 use Rattle.desk_numbers.specs.Numbers.{Told, told, done, atomRoom, outRoom, noAtom, overpop}
-use Rattle.writer.specs.declared.Writer.{Writer}
 use Rattle.writer.specs.Line.{Event, Root, Extend, Join, Pop, lineOf, writeEvent}
 use Rattle.writer.specs.Tables.{Spoken, spoken, writer, pieceRoom, part}
 use Rattle.writer.specs.Pieces.{Holds}

@@ -9,7 +9,6 @@ use Rattle.pool.specs.declared.Pool.{Pool}
 use Rattle.pool.specs.declared.Given.{Given}
 use Rattle.pool.specs.declared.Given.the-variants as given
 use Rattle.pool.specs.Pairs.{highest, hitOf}
-use Rattle.desk_rings.specs.declared.Handed.{Handed}
 use Rattle.desk_rings.specs.declared.Handed.the-variants as handed
 use Rattle.desk_rings.specs.Slots.{isPool, handedOf, Gives, gives, givenBy, hitD}
 use Rattle.desk_rings.proofs.PoolKept as pool-kept

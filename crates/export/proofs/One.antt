@@ -5,7 +5,7 @@ use mathlib.Core.Path.{_≡_}
 use mathlib.Core.List.{List}
 use Rattle.desk_numbers.proofs.One.{one-equal}
 use Rattle.desk_atom.specs.Texts.{rnumD}
-use Rattle.export.specs.Calls.{ReadCells, readX, WriteCells, writeX, OrderCells, orderX}
+use Rattle.export.specs.Calls.{readX, writeX, orderX}
 use Rattle.export.specs.Atom as atom
 use Rattle.export.specs.Events as events
 use Rattle.export.specs.Lines as lines

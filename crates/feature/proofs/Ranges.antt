@@ -1,10 +1,10 @@
 -- The test of a kind's ranges says the same as the facts. Assumes nothing.
 use Prim.Native.Nat.{ℕ}
-use mathlib.Core.Path.{_≡_, refl, _∙_, ap, sym}
+use mathlib.Core.Path.{_≡_, refl}
 use mathlib.Core.Bool.{Bool, true, false}
 use native.Mathlib.Omega.{arith}
-use lib.Dec.{ltb, leb, eqb}
-use borrow.Author.Tests.{lt-ltb, le-ltb, lt-leb, le-leb, ltb-true, ltb-false, leb-true, leb-false}
+use lib.Dec.{ltb, leb}
+use borrow.Author.Tests.{lt-ltb, le-ltb, lt-leb, ltb-true, ltb-false, leb-false}
 use Rattle.feature.specs.Pick.{pick}
 use Rattle.feature.specs.Names.{symbols}
 use Rattle.feature.specs.Kinds.{aliphatics, aromatics, noNumber, noHydrogens, noCharge, configurations, bracketInRange, inRange, Within, Good}

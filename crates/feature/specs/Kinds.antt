@@ -1,6 +1,5 @@
 -- An atom's kind: which numbers stand for one, and what turning its mark makes of it.
-use Prim.Native.Nat.{ℕ, _+_, _≤_, _<_}
-use mathlib.Core.Path.{_≡_}
+use Prim.Native.Nat.{ℕ, _≤_, _<_}
 use mathlib.Core.Bool.{Bool, true, false}
 use lib.Dec.{ltb, leb, eqb}
 use Rattle.feature.specs.Pick.{pick}

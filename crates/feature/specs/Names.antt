@@ -1,11 +1,10 @@
 -- The names that stand in a bracket atom: the star, the 118 elements, and the aromatic as b c n o p s se. They stand in
 -- the order of a dictionary; a symbol is the place of its name.
-use Prim.Native.Nat.{ℕ, zero, suc, _+_, _*_, _/_, _≤_, _<_}
-use mathlib.Core.Path.{_≡_}
+use Prim.Native.Nat.{ℕ, suc, _*_, _/_, _≤_, _<_}
 use mathlib.Core.List.{List, [], _∷_, _++_}
-use mathlib.Core.Bool.{Bool, true, false}
-use lib.ListN.{length, getD}
-use lib.Dec.{ltb, leb, eqb}
+use mathlib.Core.Bool.{Bool, false}
+use lib.ListN.{getD}
+use lib.Dec.{eqb}
 use Rattle.feature.specs.Pick.{pick, either}
 use Rattle.feature.specs.Text.{letter, columns}
 

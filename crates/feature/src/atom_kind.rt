@@ -1,6 +1,6 @@
 // An atom's kind, as a line gives it: an organic symbol, a star, or a bracket atom with its fields.
 ghost use mathlib.Core.Path.{_≡_};
-ghost use Prim.Native.Nat.{_<_, _≤_};
+ghost use Prim.Native.Nat.{_<_};
 ghost use Rattle.feature.specs.Kinds.{inRange, bracketInRange, invertOf, invertBracket};
 
 // Organic symbols by number: B C N O S P F Cl Br I At Ts, and aromatic b c n o p s.

@@ -1,7 +1,6 @@
 // A bond's kind: its reverse, its number, and what the two ends of a ring bond agree on.
 ghost use mathlib.Core.Path.{_≡_};
-ghost use Prim.Native.Nat.{_<_, _≤_};
-ghost use Rattle.feature.specs.Bonds.{reverseOf, isDirectional, codeOf, NumberOf, kindOf, reconcileOf, sureKind};
+ghost use Rattle.feature.specs.Bonds.{reverseOf, isDirectional, NumberOf, kindOf, reconcileOf, sureKind};
 
 pub enum BondKind {
     Elided,

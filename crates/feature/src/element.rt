@@ -1,7 +1,7 @@
 // The names that stand in a bracket atom: the star, the 118 elements and the eight aromatic ones, in one ordered table.
 ghost use mathlib.Core.Path.{_≡_};
-ghost use Prim.Native.Nat.{ℕ, _+_, _*_, _-_, _/_, _<_, _≤_};
-ghost use lib.ListN.{length, getD};
+ghost use Prim.Native.Nat.{_*_, _/_, _<_};
+ghost use lib.ListN.{getD};
 ghost use Rattle.feature.specs.Names.{names, placeOf, begins, Begun, Ranked};
 
 // How many names there are. A symbol is the place of its name, from 0.

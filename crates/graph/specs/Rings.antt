@@ -1,7 +1,7 @@
 -- The open ring numbers: for each of the hundred 0, or one more than the place of the entry that it opened.
 use Prim.Native.Nat.{ℕ, zero, suc}
 use mathlib.Core.List.{List, [], _∷_}
-use lib.ListN.{getD, set}
+use lib.ListN.{set}
 use Rattle.graph.specs.declared.opens.Opens.{Opens}
 
 abbrev pub numbers : ℕ

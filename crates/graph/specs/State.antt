@@ -1,11 +1,10 @@
 -- What each event makes of a builder's tables and the numbers beside them. An extend takes two entries, an opened ring
 -- number one, its closing one more; a closing whose kinds fail takes none and is remembered. Refusals in order: 18 with no
 -- atom standing, 13 with no room for the atom, 14 with none for its entries, 10 for a mark that can't be turned.
-use Prim.Native.Nat.{ℕ, _+_, _*_, _-_, _≤_, _<_}
-use mathlib.Core.Path.{_≡_}
+use Prim.Native.Nat.{ℕ, _+_, _*_, _-_, _≤_}
 use mathlib.Core.List.{List, [], _∷_}
 use mathlib.Core.Bool.{Bool, true, false}
-use lib.ListN.{length, getD, set}
+use lib.ListN.{getD, set}
 use lib.Seq.{sets}
 use lib.Dec.{ltb, leb, eqb}
 use Rattle.feature.specs.Pick.{pick}
@@ -15,7 +14,6 @@ use Rattle.feature.specs.declared.atom_kind.AtomKind.{AtomKind}
 use Rattle.feature.specs.declared.atom_kind.Inverted.{Inverted}
 use Rattle.feature.specs.declared.atom_kind.Inverted.the-variants.{Turned, Refused}
 use Rattle.feature.specs.declared.bond_kind.BondKind.{BondKind}
-use Rattle.feature.specs.declared.bond_kind.BondKind.the-variants as kind
 use Rattle.feature.specs.declared.bond_kind.Reconciled.{Reconciled}
 use Rattle.feature.specs.declared.bond_kind.Reconciled.the-variants.{Both, Fails}
 use Rattle.record.specs.Words.{atomWords, listOf}

@@ -5,11 +5,11 @@
 ghost use mathlib.Core.Path.{_≡_};
 ghost use mathlib.Core.List.{List, [], _∷_};
 ghost use Prim.Native.Nat.{ℕ, _+_, _*_, _-_, _^_, _<_, _≤_};
-ghost use lib.ListN.{length, getD, set};
+ghost use lib.ListN.{getD};
 ghost use lib.Seq.{sets};
 ghost use Rattle.feature.specs.Bonds.{codeOf, reconcileOf};
 ghost use Rattle.graph.specs.Rings.{numbers};
-ghost use Rattle.graph.specs.State.{bld, Small, startOf, refusedSt, poppedSt, failedSt, joinedSt, entryWords, entryList, lastOf, entered, rootOf, bonded, extendOf, openedOf, openingOf, openedAt, openingKind, closedBy, joinOf};
+ghost use Rattle.graph.specs.State.{bld, Small, startOf, refusedSt, poppedSt, failedSt, joinedSt, entryWords, entryList, entered, rootOf, bonded, extendOf, openedOf, openingKind, closedBy, joinOf};
 use crate::opens::rejoin;
 use feature::atom_kind::AtomKind;
 use feature::atom_kind::Inverted;

@@ -1,6 +1,5 @@
 // How large a label job may be. Room in a table is the lesser of its limit and what the caller lent.
-ghost use mathlib.Core.Path.{_≡_};
-ghost use Prim.Native.Nat.{_/_, _≤_};
+ghost use Prim.Native.Nat.{_/_};
 ghost use lib.ListN.{length};
 ghost use Rattle.graph.specs.Limits.{RoomOf, atomLimit, bondLimit};
 ghost use Rattle.record.specs.Words.{atomWords, bondWords};

@@ -1,7 +1,7 @@
 // The open ring numbers: for each number 0, or one more than the place of the entry that it opened.
 ghost use mathlib.Core.Path.{_≡_};
-ghost use Prim.Native.Nat.{ℕ, _+_, _-_, _<_, _≤_};
-ghost use lib.ListN.{length, getD, set};
+ghost use Prim.Native.Nat.{_<_, _≤_};
+ghost use lib.ListN.{length, set};
 ghost use lib.Seq.{sets};
 ghost use Rattle.graph.specs.Rings.{numbers, opensOf, joinedAt};
 

@@ -1,6 +1,5 @@
 // An atom: organic, bracket or star.
 ghost use mathlib.Core.Path.{_≡_};
-ghost use Prim.Native.Nat.{ℕ, _≤_};
 ghost use Rattle.scan.specs.Scan.{starAt, otherAt, atomAt};
 use crate::read_organic::read_organic;
 use bracket::read_bracket::read_bracket;

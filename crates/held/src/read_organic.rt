@@ -1,7 +1,6 @@
 // An atom without brackets: B C N O S P F Cl Br I At Ts, or aromatic b c n o p s.
 ghost use mathlib.Core.Path.{_≡_};
-ghost use Prim.Native.Nat.{ℕ, _<_, _≤_};
-ghost use lib.ListN.{length};
+ghost use Prim.Native.Nat.{_<_};
 ghost use Rattle.scan.specs.Scan.{aromaticOf, aliphaticOf, wantedAt, optionalAt, organicAt};
 use feature::atom_kind::ALIPHATICS;
 use feature::atom_kind::AROMATICS;

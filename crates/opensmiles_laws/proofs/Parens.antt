@@ -1,6 +1,6 @@
 -- Where a "(" stands in the spelling of a tree, the text before it is a line in the making, and what that tells the tree tells
 -- first. Assumes nothing.
-use Prim.Native.Nat.{ℕ, _≤_}
+use Prim.Native.Nat.{ℕ}
 use mathlib.Core.Path.{_≡_, refl, sym, ap, _∙_}
 use mathlib.Core.List.{List, [], _∷_, _++_, append-assoc, append-nil}
 use mathlib.Core.Option.{Option, none, some}

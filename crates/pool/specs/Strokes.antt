@@ -1,5 +1,4 @@
 -- A call of the pool with its answer apart from the pool: the number, or that there is none, and then the pool stays as it was.
-use Prim.Native.Nat.{ℕ}
 use Rattle.pool.specs.declared.Pool.{Pool}
 use Rattle.pool.specs.declared.Given.{Given}
 use Rattle.pool.specs.declared.Given.the-variants.{Number, Full}

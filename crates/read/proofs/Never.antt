@@ -4,9 +4,9 @@ use mathlib.Core.Path.{_≡_, refl, sym, ap, _∙_, subst}
 use mathlib.Core.List.{List, [], _∷_}
 use mathlib.Core.Bool.{Bool, true, false}
 use native.Mathlib.Omega.{arith}
-use lib.ListN.{length, getD, replicate}
+use lib.ListN.{length, getD}
 use lib.Dec.{eqb, ltb, leb}
-use borrow.Author.Tests.{eqb-true, eqb-false, eq-eqb, ne-eqb}
+use borrow.Author.Tests.{eqb-true, eqb-false, ne-eqb}
 use Rattle.feature.specs.Pick.{pick}
 use Rattle.feature.specs.Text.{byte}
 use Rattle.feature.specs.Kinds.{invertOf}
@@ -17,7 +17,7 @@ use Rattle.feature.specs.declared.atom_kind.Inverted.the-variants.{Turned, Refu
 use Rattle.feature.specs.declared.bond_kind.BondKind.{BondKind}
 use Rattle.feature.specs.declared.bond_kind.Reconciled.{Reconciled}
 use Rattle.feature.specs.declared.bond_kind.Reconciled.the-variants.{Both, Fails}
-use Rattle.scan.specs.Scan.{peekAt, missingAt, atomAt, rnumAt}
+use Rattle.scan.specs.Scan.{peekAt, atomAt, rnumAt}
 use Rattle.scan.specs.declared.scanner.Found.{Found}
 use Rattle.scan.specs.declared.scanner.Found.the-variants.{Atom, Nothing, Lacks}
 use Rattle.scan.specs.declared.scanner.Missing.{Missing}
@@ -25,7 +25,7 @@ use Rattle.scan.specs.declared.scanner.Missing.the-variants.{EndOfLine, Charact
 use Rattle.scan.specs.declared.read_rnum.Ring.{Ring}
 use Rattle.scan.specs.declared.read_rnum.Ring.the-variants as ring
 use Rattle.graph.specs.Limits.{textLimit, branchLimit}
-use Rattle.graph.specs.State.{Bld, bld, state, refusedSt, refuse, inversion, atomRoom, bondRoom, startOf, entered, bonded, rootOf, extendedBy, extendOf, openedOf, lastOf, openingOf, openingKind, failedSt, closedBy, joinOf, popOf}
+use Rattle.graph.specs.State.{Bld, bld, state, refusedSt, refuse, inversion, atomRoom, bondRoom, entered, bonded, rootOf, extendedBy, extendOf, openedOf, lastOf, openingOf, openingKind, failedSt, closedBy, joinOf, popOf}
 use Rattle.graph.specs.declared.builder.Builder.{Builder}
 use Rattle.reader.specs.declared.lead.Lead.{Lead}
 use Rattle.reader.specs.declared.lead.Lead.the-variants.{Dot, Bond}
@@ -34,8 +34,8 @@ use Rattle.reader.specs.Parse.{Rest, oneOf, ledAt, bodyAt, missP, foundP, atomP
 use Rattle.build.specs.declared.Built.{Built}
 use Rattle.build.specs.declared.Built.the-variants as built
 use Rattle.read.specs.declared.Answer.{Answer}
-use Rattle.read.specs.declared.Answer.the-variants.{NoAtom, TextTooLong}
-use Rattle.read.specs.Read.{Said, said, refusalOf, builtAnswer, builtSaid, stateOf, saidOf, within, readOf}
+use Rattle.read.specs.declared.Answer.the-variants.{NoAtom}
+use Rattle.read.specs.Read.{Said, refusalOf, builtAnswer, builtSaid, stateOf, saidOf, within, readOf}
 use Rattle.read.specs.Line.{lineOf}
 use Rattle.reader.proofs.Counts.{by-test, missing-not}
 use Rattle.reader.proofs.Turn.{run-stuck}

@@ -1,12 +1,12 @@
 -- A line that was read to its end, and what is said of it. Assumes nothing.
-use Prim.Native.Nat.{ℕ, _+_, _/_, _<_, _≤_}
+use Prim.Native.Nat.{ℕ, _+_, _/_, _≤_}
 use mathlib.Core.Path.{_≡_, refl, sym, ap, _∙_, subst}
 use mathlib.Core.List.{List, [], _∷_}
 use mathlib.Core.Bool.{Bool, true, false}
 use native.Mathlib.Omega.{arith}
 use lib.ListN.{length, replicate}
 use lib.Dec.{ltb, eqb}
-use borrow.Author.Tests.{eq-eqb, ne-eqb, lt-ltb, le-ltb, eqb-true, eqb-false, ltb-true, ltb-false}
+use borrow.Author.Tests.{eq-eqb, ne-eqb, eqb-true, eqb-false}
 use Rattle.feature.specs.Pick.{pick}
 use Rattle.record.specs.Words.{atomWords, bondWords}
 use Rattle.graph.specs.Limits.{textLimit, branchLimit, atomLimit, bondLimit, lesserOf}
@@ -19,10 +19,9 @@ use Rattle.reader.specs.declared.lead.Lead.the-variants.{Dot}
 use Rattle.reader.specs.Events.{Miss, on, character, missingSt, run}
 use Rattle.reader.specs.Parse.{parse, endP}
 use Rattle.reader.specs.Post.{came, LineRead, Ready}
-use Rattle.reader.specs.declared.line.Came.{Came}
 use Rattle.reader.proofs.Turn.{run-stuck, run-miss}
 use Rattle.read.specs.declared.Answer.{Answer}
-use Rattle.read.specs.Read.{Said, said, endedSt, refusalOf, builtAnswer, builtSaid, stateOf, saidOf, within}
+use Rattle.read.specs.Read.{said, endedSt, refusalOf, builtAnswer, builtSaid, stateOf, saidOf, within}
 
 run-none : (b : Bld) → run b [] ≡ b
 unfolding run

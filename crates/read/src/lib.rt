@@ -1,11 +1,9 @@
 // The read call: a line's text into an atom table and a bond table.
 ghost use mathlib.Core.Path.{_≡_};
-ghost use Prim.Native.Nat.{ℕ, _≤_, _<_};
+ghost use Prim.Native.Nat.{_≤_, _<_};
 ghost use mathlib.Core.Bool.{true};
-ghost use mathlib.Core.List.{List};
 ghost use lib.ListN.{length, replicate};
 ghost use Rattle.graph.specs.Limits.{textLimit};
-ghost use Rattle.graph.specs.State.{bld};
 ghost use Rattle.read.specs.Read.{said, endedSt, refusalOf, builtAnswer, within};
 ghost use Rattle.sketch.specs.Sketch.{sketchOf};
 ghost use Rattle.read.specs.Line.{graphOf, lineOf};

@@ -1,6 +1,6 @@
 -- How far an event lets a builder's counts grow, and that a refusal is none of 0. Assumes nothing.
-use Prim.Native.Nat.{ℕ, _+_, _-_, _*_, _≤_, _<_}
-use mathlib.Core.Path.{_≡_, refl, sym, ap, _∙_}
+use Prim.Native.Nat.{ℕ, _+_, _≤_}
+use mathlib.Core.Path.{_≡_}
 use mathlib.Core.Bool.{Bool, true, false}
 use native.Mathlib.Omega.{arith}
 use lib.Dec.{eqb, ltb, leb}
@@ -18,7 +18,7 @@ use Rattle.scan.specs.declared.scanner.Missing.{Missing}
 use Rattle.scan.specs.declared.scanner.Missing.the-variants.{EndOfLine, Character}
 use Rattle.graph.specs.declared.builder.Builder.{Builder}
 use Rattle.graph.specs.Limits.{textLimit}
-use Rattle.graph.specs.State.{Bld, Small, enough, refuse, refusedSt, entered, bonded, rootOf, extendOf, extendedBy, openedOf, openedAt, openingOf, openingKind, lastOf, failedSt, closedBy, joinOf, popOf, poppedSt}
+use Rattle.graph.specs.State.{Bld, Small, refuse, refusedSt, entered, bonded, rootOf, extendOf, extendedBy, openedOf, openingOf, openingKind, lastOf, failedSt, closedBy, joinOf, poppedSt}
 use Rattle.reader.specs.declared.lead.Lead.{Lead}
 use Rattle.reader.specs.declared.lead.Lead.the-variants.{Dot, Bond}
 use Rattle.reader.specs.Events.{countedSt, judged, numbOf, ledOf, enterOf, ringOf, missingSt}

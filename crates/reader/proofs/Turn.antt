@@ -3,7 +3,7 @@
 use mathlib.Core.Path.{_≡_, refl, sym, ap, _∙_, subst}
 use mathlib.Core.Bool.{Bool, true, false}
 use mathlib.Core.List.{List, [], _∷_}
-use Prim.Native.Nat.{ℕ, zero, suc, _+_, _-_, _*_, _≤_, _<_}
+use Prim.Native.Nat.{ℕ, zero, suc, _+_, _-_, _≤_, _<_}
 use native.Mathlib.Omega.{arith}
 use lib.ListN.{length}
 use lib.Dec.{eqb, ltb}
@@ -13,10 +13,8 @@ use Rattle.feature.specs.Text.{byte, bytes}
 use Rattle.feature.specs.declared.atom_kind.AtomKind.{AtomKind}
 use Rattle.feature.specs.declared.bond_kind.BondKind.{BondKind}
 use Rattle.scan.specs.Scan.{peekAt, missingAt, bondAt, atomAt, rnumAt}
-use Rattle.scan.specs.declared.scanner.Found.{Found}
 use Rattle.scan.specs.declared.scanner.Found.the-variants.{Atom, Nothing, Lacks}
 use Rattle.scan.specs.declared.scanner.Missing.{Missing}
-use Rattle.scan.specs.declared.read_rnum.Ring.{Ring}
 use Rattle.scan.specs.declared.read_rnum.Ring.the-variants as ring
 use Rattle.scan.proofs.Within.{byte-in, ring-in, bond-in, atom-in}
 use Rattle.graph.specs.declared.builder.Builder.{Builder}

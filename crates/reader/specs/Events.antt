@@ -2,7 +2,6 @@
 -- only: atoms are counted and their marks judged, and nothing is stored.
 use Prim.Native.Nat.{ℕ, _+_}
 use mathlib.Core.List.{List, [], _∷_}
-use mathlib.Core.Bool.{Bool, true, false}
 use lib.Dec.{eqb}
 use Rattle.feature.specs.Pick.{pick}
 use Rattle.feature.specs.Kinds.{invertOf}

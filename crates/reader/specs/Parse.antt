@@ -5,14 +5,13 @@ use Prim.Native.Nat.{ℕ, zero, suc, _+_, _-_}
 use mathlib.Core.List.{List, [], _∷_}
 use mathlib.Core.Bool.{Bool, true, false}
 use lib.ListN.{length}
-use lib.Dec.{ltb, leb, eqb}
+use lib.Dec.{ltb, eqb}
 use Rattle.feature.specs.Pick.{pick}
 use Rattle.feature.specs.Text.{byte, bytes}
 use Rattle.feature.specs.declared.bond_kind.BondKind.{BondKind}
 use Rattle.scan.specs.Scan.{peekAt, missingAt, bondAt, atomAt, rnumAt}
 use Rattle.scan.specs.declared.scanner.Found.{Found}
 use Rattle.scan.specs.declared.scanner.Found.the-variants.{Atom, Nothing, Lacks}
-use Rattle.scan.specs.declared.scanner.Missing.{Missing}
 use Rattle.scan.specs.declared.scanner.Missing.the-variants.{Character}
 use Rattle.scan.specs.declared.read_rnum.Ring.{Ring}
 use Rattle.scan.specs.declared.read_rnum.Ring.the-variants as ring

@@ -2,8 +2,7 @@
 // atoms are counted and their marks judged, and nothing is stored.
 ghost use mathlib.Core.Path.{_≡_};
 ghost use mathlib.Core.List.{List};
-ghost use Prim.Native.Nat.{ℕ, _+_, _<_, _≤_};
-ghost use lib.ListN.{length};
+ghost use Prim.Native.Nat.{ℕ, _+_, _<_};
 ghost use Rattle.graph.specs.Rings.{numbers};
 ghost use Rattle.graph.specs.State.{bld, Small};
 ghost use Rattle.reader.specs.Events.{countedSt, numbOf, missingSt, enterOf, ringOf};

@@ -1,7 +1,6 @@
 // What leads an atom in, a dot or a bond, and what a byte begins.
 ghost use mathlib.Core.Path.{_≡_};
-ghost use Prim.Native.Nat.{ℕ, _<_, _≤_};
-ghost use lib.ListN.{length};
+ghost use Prim.Native.Nat.{_<_};
 ghost use Rattle.reader.specs.Parse.{ledAt, bodyOf, bodyAt};
 use feature::bond_kind::BondKind;
 use scan::read_bond::read_bond;

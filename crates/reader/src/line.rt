@@ -1,7 +1,7 @@
 // The grammar of a line, over lent tables.
 ghost use mathlib.Core.Path.{_≡_};
 ghost use mathlib.Core.List.{List};
-ghost use Prim.Native.Nat.{ℕ, _+_, _<_, _≤_};
+ghost use Prim.Native.Nat.{ℕ, _+_, _≤_};
 ghost use lib.ListN.{length};
 ghost use Rattle.feature.specs.Text.{byte};
 ghost use Rattle.scan.specs.Scan.{peekAt};

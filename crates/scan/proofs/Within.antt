@@ -9,8 +9,7 @@ use native.Mathlib.Nat.{le-of-suc-le-suc, not-suc-le-zero}
 use lib.ListN.{length, getD}
 use lib.Dec.{T, ltb, eqb, ltb→lt}
 use borrow.Author.Tests.{ltb-true, ltb-false, eqb-true, eqb-false}
-use Rattle.feature.specs.Pick.{pick}
-use Rattle.feature.specs.Text.{byte, letter, twoLetters, oneLetter}
+use Rattle.feature.specs.Text.{byte, twoLetters, oneLetter}
 use Rattle.feature.specs.Names.{symbols, names, placeOf, begins}
 use Rattle.feature.specs.declared.bond_kind.BondKind.{BondKind}
 use Rattle.feature.specs.declared.bond_kind.BondKind.the-variants as kind
@@ -19,7 +18,6 @@ use Rattle.feature.specs.declared.atom_kind.AtomKind.{AtomKind}
 use Rattle.feature.specs.declared.atom_kind.BracketAtom.{BracketAtom}
 use Rattle.feature.proofs.Cases.{by-test}
 use Rattle.feature.proofs.Names.{names-length, second-small}
-use Rattle.feature.proofs.Table as table
 use Rattle.scan.specs.declared.scanner.Part.{Part}
 use Rattle.scan.specs.declared.scanner.Step.{Step}
 use Rattle.scan.specs.declared.scanner.Step.the-variants.{Got, Stop}

@@ -2,17 +2,15 @@
 -- states it, bytes counted from 0: isotope (at most three digits), symbol, configuration, "H" with at most one digit, charge
 -- (a sign alone, doubled, or with 1 to 9 or 11 to 15), ":" and one to three digits; a missing thing is a character at its
 -- place, or the end of the line if no byte is left.
-use Prim.Native.Nat.{ℕ, zero, suc, _+_, _-_, _*_, _^_, _≤_, _<_}
+use Prim.Native.Nat.{ℕ, _+_, _-_, _*_, _^_, _≤_, _<_}
 use mathlib.Core.Path.{_≡_}
-use mathlib.Core.List.{List, [], _∷_}
-use mathlib.Core.Bool.{Bool, true, false}
+use mathlib.Core.List.{List}
 use lib.ListN.{length, getD}
-use lib.Dec.{ltb, leb, eqb}
+use lib.Dec.{ltb, eqb}
 use Rattle.feature.specs.Pick.{pick}
 use Rattle.feature.specs.Text.{byte, oneLetter, twoLetters}
 use Rattle.feature.specs.Names.{symbols, names, placeOf, begins}
 use Rattle.feature.specs.Kinds.{aliphatics, aromatics, noNumber, noHydrogens, neutral, noCharge, noConfiguration, th1, th2, al, sp, tb, oh, bracket}
-use Rattle.feature.specs.declared.atom_kind.AtomKind.{AtomKind}
 use Rattle.feature.specs.declared.atom_kind.AtomKind.the-variants.{Star, Aliphatic, Aromatic, Bracket}
 use Rattle.feature.specs.declared.atom_kind.BracketAtom.{BracketAtom}
 use Rattle.feature.specs.declared.bond_kind.BondKind.{BondKind}

@@ -1,6 +1,6 @@
 // A bond's mark, or the elided bond where none stands.
 ghost use mathlib.Core.Path.{_≡_};
-ghost use Prim.Native.Nat.{ℕ, _≤_};
+ghost use Prim.Native.Nat.{_≤_};
 ghost use Rattle.scan.specs.Scan.{bondOf, markWidth, bondAt};
 use crate::scanner::peek;
 use feature::bond_kind::BondKind;

@@ -1,6 +1,6 @@
 // A ring number: a digit, or "%" and two digits.
 ghost use mathlib.Core.Path.{_≡_};
-ghost use Prim.Native.Nat.{ℕ, _+_, _*_, _≤_};
+ghost use Prim.Native.Nat.{_+_, _*_};
 ghost use Rattle.scan.specs.Scan.{percentAt, rnumAt};
 use crate::scanner::Missing;
 use crate::scanner::digit;

@@ -1,7 +1,6 @@
 // The byte, the digit and the number at a place, and what it means that something is missing there.
 ghost use mathlib.Core.Path.{_≡_};
-ghost use Prim.Native.Nat.{ℕ, _+_, _*_, _≤_};
-ghost use lib.ListN.{length};
+ghost use Prim.Native.Nat.{_+_, _*_, _≤_};
 ghost use Rattle.scan.specs.Scan.{Peeked, Digit, Sized, digitStep, numberAt, missingAt};
 use feature::atom_kind::AtomKind;
 

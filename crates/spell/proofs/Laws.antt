@@ -1,19 +1,16 @@
 -- Bytes laid one run after the other, and the letters of names. Assumes nothing.
-use Prim.Native.Nat.{ℕ, zero, suc, _+_, _-_, _*_, _/_, _%_, _<_, _≤_}
-use mathlib.Core.Path.{_≡_, refl, _∙_, ap, sym, subst}
-use mathlib.Core.List.{List, [], _∷_, _++_}
-use mathlib.Core.Bool.{Bool, true, false}
+use Prim.Native.Nat.{ℕ, _+_, _<_, _≤_}
+use mathlib.Core.Path.{_≡_, refl, _∙_, ap, sym}
+use mathlib.Core.List.{List, [], _++_}
+use mathlib.Core.Bool.{Bool}
 use native.Mathlib.Omega.{arith}
-use native.Mathlib.Nat.{add-zero, add-suc, suc-add, zero-add}
-use lib.ListN.{length, getD, set, drop, length-append}
+use native.Mathlib.Nat.{zero-add}
+use lib.ListN.{length, getD, drop, length-append}
 use lib.Seq.{sets, sets-eq}
-use lib.Dec.{T, ltb, leb, eqb, leb→le, ltb→lt}
-use borrow.Author.Tests.{ne-eqb}
-use Rattle.feature.specs.Pick.{pick, both}
-use Rattle.feature.specs.Text.{letter}
-use Rattle.feature.specs.Names.{names, symbols}
+use lib.Dec.{T, ltb, leb, leb→le, ltb→lt}
+use Rattle.feature.specs.Names.{symbols}
 use Rattle.feature.proofs.Lists.{sets-append}
-use Rattle.feature.proofs.Table.{at, both-left, both-right}
+use Rattle.feature.proofs.Table.{at}
 use Rattle.spell.specs.Spell.{Laid, organic}
 
 pub laid-nil : {l : List ℕ} {at : ℕ} → Laid 0 l at [] l at

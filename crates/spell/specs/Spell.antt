@@ -1,16 +1,15 @@
 -- The text of an atom, a bond and a ring number, as purr's Display has them: element.rs, configuration.rs, charge.rs,
 -- virtual_hydrogen.rs, number.rs, atom_kind.rs, bond_kind.rs, rnum.rs. Ring number 73 is written as itself.
-use Prim.Native.Nat.{ℕ, zero, suc, _+_, _-_, _*_, _/_, _%_, _≤_, _<_}
+use Prim.Native.Nat.{ℕ, _+_, _-_, _*_, _/_, _%_, _≤_}
 use mathlib.Core.Path.{_≡_}
 use mathlib.Core.List.{List, [], _∷_, _++_}
-use mathlib.Core.Bool.{Bool, true, false}
 use lib.ListN.{length, getD}
 use lib.Seq.{sets}
 use lib.Dec.{ltb, leb, eqb}
-use Rattle.feature.specs.Pick.{pick, either}
+use Rattle.feature.specs.Pick.{pick}
 use Rattle.feature.specs.Text.{byte, bytes, letter}
 use Rattle.feature.specs.Names.{names, symAc, symCs}
-use Rattle.feature.specs.Kinds.{aliphatics, noNumber, noHydrogens, neutral, noCharge, noConfiguration, th1, th2, al, sp, tb, oh, inRange}
+use Rattle.feature.specs.Kinds.{aliphatics, noNumber, noHydrogens, neutral, noCharge, noConfiguration, th2, al, sp, tb, oh, inRange}
 use Rattle.feature.specs.declared.atom_kind.BracketAtom.{BracketAtom}
 use Rattle.feature.specs.declared.atom_kind.AtomKind.{AtomKind}
 use Rattle.feature.specs.declared.atom_kind.AtomKind.the-variants.{Star, Aliphatic, Aromatic, Bracket}

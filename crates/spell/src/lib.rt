@@ -3,9 +3,9 @@
 // Each call lays its bytes into the output that it is lent, from the first byte on. A byte that finds no room is not laid
 // and is still counted, so the answer is the text's length whatever was lent.
 ghost use mathlib.Core.Path.{_≡_};
-ghost use mathlib.Core.List.{List, [], _∷_};
-ghost use Prim.Native.Nat.{ℕ, _+_, _*_, _-_, _<_, _≤_, _/_, _%_};
-ghost use lib.ListN.{length, getD};
+ghost use mathlib.Core.List.{[], _∷_};
+ghost use Prim.Native.Nat.{_+_, _-_, _<_, _≤_, _/_, _%_};
+ghost use lib.ListN.{getD};
 ghost use Rattle.feature.specs.Kinds.{Good, Within, noNumber, noHydrogens, noCharge, configurations, sp};
 ghost use Rattle.feature.specs.Names.{symbols};
 ghost use Rattle.spell.specs.Spell.{Laid, digits, nameText, symbolText, numberText, templateText, markedText, configurationText, hydrogensText, chargeText, mapText, bracketText, organic, kindText, atomText, bondText, rnumText};

@@ -1,27 +1,27 @@
 -- What a builder's tables keep to, and that each event keeps it. Assumes nothing.
 use Prim.{⊥}
-use Prim.Native.Nat.{ℕ, zero, suc, _+_, _*_, _-_, _%_, _<_, _≤_}
+use Prim.Native.Nat.{ℕ, zero, suc, _+_, _*_, _-_, _<_, _≤_}
 use mathlib.Core.Path.{_≡_, refl, sym, ap, _∙_, subst}
-use mathlib.Core.Logic.{_≢_, inl, inr}
+use mathlib.Core.Logic.{_≢_, inl}
 use mathlib.Core.List.{List, [], _∷_}
 use mathlib.Core.Bool.{Bool, true, false}
 use native.Mathlib.Omega.{arith}
 use lib.ListN.{length, getD, set, length-set}
 use lib.Seq.{sets, length-sets, getD-set-same, getD-set-other}
-use lib.Dec.{eqb, ltb, leb}
-use borrow.Author.Tests.{eqb-true, eqb-false, eq-eqb, ne-eqb, ltb-true, ltb-false, leb-true, leb-false, le-leb, lt-leb}
+use lib.Dec.{eqb, ltb}
+use borrow.Author.Tests.{ne-eqb, ltb-true, ltb-false}
 use Rattle.feature.specs.Pick.{pick}
 use Rattle.feature.specs.Kinds.{inRange}
 use Rattle.feature.specs.Bonds.{codeOf, reverseOf}
 use Rattle.feature.specs.declared.atom_kind.AtomKind.{AtomKind}
 use Rattle.feature.specs.declared.bond_kind.BondKind.{BondKind}
 use Rattle.record.specs.Words.{atomWords, listOf, loadAt, isHeld, isAtom}
-use Rattle.record.proofs.Laws.{atom-length, load-stored, load-beside}
+use Rattle.record.proofs.Laws.{load-stored, load-beside}
 use Rattle.graph.specs.Limits.{atomLimit, bondLimit}
 use Rattle.graph.specs.Rings.{numbers}
 use Rattle.graph.specs.State.{unclosed, entryWords, entryList}
-use Rattle.standing.specs.Standing.{sourceAt, kindAt, targetAt, bondsFrom, leastOpen, openRings, placesIn, slotsIn}
-use Rattle.standing.proofs.Grown.{by-eq, hit, Plain, Pairs, least-below, plain-more, push, push-count, push-plain, push-before, push-target, fill, fill-count, fill-plain, fill-beside, pairs-two, pairs-open}
+use Rattle.standing.specs.Standing.{sourceAt, targetAt, openRings, placesIn, slotsIn}
+use Rattle.standing.proofs.Grown.{by-eq, Plain, Pairs, least-below, plain-more, push, push-count, push-plain, push-before, push-target, fill, fill-count, fill-plain, fill-beside, pairs-two, pairs-open}
 
 -- ---- how many ring numbers are open
 unfoldable one : ℕ → ℕ

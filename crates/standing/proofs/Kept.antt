@@ -1,19 +1,17 @@
 -- Each event on a state leaves a state, whether it is accepted or refused. Assumes nothing.
-use Prim.{⊥}
-use Prim.Native.Nat.{ℕ, zero, suc, _+_, _*_, _-_, _%_, _<_, _≤_}
+use Prim.Native.Nat.{ℕ, _+_, _*_, _-_, _%_, _<_, _≤_}
 use mathlib.Core.Path.{_≡_, refl, sym, ap, _∙_, subst}
 use mathlib.Core.Logic.{_≢_}
-use mathlib.Core.List.{List, [], _∷_}
+use mathlib.Core.List.{List}
 use mathlib.Core.Bool.{Bool, true, false}
 use native.Mathlib.Omega.{arith}
 use lib.ListN.{length, getD, set}
-use lib.Seq.{sets}
 use lib.Dec.{eqb, ltb, leb}
-use borrow.Author.Tests.{eqb-true, eqb-false, eq-eqb, ne-eqb, lt-ltb, le-ltb, ltb-true, ltb-false, leb-true, leb-false, le-leb, lt-leb}
+use borrow.Author.Tests.{eqb-true, eqb-false, eq-eqb, ne-eqb, lt-ltb, le-ltb, ltb-true, ltb-false, leb-true, leb-false, le-leb}
 use Rattle.feature.specs.Pick.{pick, neither}
 use Rattle.feature.specs.Every.{every}
-use Rattle.feature.specs.Kinds.{noConfiguration, noHydrogens, th1, th2, marked, Within, Good, inRange, invertBracket, invertOf}
-use Rattle.feature.specs.Bonds.{codeOf, kindOf, sureKind, isDirectional, reverseOf, reconcileOf}
+use Rattle.feature.specs.Kinds.{noConfiguration, noHydrogens, th1, th2, marked, inRange, invertBracket, invertOf}
+use Rattle.feature.specs.Bonds.{codeOf, kindOf, isDirectional, reverseOf, reconcileOf}
 use Rattle.feature.specs.declared.atom_kind.BracketAtom.{BracketAtom}
 use Rattle.feature.specs.declared.atom_kind.AtomKind.{AtomKind}
 use Rattle.feature.specs.declared.atom_kind.AtomKind.the-variants.{Star, Aliphatic, Aromatic, Bracket}
@@ -28,18 +26,17 @@ use Rattle.feature.specs.declared.bond_kind.Reconciled.the-variants.{Both, Fail
 use Rattle.feature.proofs.Cases.{by-test}
 use Rattle.feature.proofs.Every.{every-at, every-all}
 use Rattle.feature.proofs.Ranges.{good, ranged}
-use Rattle.record.specs.Words.{atomWords, isAtom, bondOf, entryOf}
-use Rattle.record.specs.declared.Entry.the-variants as entry
+use Rattle.record.specs.Words.{isAtom, bondOf, entryOf}
 use Rattle.record.proofs.Laws.{bond-only}
 use Rattle.graph.specs.Limits.{atomLimit, bondLimit}
 use Rattle.graph.specs.Rings.{numbers}
-use Rattle.graph.specs.State.{Bld, bld, unclosed, entryWords, Small, refuse, lastOf, entered, rootOf, bonded, extendedBy, extendOf, openedOf, openedAt, openingOf, openingKind, failedSt, closedBy, joinOf, popOf, bondRoom}
+use Rattle.graph.specs.State.{Bld, bld, unclosed, Small, refuse, lastOf, entered, rootOf, bonded, extendedBy, extendOf, openedOf, openedAt, openingOf, openingKind, failedSt, closedBy, joinOf, popOf}
 use Rattle.graph.specs.declared.builder.Builder.{Builder}
 use Rattle.standing.specs.Standing.{also, isKind, sourceAt, kindAt, targetAt, isTarget, isEntry, bondsFrom, turnedOf, isOwn, isMatched, isPaired, leastOpen, isLater, isStep, isApart, isRing, openRings, joinsStand, placesIn, slotsIn, countsStand, failureStands, isState}
 use Rattle.standing.specs.Chains.{Between}
-use Rattle.standing.proofs.Counts.{no, first, second, Counts, counts}
+use Rattle.standing.proofs.Counts.{no, first, second, counts}
 use Rattle.standing.proofs.Ends.{turned-code, reverse-twice, to-matched, both-ends, even-ends}
-use Rattle.standing.proofs.Grown.{by-eq, sure-code, same-code, Plain, Pairs}
+use Rattle.standing.proofs.Grown.{same-code, Plain, Pairs}
 use Rattle.standing.proofs.Keeps.{Keeps, keeps-root, keeps-extend, keeps-open, keeps-fail, keeps-close, keeps-pop}
 
 -- ---- tests joined

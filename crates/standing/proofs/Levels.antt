@@ -1,7 +1,6 @@
 -- Counts along the chains of an atom: what is put, what is taken off, and that nothing is left where all bonds are held at both
 -- ends. Assumes nothing.
-use Prim.{⊥}
-use Prim.Native.Nat.{ℕ, zero, suc, _+_, _*_, _-_, _%_, _<_, _≤_}
+use Prim.Native.Nat.{ℕ, suc, _+_, _-_, _%_, _<_, _≤_}
 use mathlib.Core.Path.{_≡_, refl, sym, ap, _∙_, subst}
 use mathlib.Core.Logic.{_≢_}
 use mathlib.Core.List.{List}
@@ -9,7 +8,7 @@ use mathlib.Core.Bool.{Bool, true, false}
 use native.Mathlib.Omega.{arith}
 use lib.ListN.{length, getD, set, length-set}
 use lib.Seq.{getD-set-same, getD-set-other}
-use lib.Dec.{eqb, ltb, leb}
+use lib.Dec.{eqb, ltb}
 use borrow.Author.Tests.{eqb-true, eqb-false, eq-eqb, ne-eqb, ltb-true, ltb-false, lt-leb, le-leb}
 use Rattle.feature.specs.Pick.{pick, neither}
 use Rattle.feature.specs.Every.{every}
@@ -18,9 +17,9 @@ use Rattle.feature.specs.Bonds.{codeOf, kindOf, reverseOf}
 use Rattle.feature.specs.declared.bond_kind.BondKind.{BondKind}
 use Rattle.feature.specs.declared.bond_kind.BondKind.the-variants as bonds
 use Rattle.graph.specs.Limits.{atomLimit, bondLimit}
-use Rattle.graph.specs.State.{unclosed, entryWords}
+use Rattle.graph.specs.State.{unclosed}
 use Rattle.standing.specs.Standing.{also, sourceAt, kindAt, targetAt, bondsFrom, turnedOf, isOwn, isMatched, isPaired}
-use Rattle.standing.specs.Chains.{isOf, lastAt, Linked, kinds, cellOf, Within, Sound, ownAt, outCell, backCell, moreOf, putOf, canTake, takeOf, valAt, Laid, Taken, Blank, Good, Judged}
+use Rattle.standing.specs.Chains.{isOf, lastAt, Linked, kinds, cellOf, Within, Sound, ownAt, outCell, backCell, moreOf, putOf, canTake, takeOf, valAt, Laid, Taken, Blank, Good}
 use Rattle.standing.proofs.Counts.{no, first, second}
 use Rattle.standing.proofs.Ends.{turned-code, reverse-twice, to-matched}
 use Rattle.standing.proofs.Grown.{by-eq, same-code}

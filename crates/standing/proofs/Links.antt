@@ -1,8 +1,8 @@
 -- Entries in chains: each chain goes over the entries of its atom, from the last to the first, and leaves out none. Assumes
 -- nothing.
 use Prim.{⊥}
-use Prim.Native.Nat.{ℕ, zero, suc, _+_, _*_, _-_, _%_, _<_, _≤_}
-use mathlib.Core.Path.{_≡_, refl, sym, ap, _∙_, subst}
+use Prim.Native.Nat.{ℕ, zero, suc, _+_, _*_, _<_, _≤_}
+use mathlib.Core.Path.{_≡_, refl, sym, ap, _∙_}
 use mathlib.Core.Logic.{_≢_}
 use mathlib.Core.List.{List}
 use mathlib.Core.Bool.{Bool, true, false}
@@ -10,11 +10,11 @@ use native.Mathlib.Omega.{arith}
 use native.Mathlib.Numerals.{add-one}
 use lib.ListN.{length, getD, set, length-set}
 use lib.Seq.{getD-set-same, getD-set-other}
-use lib.Dec.{eqb, ltb, leb}
+use lib.Dec.{eqb, ltb}
 use borrow.Author.Tests.{eqb-true, eq-eqb, ne-eqb, ltb-true, ltb-false, lt-ltb, le-ltb}
 use Rattle.feature.specs.Pick.{pick}
 use Rattle.graph.specs.State.{unclosed, entryWords}
-use Rattle.standing.specs.Standing.{also, sourceAt, kindAt, targetAt, isBond, bondsFrom}
+use Rattle.standing.specs.Standing.{sourceAt, kindAt, targetAt, isBond, bondsFrom}
 use Rattle.standing.specs.Chains.{wordAt, isOf, lastAt, Linked, Loose, headWith, nextWith}
 use Rattle.standing.proofs.Counts.{no, first, second}
 use Rattle.standing.proofs.Grown.{by-eq}

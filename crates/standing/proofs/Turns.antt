@@ -9,7 +9,7 @@ use lib.ListN.{getD}
 use lib.Dec.{eqb, leb}
 use borrow.Author.Tests.{lt-leb, le-leb}
 use Rattle.feature.specs.Pick.{pick}
-use Rattle.graph.specs.State.{unclosed, entryWords}
+use Rattle.graph.specs.State.{unclosed}
 use Rattle.standing.specs.Standing.{targetAt, leastOpen, isLater, openRings}
 
 pub least-step : (e : List ℕ) (i least t : ℕ) → least ≡ leastOpen e i → t ≡ targetAt e i → pick (leb unclosed t) (t + 1) least ≡ leastOpen e (i + 1)

@@ -8,13 +8,12 @@ use native.Mathlib.Omega.{arith}
 use lib.ListN.{length, getD, set, replicate, length-replicate}
 use lib.Dec.{eqb}
 use borrow.Author.Tests.{eq-eqb, ne-eqb}
-use Rattle.feature.specs.Pick.{pick, neither}
 use Rattle.feature.specs.Bonds.{kindOf, codeOf}
 use Rattle.feature.specs.Every.{every}
 use Rattle.graph.specs.Limits.{atomLimit, bondLimit}
 use Rattle.graph.specs.State.{unclosed}
 use Rattle.standing.specs.Standing.{sourceAt, kindAt, targetAt, turnedOf, isOwn, isPaired}
-use Rattle.standing.specs.Chains.{wordAt, lastAt, Linked, Loose, kinds, cellOf, Sound, ownAt, outCell, backCell, moreOf, putOf, canTake, takeOf, Laid, Taken, Blank, Good, Judged, Between, Ready}
+use Rattle.standing.specs.Chains.{wordAt, Linked, Loose, kinds, cellOf, Sound, ownAt, outCell, backCell, moreOf, putOf, canTake, takeOf, Laid, Taken, Blank, Good, Judged, Between, Ready}
 use Rattle.standing.proofs.Counts.{no}
 use Rattle.standing.proofs.Grown.{by-eq}
 use Rattle.standing.proofs.Links.{word-source}

@@ -10,7 +10,7 @@ ghost use Rattle.feature.specs.Bonds.{kindOf};
 ghost use Rattle.feature.specs.Every.{every};
 ghost use Rattle.graph.specs.Limits.{atomLimit, bondLimit, fewAtoms};
 ghost use Rattle.standing.specs.Standing.{turnedOf, isOwn, isPaired};
-ghost use Rattle.standing.specs.Chains.{outCell, moreOf, putOf, canTake, takeOf, Linked, Loose, Sound, Laid, Taken, Blank, Good, Judged, Between, Ready, fewBonds};
+ghost use Rattle.standing.specs.Chains.{outCell, moreOf, putOf, canTake, takeOf, Linked, Sound, Laid, Taken, Blank, Good, Judged, Between, Ready, fewBonds};
 use crate::chains::link;
 use crate::state::KIND;
 use crate::state::TARGET;

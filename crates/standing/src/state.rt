@@ -1,7 +1,6 @@
 // Whether tables and the numbers beside them stand for a builder's state.
 ghost use mathlib.Core.Path.{_≡_};
 ghost use Prim.Native.Nat.{_≤_};
-ghost use lib.ListN.{length};
 ghost use lib.Dec.{ltb};
 ghost use Rattle.feature.specs.Bonds.{kindOf};
 ghost use Rattle.graph.specs.Limits.{atomLimit, bondLimit};

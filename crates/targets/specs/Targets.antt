@@ -1,8 +1,6 @@
 -- Valence targets, as purr's atom_kind.rs, aliphatic.rs and aromatic.rs have them. A charged atom bonds like the
 -- uncharged one that has as many electrons; carbon with a written charge of 0 answers as with a charge of 1, a slip.
 use Prim.Native.Nat.{ℕ, _+_, _-_}
-use mathlib.Core.List.{List, [], _∷_}
-use mathlib.Core.Bool.{Bool, true, false}
 use lib.ListN.{getD}
 use lib.Dec.{ltb, eqb}
 use Rattle.feature.specs.Pick.{pick}

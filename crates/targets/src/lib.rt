@@ -1,6 +1,6 @@
 // Valence targets: how many bonds, with its hydrogens, an atom of a kind can have. Two choices stand in ascending order.
 ghost use mathlib.Core.Path.{_≡_};
-ghost use Prim.Native.Nat.{_≤_, _<_};
+ghost use Prim.Native.Nat.{_<_};
 ghost use lib.ListN.{getD};
 ghost use Rattle.feature.specs.Names.{aromaticElements};
 ghost use Rattle.targets.specs.Targets.{boron, carbon, nitrogen, oxygen, phosphorus, sulfur, elementOf, elementTargets, aliphaticTargets, aromaticTargets, targetsOf};

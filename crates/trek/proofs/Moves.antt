@@ -9,7 +9,7 @@ use lib.ListN.{getD}
 use lib.Dec.{leb, eqb}
 use borrow.Author.Tests.{eqb-true, eqb-false, leb-true, leb-false}
 use Rattle.feature.proofs.Cases.{by-test}
-use Rattle.feature.specs.Pick.{pick, both}
+use Rattle.feature.specs.Pick.{both}
 use Rattle.feature.specs.Bonds.{same, reverseOf}
 use Rattle.feature.specs.declared.atom_kind.AtomKind.{AtomKind}
 use Rattle.feature.specs.declared.bond_kind.BondKind.{BondKind}

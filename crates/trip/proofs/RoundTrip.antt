@@ -12,7 +12,7 @@ use Rattle.reader.specs.Parse.{parse}
 use Rattle.read.specs.declared.Answer.the-variants as answer
 use Rattle.read.specs.Line.{lineOf}
 use Rattle.write.specs.declared.answer.Written.the-variants.{Done}
-use Rattle.write.specs.Write.{graphOf, walkOf, Left, left, writeOf}
+use Rattle.write.specs.Write.{graphOf, walkOf, left, writeOf}
 use Rattle.write.specs.Order.{Order}
 use Rattle.write.specs.Plain.{writePlain, orderPlain}
 use Rattle.write.proofs.Plain.{write-plain, order-plain}

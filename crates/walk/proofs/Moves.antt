@@ -1,5 +1,5 @@
 -- Each way through a turn, on plain values: what the code's calls found is what the definition says. Assumes nothing.
-use Prim.Native.Nat.{ℕ, _+_, _-_, _<_}
+use Prim.Native.Nat.{ℕ, _-_, _<_}
 use mathlib.Core.Path.{_≡_, refl, _∙_, ap, sym, subst}
 use mathlib.Core.Logic.{_≢_}
 use mathlib.Core.List.{List, [], _∷_, _++_}
@@ -21,7 +21,7 @@ use Rattle.walk.specs.declared.walker.Walker.{Walker}
 use Rattle.pool.specs.Strokes.{strokeOf}
 use Rattle.pool.specs.declared.lent.Told.the-variants as told
 use Rattle.walk.specs.declared.walker.Numbered.{Numbered}
-use Rattle.walk.specs.Walk.{Walk, walk, Turn, turn, quiet, numberedIn, refusedAs, passed, standingAt, backAt, atEnd, ringed, popsOf, popsThen, leftIn, numberedOf, ringOf, ringNumbers, far, Did, Onward, Grows}
+use Rattle.walk.specs.Walk.{Walk, walk, Turn, quiet, numberedIn, refusedAs, passed, standingAt, backAt, atEnd, ringed, popsOf, popsThen, leftIn, numberedOf, ringOf, ringNumbers, far, Did, Onward, Grows}
 
 -- ---- how far
 pub onward-as : {z y r : Walker} → r ≡ y → Onward z y → Onward z r

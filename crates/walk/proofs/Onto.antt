@@ -1,5 +1,5 @@
 -- The ways through a turn that meet an atom, or pass a bond on to what is done with it. Assumes nothing.
-use Prim.Native.Nat.{ℕ, _+_, _-_, _≤_, _<_}
+use Prim.Native.Nat.{ℕ, _+_, _≤_, _<_}
 use mathlib.Core.Path.{_≡_, refl, _∙_, ap, sym}
 use mathlib.Core.Logic.{_≢_}
 use mathlib.Core.List.{List}
@@ -15,7 +15,7 @@ use Rattle.ways.specs.declared.entry.Way.the-variants.{Enters, Refuses}
 use Rattle.ways.specs.Graph.{Bond, Graph, kindAt, degreeAt, bondOf}
 use Rattle.ways.specs.Ways.{saidAs, wayOf}
 use Rattle.walk.specs.declared.walker.Walker.{Walker}
-use Rattle.walk.specs.Walk.{Walk, walk, turn, refusedAs, passed, standingAt, metAt, tookAt, popsOf, leftIn, rootOf, ringOf, enteredOf, enterOf, bondTurn, entryOf, atomOf, turnOf, unknownTarget, loop, Did}
+use Rattle.walk.specs.Walk.{Walk, walk, refusedAs, passed, standingAt, metAt, tookAt, popsOf, leftIn, rootOf, ringOf, enteredOf, enterOf, bondTurn, entryOf, atomOf, turnOf, unknownTarget, loop, Did}
 use Rattle.walk.proofs.Moves.{did-as, did-quiet, say-one, say-then}
 
 -- what marking an atom leaves

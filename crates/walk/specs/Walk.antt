@@ -8,8 +8,8 @@ use Prim.Native.Nat.{ℕ, zero, suc, _+_, _-_, _*_, _^_, _≤_, _<_}
 use mathlib.Core.Path.{_≡_}
 use mathlib.Core.List.{List, [], _∷_, _++_}
 use mathlib.Core.Bool.{Bool, true, false}
-use lib.ListN.{getD, set, replicate}
-use lib.Dec.{ltb, leb, eqb}
+use lib.ListN.{getD, set}
+use lib.Dec.{leb, eqb}
 use Rattle.feature.specs.Pick.{pick}
 use Rattle.feature.specs.declared.bond_kind.BondKind.{BondKind}
 use Rattle.pool.specs.declared.Pool.{Pool}
@@ -24,7 +24,6 @@ use Rattle.ways.specs.Graph.{Bond, Graph, kindAt, degreeAt, bondIn, bondOf}
 use Rattle.ways.specs.Ways.{saidAs, wayOf}
 use Rattle.walk.specs.declared.walker.Walker.{Walker}
 use Rattle.walk.specs.declared.walker.Numbered.{Numbered}
-use Rattle.walk.specs.declared.turn.Turned.{Turned}
 use Rattle.writer.specs.declared.Writer.{Writer}
 use Rattle.writer.specs.Tables.{Spoken, sayAll}
 

@@ -1,7 +1,7 @@
 -- What holds of every write: a line that is written, or for which there was no room, has at most 24 bytes for each atom and 4
 -- for each entry; the writer takes every event of a walk; and a graph that is written was walked to its end. Assumes nothing.
-use Prim.Native.Nat.{ℕ, zero, suc, _+_, _-_, _*_, _/_, _≤_, _<_}
-use mathlib.Core.Path.{_≡_, refl, _∙_, ap}
+use Prim.Native.Nat.{ℕ, zero, suc, _+_, _-_, _/_, _≤_, _<_}
+use mathlib.Core.Path.{_≡_, refl}
 use mathlib.Core.List.{List, []}
 use mathlib.Core.Bool.{false}
 use native.Mathlib.Omega.{arith}
@@ -24,9 +24,9 @@ use Rattle.trek.proofs.Bound.{line-bound}
 use Rattle.trek.proofs.Ended as trek
 use Rattle.trek.proofs.Judged.{judged-degrees}
 use Rattle.write.specs.declared.answer.Written.{Written}
-use Rattle.write.specs.declared.answer.Written.the-variants.{Done, UnknownTarget, Loop, HalfBond, DuplicateBond, IncompatibleBond, Inversion, RingNumbers, AtomRoom, BondRoom, OutRoom, BadTable}
+use Rattle.write.specs.declared.answer.Written.the-variants.{UnknownTarget, Loop, HalfBond, DuplicateBond, IncompatibleBond, Inversion, RingNumbers, AtomRoom, BondRoom, BadTable}
 use Rattle.write.specs.Bound.{lineBound, bytesOf, Short}
-use Rattle.write.specs.Write.{zeros, pairWords, graphOf, walkIn, walkOf, saidIn, saidOf, lineSaid, refusalOf, atomRoom, bondRoom, admitted, Left, left, refusing, putLine, concluded, graphWritten, writeOf}
+use Rattle.write.specs.Write.{zeros, pairWords, graphOf, walkIn, walkOf, saidIn, saidOf, lineSaid, refusalOf, atomRoom, bondRoom, Left, refusing, putLine, concluded, graphWritten, writeOf}
 
 -- ---- the first bad record is one of them, or the one after
 bonds-most : (bonds : List ℕ) (held k e : ℕ) → bondsFrom bonds held k e ≤ e + k

@@ -5,8 +5,8 @@
 ghost use mathlib.Core.Path.{_≡_};
 ghost use Prim.Native.Nat.{_≤_};
 ghost use lib.ListN.{length, replicate};
-ghost use Rattle.graph.specs.Limits.{atomLimit, bondLimit, fewAtoms};
-ghost use Rattle.write.specs.Write.{zeros, left, ended, graphWritten};
+ghost use Rattle.graph.specs.Limits.{fewAtoms};
+ghost use Rattle.write.specs.Write.{left, ended, graphWritten};
 ghost use Rattle.write.specs.Plain.{writePlain};
 ghost use Rattle.write.specs.Numbers.{inNumbers};
 ghost use Rattle.write.specs.Rooms.{Writable, Blank};

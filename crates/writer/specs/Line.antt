@@ -4,7 +4,7 @@
 -- adds its bond and ring number to the last piece. A pop of d wraps the last d pieces in brackets onto the piece before; a
 -- pop of 0 writes "()". A refused event changes nothing: 18 is a join with no piece held, 19 a pop of as many pieces as are
 -- held or more, 13 a piece more than there is room for, with the pieces held.
-use Prim.Native.Nat.{ℕ, _+_, _-_}
+use Prim.Native.Nat.{ℕ}
 use mathlib.Core.List.{List, [], _∷_, _++_}
 use lib.ListN.{length, take, drop}
 use lib.Dec.{leb, eqb}

@@ -3,8 +3,6 @@ use Rattle.desk_atom.specs.Texts.{lackedOf}
 use borrow.Author.Needs.{needs}
 use Rattle.desk_atom.proofs.lacked.Statement.{statement}
 use Rattle.desk_atom.proofs.lacked.Tie as tie
-use Rattle.desk_atom.proofs.lacked.Reads as reads
-use Rattle.desk_atom.proofs.lacked.Lts as lts
 
 enum-told : tie.Need-enum-told
 enum-told c = search needs

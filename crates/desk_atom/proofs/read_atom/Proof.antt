@@ -3,11 +3,6 @@ use Rattle.desk_atom.specs.Texts.{firstAtom, beginsBy}
 use borrow.Author.Needs.{needs}
 use Rattle.desk_atom.proofs.read_atom.Statement.{statement}
 use Rattle.desk_atom.proofs.read_atom.Tie as tie
-use Rattle.desk_atom.proofs.read_atom.Reads as reads
-use Rattle.desk_atom.proofs.read_atom.Lts as lts
-use Rattle.desk_atom.proofs.lacked.Reads as lacked-reads
-use Rattle.held.proofs.read_atom.read_atom.Reads as read-atom-reads
-use Rattle.scan.proofs.scanner.missing_character.Reads as missing-character-reads
 
 read-atom-requires : tie.Need-read-atom-requires
 read-atom-requires c κs = search needs

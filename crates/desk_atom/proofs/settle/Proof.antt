@@ -3,9 +3,6 @@ use Rattle.desk_atom.proofs.Zeros.{settle-short, settle-fits}
 use borrow.Author.Needs.{needs}
 use Rattle.desk_atom.proofs.settle.Statement.{statement}
 use Rattle.desk_atom.proofs.settle.Tie as tie
-use Rattle.desk_atom.proofs.settle.Reads as reads
-use Rattle.desk_atom.proofs.settle.Lts as lts
-use Rattle.desk_atom.proofs.wipe.Reads as wipe-reads
 
 wipe-requires : tie.Need-wipe-requires
 wipe-requires c κs = search needs

@@ -5,12 +5,6 @@ use mathlib.Core.Path.{_∙_}
 use borrow.Author.Needs.{needs}
 use Rattle.desk_atom.proofs.spell_atom.Statement.{statement}
 use Rattle.desk_atom.proofs.spell_atom.Tie as tie
-use Rattle.desk_atom.proofs.spell_atom.Reads as reads
-use Rattle.desk_atom.proofs.spell_atom.Lts as lts
-use Rattle.desk_atom.proofs.settle.Reads as settle-reads
-use Rattle.desk_atom.proofs.wipe.Reads as wipe-reads
-use Rattle.feature.proofs.atom_kind.in_range.Reads as in-range-reads
-use Rattle.spell.proofs.spell_atom.Reads as spell-atom-reads
 
 wipe-requires : tie.Need-wipe-requires
 wipe-requires c κs = search needs

@@ -4,11 +4,6 @@ use mathlib.Core.Path.{_∙_}
 use borrow.Author.Needs.{needs}
 use Rattle.desk_atom.proofs.spell_bond.Statement.{statement}
 use Rattle.desk_atom.proofs.spell_bond.Tie as tie
-use Rattle.desk_atom.proofs.spell_bond.Reads as reads
-use Rattle.desk_atom.proofs.spell_bond.Lts as lts
-use Rattle.desk_atom.proofs.settle.Reads as settle-reads
-use Rattle.desk_atom.proofs.wipe.Reads as wipe-reads
-use Rattle.spell.proofs.spell_bond.Reads as spell-bond-reads
 
 wipe-requires : tie.Need-wipe-requires
 wipe-requires c κs = search needs

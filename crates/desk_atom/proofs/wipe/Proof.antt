@@ -7,8 +7,6 @@ use lib.ListN.{length, set, drop, replicate, length-set}
 use Rattle.desk_atom.proofs.Zeros.{wipe-step, wipe-end}
 use Rattle.desk_atom.proofs.wipe.Statement.{statement}
 use Rattle.desk_atom.proofs.wipe.Tie as tie
-use Rattle.desk_atom.proofs.wipe.Reads as reads
-use Rattle.desk_atom.proofs.wipe.Lts as lts
 
 abbrev Inv-loop : tie.InvT-loop
 Inv-loop out₀ at₀ out at = (at ≤ length out₀) × (length out ≡ length out₀) × (out ≡ replicate at 0 ++ drop at out₀)

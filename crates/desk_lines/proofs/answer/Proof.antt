@@ -5,9 +5,6 @@ use Rattle.desk_lines.proofs.Stands.{answer-held}
 use borrow.Author.Needs.{needs}
 use Rattle.desk_lines.proofs.answer.Statement.{statement}
 use Rattle.desk_lines.proofs.answer.Tie as tie
-use Rattle.desk_lines.proofs.answer.Reads as reads
-use Rattle.desk_lines.proofs.answer.Lts as lts
-use Rattle.desk_lines.proofs.held.Reads as held-reads
 
 enum-known-r : tie.Need-enum-known-r
 enum-known-r c = search needs

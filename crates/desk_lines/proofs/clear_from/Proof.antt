@@ -7,8 +7,6 @@ use lib.ListN.{length, set, length-set}
 use Rattle.desk_lines.proofs.Stands.{clearedTo, cleared-start, cleared-step, cleared-end}
 use Rattle.desk_lines.proofs.clear_from.Statement.{statement}
 use Rattle.desk_lines.proofs.clear_from.Tie as tie
-use Rattle.desk_lines.proofs.clear_from.Reads as reads
-use Rattle.desk_lines.proofs.clear_from.Lts as lts
 
 abbrev Inv-loop : tie.InvT-loop
 Inv-loop out₀ from at₀ out at =

@@ -3,9 +3,6 @@ use Rattle.desk_lines.proofs.Stands.{held-first, held-later}
 use borrow.Author.Needs.{needs}
 use Rattle.desk_lines.proofs.held.Statement.{statement}
 use Rattle.desk_lines.proofs.held.Tie as tie
-use Rattle.desk_lines.proofs.held.Reads as reads
-use Rattle.desk_lines.proofs.held.Lts as lts
-use Rattle.desk_lines.proofs.clear_from.Reads as clear-from-reads
 
 returns : tie.Need-returns
 returns c = held-later (c .before .before .before .args .before) (c .before .before .before .args .w) (c .before .before .before .args .out .now) (c .if1 .taken)

@@ -4,9 +4,6 @@ use Rattle.desk_lines.specs.Pieces.{isPiece, endOf}
 use borrow.Author.Needs.{needs}
 use Rattle.desk_lines.proofs.is_piece.Statement.{statement}
 use Rattle.desk_lines.proofs.is_piece.Tie as tie
-use Rattle.desk_lines.proofs.is_piece.Reads as reads
-use Rattle.desk_lines.proofs.is_piece.Lts as lts
-use Rattle.record.proofs.look.Reads as look-reads
 
 look-requires : tie.Need-look-requires
 look-requires c κs = search needs

@@ -4,10 +4,6 @@ use Rattle.desk_lines.specs.Pieces.{isWriter}
 use borrow.Author.Needs.{needs}
 use Rattle.desk_lines.proofs.is_writer.Statement.{statement}
 use Rattle.desk_lines.proofs.is_writer.Tie as tie
-use Rattle.desk_lines.proofs.is_writer.Reads as reads
-use Rattle.desk_lines.proofs.is_writer.Lts as lts
-use Rattle.desk_lines.proofs.pieces_stand.Reads as pieces-stand-reads
-use Rattle.writer.proofs.say.piece_room.Reads as piece-room-reads
 
 piece-room-requires : tie.Need-piece-room-requires
 piece-room-requires c κs = search needs

@@ -7,11 +7,6 @@ use borrow.Author.Tests.{not-true, not-false, lt-ltb, le-ltb}
 use borrow.Author.Needs.{needs}
 use Rattle.desk_lines.proofs.join.Statement.{statement}
 use Rattle.desk_lines.proofs.join.Tie as tie
-use Rattle.desk_lines.proofs.join.Reads as reads
-use Rattle.desk_lines.proofs.join.Lts as lts
-use Rattle.desk_lines.proofs.answer.Reads as answer-reads
-use Rattle.desk_lines.proofs.is_writer.Reads as is-writer-reads
-use Rattle.writer.proofs.event.join.Reads as join-reads
 
 returns : tie.Need-returns
 returns c = bad-number (spoken (c .before .before .before .args .w) (c .before .before .before .args .out .now) (c .before .before .before .args .starts .now)) (Event.Join (c .before .before .before .args .b) (c .before .before .before .args .n)) _ (le-ltb _ _ (c .if1 .taken))

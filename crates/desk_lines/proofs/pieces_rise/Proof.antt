@@ -9,9 +9,6 @@ use borrow.Author.Tests.{not-true, not-false}
 use Rattle.feature.proofs.Every.{every-step, every-fails, every-end}
 use Rattle.desk_lines.proofs.pieces_rise.Statement.{statement}
 use Rattle.desk_lines.proofs.pieces_rise.Tie as tie
-use Rattle.desk_lines.proofs.pieces_rise.Reads as reads
-use Rattle.desk_lines.proofs.pieces_rise.Lts as lts
-use Rattle.desk_lines.proofs.is_piece.Reads as is-piece-reads
 
 abbrev Inv-loop : tie.InvT-loop
 Inv-loop starts w i₀ i = (i ≤ w .pieces) × (every (isPiece starts w) i ≡ true)

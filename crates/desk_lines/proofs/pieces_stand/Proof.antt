@@ -4,10 +4,6 @@ use Rattle.desk_lines.specs.Pieces.{piecesStand}
 use borrow.Author.Needs.{needs}
 use Rattle.desk_lines.proofs.pieces_stand.Statement.{statement}
 use Rattle.desk_lines.proofs.pieces_stand.Tie as tie
-use Rattle.desk_lines.proofs.pieces_stand.Reads as reads
-use Rattle.desk_lines.proofs.pieces_stand.Lts as lts
-use Rattle.desk_lines.proofs.pieces_rise.Reads as pieces-rise-reads
-use Rattle.record.proofs.look.Reads as look-reads
 
 returns : tie.Need-returns
 unfolding piecesStand

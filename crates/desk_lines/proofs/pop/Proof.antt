@@ -7,11 +7,6 @@ use borrow.Author.Tests.{not-true, not-false}
 use borrow.Author.Needs.{needs}
 use Rattle.desk_lines.proofs.pop.Statement.{statement}
 use Rattle.desk_lines.proofs.pop.Tie as tie
-use Rattle.desk_lines.proofs.pop.Reads as reads
-use Rattle.desk_lines.proofs.pop.Lts as lts
-use Rattle.desk_lines.proofs.answer.Reads as answer-reads
-use Rattle.desk_lines.proofs.is_writer.Reads as is-writer-reads
-use Rattle.writer.proofs.event.pop.Reads as pop-reads
 
 is-writer-requires : tie.Need-is-writer-requires
 is-writer-requires c κs = search needs

@@ -3,8 +3,6 @@ use Rattle.desk_rings.specs.Slots.{handedOf}
 use borrow.Author.Needs.{needs}
 use Rattle.desk_rings.proofs.answer.Statement.{statement}
 use Rattle.desk_rings.proofs.answer.Tie as tie
-use Rattle.desk_rings.proofs.answer.Reads as reads
-use Rattle.desk_rings.proofs.answer.Lts as lts
 
 enum-known-g : tie.Need-enum-known-g
 enum-known-g c = search needs

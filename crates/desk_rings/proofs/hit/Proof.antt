@@ -4,11 +4,6 @@ use borrow.Author.Tests.{not-true, not-false}
 use borrow.Author.Needs.{needs}
 use Rattle.desk_rings.proofs.hit.Statement.{statement}
 use Rattle.desk_rings.proofs.hit.Tie as tie
-use Rattle.desk_rings.proofs.hit.Reads as reads
-use Rattle.desk_rings.proofs.hit.Lts as lts
-use Rattle.desk_rings.proofs.answer.Reads as answer-reads
-use Rattle.desk_rings.proofs.is_pool.Reads as is-pool-reads
-use Rattle.pool.proofs.hit.Reads as hit-reads
 
 is-pool-requires : tie.Need-is-pool-requires
 is-pool-requires c κs = search needs

@@ -5,11 +5,6 @@ use Rattle.desk_rings.specs.Slots.{isFound}
 use Rattle.desk_rings.proofs.Stands.{found-last}
 use Rattle.desk_rings.proofs.is_found.Statement.{statement}
 use Rattle.desk_rings.proofs.is_found.Tie as tie
-use Rattle.desk_rings.proofs.is_found.Reads as reads
-use Rattle.desk_rings.proofs.is_found.Lts as lts
-use Rattle.desk_rings.proofs.is_free.Reads as is-free-reads
-use Rattle.pool.proofs.find.Reads as find-reads
-use Rattle.record.proofs.look.Reads as look-reads
 
 is-free-requires : tie.Need-is-free-requires
 is-free-requires c κs = search needs

@@ -5,9 +5,6 @@ use Rattle.desk_rings.specs.Slots.{isFree}
 use borrow.Author.Needs.{needs}
 use Rattle.desk_rings.proofs.is_free.Statement.{statement}
 use Rattle.desk_rings.proofs.is_free.Tie as tie
-use Rattle.desk_rings.proofs.is_free.Reads as reads
-use Rattle.desk_rings.proofs.is_free.Lts as lts
-use Rattle.record.proofs.look.Reads as look-reads
 
 mul-at : tie.Need-mul-at
 mul-at c = search needs

@@ -4,9 +4,6 @@ use Rattle.desk_rings.specs.Slots.{isOpen}
 use borrow.Author.Needs.{needs}
 use Rattle.desk_rings.proofs.is_open.Statement.{statement}
 use Rattle.desk_rings.proofs.is_open.Tie as tie
-use Rattle.desk_rings.proofs.is_open.Reads as reads
-use Rattle.desk_rings.proofs.is_open.Lts as lts
-use Rattle.record.proofs.look.Reads as look-reads
 
 mul-at : tie.Need-mul-at
 mul-at c = search needs

@@ -4,9 +4,6 @@ use Rattle.desk_rings.specs.Slots.{isPool}
 use borrow.Author.Needs.{needs}
 use Rattle.desk_rings.proofs.is_pool.Statement.{statement}
 use Rattle.desk_rings.proofs.is_pool.Tie as tie
-use Rattle.desk_rings.proofs.is_pool.Reads as reads
-use Rattle.desk_rings.proofs.is_pool.Lts as lts
-use Rattle.desk_rings.proofs.slots_stand.Reads as slots-stand-reads
 
 returns : tie.Need-returns
 unfolding isPool

@@ -3,11 +3,6 @@ use Rattle.desk_rings.specs.Slots.{isSlot}
 use borrow.Author.Needs.{needs}
 use Rattle.desk_rings.proofs.is_slot.Statement.{statement}
 use Rattle.desk_rings.proofs.is_slot.Tie as tie
-use Rattle.desk_rings.proofs.is_slot.Reads as reads
-use Rattle.desk_rings.proofs.is_slot.Lts as lts
-use Rattle.desk_rings.proofs.is_free.Reads as is-free-reads
-use Rattle.desk_rings.proofs.is_open.Reads as is-open-reads
-use Rattle.desk_rings.proofs.kept_free.Reads as kept-free-reads
 
 is-free-requires : tie.Need-is-free-requires
 is-free-requires c κs = search needs

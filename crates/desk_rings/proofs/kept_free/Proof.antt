@@ -4,8 +4,6 @@ use borrow.Author.Tests.{eq-eqb, ne-eqb}
 use Rattle.desk_rings.specs.Slots.{keptFree}
 use Rattle.desk_rings.proofs.kept_free.Statement.{statement}
 use Rattle.desk_rings.proofs.kept_free.Tie as tie
-use Rattle.desk_rings.proofs.kept_free.Reads as reads
-use Rattle.desk_rings.proofs.kept_free.Lts as lts
 
 returns : tie.Need-returns
 unfolding keptFree

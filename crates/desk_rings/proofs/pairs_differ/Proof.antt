@@ -9,9 +9,6 @@ use borrow.Author.Tests.{not-true, not-false}
 use Rattle.feature.proofs.Every.{every-step, every-fails, every-end}
 use Rattle.desk_rings.proofs.pairs_differ.Statement.{statement}
 use Rattle.desk_rings.proofs.pairs_differ.Tie as tie
-use Rattle.desk_rings.proofs.pairs_differ.Reads as reads
-use Rattle.desk_rings.proofs.pairs_differ.Lts as lts
-use Rattle.desk_rings.proofs.is_found.Reads as is-found-reads
 
 abbrev Inv-loop : tie.InvT-loop
 Inv-loop pairs p n₀ n = (n ≤ top + 1) × (every (isFound p pairs) n ≡ true)

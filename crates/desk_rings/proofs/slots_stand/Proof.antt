@@ -9,9 +9,6 @@ use borrow.Author.Tests.{not-true, not-false}
 use Rattle.feature.proofs.Every.{every-step, every-fails, every-end}
 use Rattle.desk_rings.proofs.slots_stand.Statement.{statement}
 use Rattle.desk_rings.proofs.slots_stand.Tie as tie
-use Rattle.desk_rings.proofs.slots_stand.Reads as reads
-use Rattle.desk_rings.proofs.slots_stand.Lts as lts
-use Rattle.desk_rings.proofs.is_slot.Reads as is-slot-reads
 
 abbrev Inv-loop : tie.InvT-loop
 Inv-loop pairs p n₀ n = (n ≤ top + 1) × (every (isSlot p pairs) n ≡ true)

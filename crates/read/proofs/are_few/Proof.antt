@@ -3,11 +3,8 @@ use mathlib.Core.Path.{subst, sym}
 use native.Mathlib.Omega.{arith}
 use lib.Dec.{T}
 use borrow.Author.Tests.{leb-true}
-use borrow.Author.Needs.{needs}
 use Rattle.read.proofs.are_few.Statement.{statement}
 use Rattle.read.proofs.are_few.Tie as tie
-use Rattle.read.proofs.are_few.Reads as reads
-use Rattle.read.proofs.are_few.Lts as lts
 
 returns : tie.Need-returns
 returns c = λ is. absurd (subst T (sym is) tt)

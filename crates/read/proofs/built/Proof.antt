@@ -1,11 +1,7 @@
-use mathlib.Core.Path.{refl}
-use borrow.Author.Tests.{lt-ltb, le-ltb, lt-leb, le-leb, eq-eqb, ne-eqb}
 use Rattle.read.specs.Read.{builtAnswer}
 use borrow.Author.Needs.{needs}
 use Rattle.read.proofs.built.Statement.{statement}
 use Rattle.read.proofs.built.Tie as tie
-use Rattle.read.proofs.built.Reads as reads
-use Rattle.read.proofs.built.Lts as lts
 
 -- src/lib.rt:81:24
 enum-told : tie.Need-enum-told

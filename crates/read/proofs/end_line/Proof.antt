@@ -14,10 +14,6 @@ use Rattle.read.specs.Read.{endedSt}
 use borrow.Author.Needs.{needs}
 use Rattle.read.proofs.end_line.Statement.{statement}
 use Rattle.read.proofs.end_line.Tie as tie
-use Rattle.read.proofs.end_line.Reads as reads
-use Rattle.read.proofs.end_line.Lts as lts
-use Rattle.graph.proofs.builder.Builder.refused.Reads as refused-reads
-use Rattle.held.proofs.scanner.is_done.Reads as is-done-reads
 
 none-left : (s : List ℕ) (came : Came) (r : Bool) → came .b .refusal ≡ 0 → r ≡ leb (length s) (came .at) → r ≡ true → came .b ≡ endedSt s came
 unfolding endedSt

@@ -8,12 +8,6 @@ use Rattle.read.specs.Numbers.{inNumbers}
 use borrow.Author.Needs.{needs}
 use Rattle.read.proofs.read.Statement.{statement}
 use Rattle.read.proofs.read.Tie as tie
-use Rattle.read.proofs.read.Reads as reads
-use Rattle.read.proofs.read.Lts as lts
-use Rattle.build.proofs.clear.Reads as clear-reads
-use Rattle.read.proofs.are_few.Reads as are-few-reads
-use Rattle.read.proofs.read_few.Reads as read-few-reads
-use Rattle.read.proofs.read_many.Reads as read-many-reads
 
 clear-requires : tie.Need-clear-requires
 clear-requires c κs = search needs

@@ -12,9 +12,6 @@ use Rattle.read.proofs.Lines.{within-few}
 use borrow.Author.Needs.{needs}
 use Rattle.read.proofs.read_few.Statement.{statement}
 use Rattle.read.proofs.read_few.Tie as tie
-use Rattle.read.proofs.read_few.Reads as reads
-use Rattle.read.proofs.read_few.Lts as lts
-use Rattle.read.proofs.read_within.Reads as read-within-reads
 
 slice-aggregate-read-within : tie.Need-slice-aggregate-read-within
 slice-aggregate-read-within c = search needs

@@ -11,9 +11,6 @@ use Rattle.read.proofs.Lines.{within-many}
 use borrow.Author.Needs.{needs}
 use Rattle.read.proofs.read_many.Statement.{statement}
 use Rattle.read.proofs.read_many.Tie as tie
-use Rattle.read.proofs.read_many.Reads as reads
-use Rattle.read.proofs.read_many.Lts as lts
-use Rattle.read.proofs.read_within.Reads as read-within-reads
 
 slice-aggregate-read-within : tie.Need-slice-aggregate-read-within
 slice-aggregate-read-within c = search needs

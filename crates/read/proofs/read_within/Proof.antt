@@ -8,17 +8,6 @@ use Rattle.read.proofs.Whole.{start-ready, said-refused, said-built}
 use borrow.Author.Needs.{needs}
 use Rattle.read.proofs.read_within.Statement.{statement}
 use Rattle.read.proofs.read_within.Tie as tie
-use Rattle.read.proofs.read_within.Reads as reads
-use Rattle.read.proofs.read_within.Lts as lts
-use Rattle.build.proofs.build.Reads as build-reads
-use Rattle.build.proofs.clear.Reads as clear-reads
-use Rattle.graph.proofs.builder.Builder.start.Reads as start-reads
-use Rattle.graph.proofs.limits.atom_room.Reads as atom-room-reads
-use Rattle.graph.proofs.limits.bond_room.Reads as bond-room-reads
-use Rattle.read.proofs.built.Reads as built-reads
-use Rattle.read.proofs.end_line.Reads as end-line-reads
-use Rattle.read.proofs.refusal.Reads as refusal-reads
-use Rattle.reader.proofs.line.read_line.Reads as read-line-reads
 
 -- src/lib.rt:100:32
 atom-room-requires : tie.Need-atom-room-requires

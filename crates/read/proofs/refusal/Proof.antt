@@ -1,11 +1,7 @@
-use mathlib.Core.Path.{refl}
-use borrow.Author.Needs.{needs}
-use borrow.Author.Tests.{lt-ltb, le-ltb, lt-leb, le-leb, eq-eqb, ne-eqb}
+use borrow.Author.Tests.{eq-eqb, ne-eqb}
 use Rattle.read.specs.Read.{refusalOf}
 use Rattle.read.proofs.refusal.Statement.{statement}
 use Rattle.read.proofs.refusal.Tie as tie
-use Rattle.read.proofs.refusal.Reads as reads
-use Rattle.read.proofs.refusal.Lts as lts
 
 -- src/lib.rt:57:9
 returns : tie.Need-returns

@@ -1,8 +1,6 @@
 -- `spell::organic_symbol` meets its contract: each arm at its symbol; there is none past them. Assumes nothing.
-use mathlib.Core.Path.{refl}
 use native.Mathlib.Omega.{arith}
 use Rattle.feature.proofs.Table.{beyond}
-use Rattle.spell.proofs.Laws.{organic-small}
 use Rattle.spell.specs.Spell.{organic}
 use Rattle.spell.proofs.organic_symbol.Statement.{statement}
 use Rattle.spell.proofs.organic_symbol.Tie as tie

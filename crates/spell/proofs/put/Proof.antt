@@ -3,8 +3,6 @@ use mathlib.Core.Path.{sym}
 use borrow.Author.Needs.{needs}
 use Rattle.spell.proofs.put.Statement.{statement}
 use Rattle.spell.proofs.put.Tie as tie
-use Rattle.spell.proofs.put.Reads as reads
-use Rattle.spell.proofs.put.Lts as lts
 
 -- src/lib.rt:22:9
 slice-write-out : tie.Need-slice-write-out

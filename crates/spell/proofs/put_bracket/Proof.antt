@@ -1,19 +1,9 @@
 use mathlib.Core.Path.{refl}
-use borrow.Author.Tests.{lt-ltb, le-ltb, lt-leb, le-leb, eq-eqb, ne-eqb}
-use Rattle.spell.proofs.Laws.{laid-nil, laid-then, laid-as}
+use Rattle.spell.proofs.Laws.{laid-then, laid-as}
 use Rattle.spell.specs.Spell.{bracketText}
 use borrow.Author.Needs.{needs}
 use Rattle.spell.proofs.put_bracket.Statement.{statement}
 use Rattle.spell.proofs.put_bracket.Tie as tie
-use Rattle.spell.proofs.put_bracket.Reads as reads
-use Rattle.spell.proofs.put_bracket.Lts as lts
-use Rattle.spell.proofs.put.Reads as put-reads
-use Rattle.spell.proofs.put_charge.Reads as put-charge-reads
-use Rattle.spell.proofs.put_configuration.Reads as put-configuration-reads
-use Rattle.spell.proofs.put_hydrogens.Reads as put-hydrogens-reads
-use Rattle.spell.proofs.put_isotope.Reads as put-isotope-reads
-use Rattle.spell.proofs.put_map.Reads as put-map-reads
-use Rattle.spell.proofs.put_symbol.Reads as put-symbol-reads
 
 -- src/lib.rt:214:9
 put-requires : tie.Need-put-requires

@@ -1,15 +1,9 @@
-use mathlib.Core.Path.{refl}
-use borrow.Author.Tests.{lt-ltb, le-ltb, lt-leb, le-leb, eq-eqb, ne-eqb}
+use borrow.Author.Tests.{lt-ltb, le-ltb, eq-eqb, ne-eqb}
 use Rattle.spell.proofs.Laws.{laid-nil, laid-then, laid-as}
 use Rattle.spell.specs.Spell.{chargeText}
 use borrow.Author.Needs.{needs}
 use Rattle.spell.proofs.put_charge.Statement.{statement}
 use Rattle.spell.proofs.put_charge.Tie as tie
-use Rattle.spell.proofs.put_charge.Reads as reads
-use Rattle.spell.proofs.put_charge.Lts as lts
-use Rattle.spell.proofs.put.Reads as put-reads
-use Rattle.spell.proofs.put_digit.Reads as put-digit-reads
-use Rattle.spell.proofs.put_pair.Reads as put-pair-reads
 
 -- src/lib.rt:175:9
 returns : tie.Need-returns

@@ -1,14 +1,9 @@
-use mathlib.Core.Path.{refl}
-use borrow.Author.Tests.{lt-ltb, le-ltb, lt-leb, le-leb, eq-eqb, ne-eqb}
+use borrow.Author.Tests.{lt-ltb, le-ltb, eq-eqb, ne-eqb}
 use Rattle.spell.proofs.Laws.{laid-nil, laid-then, laid-as}
 use Rattle.spell.specs.Spell.{configurationText}
 use borrow.Author.Needs.{needs}
 use Rattle.spell.proofs.put_configuration.Statement.{statement}
 use Rattle.spell.proofs.put_configuration.Tie as tie
-use Rattle.spell.proofs.put_configuration.Reads as reads
-use Rattle.spell.proofs.put_configuration.Lts as lts
-use Rattle.spell.proofs.put.Reads as put-reads
-use Rattle.spell.proofs.put_marked.Reads as put-marked-reads
 
 -- src/lib.rt:135:9
 returns : tie.Need-returns

@@ -1,15 +1,11 @@
 use native.Mathlib.Omega.{arith}
 use mathlib.Core.Path.{refl}
-use borrow.Author.Tests.{lt-ltb, le-ltb, lt-leb, le-leb, eq-eqb, ne-eqb}
-use Rattle.spell.proofs.Laws.{laid-nil, laid-then, laid-as}
+use borrow.Author.Tests.{le-ltb}
+use Rattle.spell.proofs.Laws.{laid-then, laid-as}
 use Rattle.spell.specs.Spell.{digits}
 use borrow.Author.Needs.{needs}
 use Rattle.spell.proofs.put_digits.Statement.{statement}
 use Rattle.spell.proofs.put_digits.Tie as tie
-use Rattle.spell.proofs.put_digits.Reads as reads
-use Rattle.spell.proofs.put_digits.Lts as lts
-use Rattle.spell.proofs.put_digit.Reads as put-digit-reads
-use Rattle.spell.proofs.put_pair.Reads as put-pair-reads
 
 -- src/lib.rt:53:9
 put-pair-requires : tie.Need-put-pair-requires

@@ -1,14 +1,9 @@
-use mathlib.Core.Path.{refl}
-use borrow.Author.Tests.{lt-ltb, le-ltb, lt-leb, le-leb, eq-eqb, ne-eqb}
+use borrow.Author.Tests.{eq-eqb, ne-eqb}
 use Rattle.spell.proofs.Laws.{laid-nil, laid-then, laid-as}
 use Rattle.spell.specs.Spell.{hydrogensText}
 use borrow.Author.Needs.{needs}
 use Rattle.spell.proofs.put_hydrogens.Statement.{statement}
 use Rattle.spell.proofs.put_hydrogens.Tie as tie
-use Rattle.spell.proofs.put_hydrogens.Reads as reads
-use Rattle.spell.proofs.put_hydrogens.Lts as lts
-use Rattle.spell.proofs.put.Reads as put-reads
-use Rattle.spell.proofs.put_digit.Reads as put-digit-reads
 
 -- src/lib.rt:156:9
 returns : tie.Need-returns

@@ -1,13 +1,9 @@
-use mathlib.Core.Path.{refl}
-use borrow.Author.Tests.{lt-ltb, le-ltb, lt-leb, le-leb, eq-eqb, ne-eqb}
-use Rattle.spell.proofs.Laws.{laid-nil, laid-then, laid-as}
+use borrow.Author.Tests.{eq-eqb, ne-eqb}
+use Rattle.spell.proofs.Laws.{laid-nil, laid-as}
 use Rattle.spell.specs.Spell.{numberText}
 use borrow.Author.Needs.{needs}
 use Rattle.spell.proofs.put_isotope.Statement.{statement}
 use Rattle.spell.proofs.put_isotope.Tie as tie
-use Rattle.spell.proofs.put_isotope.Reads as reads
-use Rattle.spell.proofs.put_isotope.Lts as lts
-use Rattle.spell.proofs.put_digits.Reads as put-digits-reads
 
 -- src/lib.rt:65:9
 returns : tie.Need-returns

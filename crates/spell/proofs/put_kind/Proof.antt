@@ -1,19 +1,11 @@
 use mathlib.Core.Path.{subst}
 use native.Mathlib.Omega.{arith}
 use Rattle.feature.specs.Kinds.{Good}
-use mathlib.Core.Path.{refl}
-use borrow.Author.Tests.{lt-ltb, le-ltb, lt-leb, le-leb, eq-eqb, ne-eqb}
-use Rattle.spell.proofs.Laws.{laid-nil, laid-then, laid-as}
+use Rattle.spell.proofs.Laws.{laid-as}
 use Rattle.spell.specs.Spell.{kindText}
 use borrow.Author.Needs.{needs}
 use Rattle.spell.proofs.put_kind.Statement.{statement}
 use Rattle.spell.proofs.put_kind.Tie as tie
-use Rattle.spell.proofs.put_kind.Reads as reads
-use Rattle.spell.proofs.put_kind.Lts as lts
-use Rattle.spell.proofs.organic_symbol.Reads as organic-symbol-reads
-use Rattle.spell.proofs.put.Reads as put-reads
-use Rattle.spell.proofs.put_bracket.Reads as put-bracket-reads
-use Rattle.spell.proofs.put_name.Reads as put-name-reads
 
 -- src/lib.rt:241:31
 enum-told : tie.Need-enum-told

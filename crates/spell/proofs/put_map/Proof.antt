@@ -1,14 +1,9 @@
-use mathlib.Core.Path.{refl}
-use borrow.Author.Tests.{lt-ltb, le-ltb, lt-leb, le-leb, eq-eqb, ne-eqb}
+use borrow.Author.Tests.{eq-eqb, ne-eqb}
 use Rattle.spell.proofs.Laws.{laid-nil, laid-then, laid-as}
 use Rattle.spell.specs.Spell.{mapText}
 use borrow.Author.Needs.{needs}
 use Rattle.spell.proofs.put_map.Statement.{statement}
 use Rattle.spell.proofs.put_map.Tie as tie
-use Rattle.spell.proofs.put_map.Reads as reads
-use Rattle.spell.proofs.put_map.Lts as lts
-use Rattle.spell.proofs.put.Reads as put-reads
-use Rattle.spell.proofs.put_digits.Reads as put-digits-reads
 
 -- src/lib.rt:204:9
 returns : tie.Need-returns

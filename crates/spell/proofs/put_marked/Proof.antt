@@ -1,13 +1,9 @@
-use mathlib.Core.Path.{refl}
-use borrow.Author.Tests.{lt-ltb, le-ltb, lt-leb, le-leb, eq-eqb, ne-eqb}
-use Rattle.spell.proofs.Laws.{laid-nil, laid-then, laid-as}
+use borrow.Author.Tests.{lt-leb, le-leb, eq-eqb, ne-eqb}
+use Rattle.spell.proofs.Laws.{laid-as}
 use Rattle.spell.specs.Spell.{markedText}
 use borrow.Author.Needs.{needs}
 use Rattle.spell.proofs.put_marked.Statement.{statement}
 use Rattle.spell.proofs.put_marked.Tie as tie
-use Rattle.spell.proofs.put_marked.Reads as reads
-use Rattle.spell.proofs.put_marked.Lts as lts
-use Rattle.spell.proofs.put_template.Reads as put-template-reads
 
 -- src/lib.rt:113:50
 sub-put-template : tie.Need-sub-put-template

@@ -6,10 +6,6 @@ use native.Mathlib.Omega.{arith}
 use borrow.Author.Needs.{needs}
 use Rattle.spell.proofs.put_name.Statement.{statement}
 use Rattle.spell.proofs.put_name.Tie as tie
-use Rattle.spell.proofs.put_name.Reads as reads
-use Rattle.spell.proofs.put_name.Lts as lts
-use Rattle.feature.proofs.element.name.Reads as name-reads
-use Rattle.spell.proofs.put.Reads as put-reads
 
 -- src/lib.rt:75:9
 name-requires : tie.Need-name-requires

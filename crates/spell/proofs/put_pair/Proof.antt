@@ -1,13 +1,9 @@
-use mathlib.Core.Path.{refl}
-use borrow.Author.Tests.{lt-ltb, le-ltb, lt-leb, le-leb, eq-eqb, ne-eqb}
-use Rattle.spell.proofs.Laws.{laid-nil, laid-then, laid-as}
+use borrow.Author.Tests.{lt-ltb, le-ltb}
+use Rattle.spell.proofs.Laws.{laid-then, laid-as}
 use Rattle.spell.specs.Spell.{digits}
 use borrow.Author.Needs.{needs}
 use Rattle.spell.proofs.put_pair.Statement.{statement}
 use Rattle.spell.proofs.put_pair.Tie as tie
-use Rattle.spell.proofs.put_pair.Reads as reads
-use Rattle.spell.proofs.put_pair.Lts as lts
-use Rattle.spell.proofs.put_digit.Reads as put-digit-reads
 
 -- src/lib.rt:41:9
 put-digit-requires : tie.Need-put-digit-requires

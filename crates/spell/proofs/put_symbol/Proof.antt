@@ -1,13 +1,9 @@
-use mathlib.Core.Path.{refl}
-use borrow.Author.Tests.{lt-ltb, le-ltb, lt-leb, le-leb, eq-eqb, ne-eqb}
-use Rattle.spell.proofs.Laws.{laid-nil, laid-then, laid-as}
+use borrow.Author.Tests.{eq-eqb, ne-eqb}
+use Rattle.spell.proofs.Laws.{laid-as}
 use Rattle.spell.specs.Spell.{symbolText}
 use borrow.Author.Needs.{needs}
 use Rattle.spell.proofs.put_symbol.Statement.{statement}
 use Rattle.spell.proofs.put_symbol.Tie as tie
-use Rattle.spell.proofs.put_symbol.Reads as reads
-use Rattle.spell.proofs.put_symbol.Lts as lts
-use Rattle.spell.proofs.put_name.Reads as put-name-reads
 
 -- src/lib.rt:91:9
 put-name-requires : tie.Need-put-name-requires

@@ -1,14 +1,9 @@
 use mathlib.Core.Path.{refl}
-use borrow.Author.Tests.{lt-ltb, le-ltb, lt-leb, le-leb, eq-eqb, ne-eqb}
-use Rattle.spell.proofs.Laws.{laid-nil, laid-then, laid-as}
+use Rattle.spell.proofs.Laws.{laid-then, laid-as}
 use Rattle.spell.specs.Spell.{templateText}
 use borrow.Author.Needs.{needs}
 use Rattle.spell.proofs.put_template.Statement.{statement}
 use Rattle.spell.proofs.put_template.Tie as tie
-use Rattle.spell.proofs.put_template.Reads as reads
-use Rattle.spell.proofs.put_template.Lts as lts
-use Rattle.spell.proofs.put.Reads as put-reads
-use Rattle.spell.proofs.put_pair.Reads as put-pair-reads
 
 -- src/lib.rt:101:9
 put-requires : tie.Need-put-requires

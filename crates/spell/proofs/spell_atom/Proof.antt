@@ -1,16 +1,10 @@
 use mathlib.Core.Path.{sym, _∙_}
 use Rattle.feature.proofs.Ranges.{good}
-use mathlib.Core.Path.{refl}
-use borrow.Author.Tests.{lt-ltb, le-ltb, lt-leb, le-leb, eq-eqb, ne-eqb}
-use Rattle.spell.proofs.Laws.{laid-nil, laid-then, laid-as}
+use Rattle.spell.proofs.Laws.{laid-nil, laid-as}
 use Rattle.spell.specs.Spell.{atomText}
 use borrow.Author.Needs.{needs}
 use Rattle.spell.proofs.spell_atom.Statement.{statement}
 use Rattle.spell.proofs.spell_atom.Tie as tie
-use Rattle.spell.proofs.spell_atom.Reads as reads
-use Rattle.spell.proofs.spell_atom.Lts as lts
-use Rattle.feature.proofs.atom_kind.in_range.Reads as in-range-reads
-use Rattle.spell.proofs.put_kind.Reads as put-kind-reads
 
 -- src/lib.rt:252:8
 in-range-requires : tie.Need-in-range-requires

@@ -1,13 +1,8 @@
-use mathlib.Core.Path.{refl}
-use borrow.Author.Tests.{lt-ltb, le-ltb, lt-leb, le-leb, eq-eqb, ne-eqb}
-use Rattle.spell.proofs.Laws.{laid-nil, laid-then, laid-as}
+use Rattle.spell.proofs.Laws.{laid-nil, laid-as}
 use Rattle.spell.specs.Spell.{bondText}
 use borrow.Author.Needs.{needs}
 use Rattle.spell.proofs.spell_bond.Statement.{statement}
 use Rattle.spell.proofs.spell_bond.Tie as tie
-use Rattle.spell.proofs.spell_bond.Reads as reads
-use Rattle.spell.proofs.spell_bond.Lts as lts
-use Rattle.spell.proofs.put.Reads as put-reads
 
 -- src/lib.rt:263:29
 enum-told : tie.Need-enum-told

@@ -1,11 +1,7 @@
-use mathlib.Core.Path.{refl}
-use borrow.Author.Needs.{needs}
-use borrow.Author.Tests.{lt-ltb, le-ltb, lt-leb, le-leb, eq-eqb, ne-eqb}
+use borrow.Author.Tests.{lt-ltb, le-ltb, eq-eqb, ne-eqb}
 use Rattle.targets.specs.Targets.{aliphaticTargets}
 use Rattle.targets.proofs.aliphatic_targets.Statement.{statement}
 use Rattle.targets.proofs.aliphatic_targets.Tie as tie
-use Rattle.targets.proofs.aliphatic_targets.Reads as reads
-use Rattle.targets.proofs.aliphatic_targets.Lts as lts
 
 -- src/lib.rt:187:9
 returns : tie.Need-returns

@@ -3,8 +3,6 @@ use Rattle.feature.specs.Names.{aromaticElements}
 use borrow.Author.Needs.{needs}
 use Rattle.targets.proofs.aromatic_element.Statement.{statement}
 use Rattle.targets.proofs.aromatic_element.Tie as tie
-use Rattle.targets.proofs.aromatic_element.Reads as reads
-use Rattle.targets.proofs.aromatic_element.Lts as lts
 
 -- src/lib.rt:33:5
 mul-result : tie.Need-mul-result

@@ -1,11 +1,7 @@
-use mathlib.Core.Path.{refl}
-use borrow.Author.Needs.{needs}
-use borrow.Author.Tests.{lt-ltb, le-ltb, lt-leb, le-leb, eq-eqb, ne-eqb}
+use borrow.Author.Tests.{eq-eqb, ne-eqb}
 use Rattle.targets.specs.Targets.{aromaticTargets}
 use Rattle.targets.proofs.aromatic_targets.Statement.{statement}
 use Rattle.targets.proofs.aromatic_targets.Tie as tie
-use Rattle.targets.proofs.aromatic_targets.Reads as reads
-use Rattle.targets.proofs.aromatic_targets.Lts as lts
 
 -- src/lib.rt:215:9
 returns : tie.Need-returns

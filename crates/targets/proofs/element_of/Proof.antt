@@ -1,12 +1,8 @@
-use mathlib.Core.Path.{refl}
-use borrow.Author.Tests.{lt-ltb, le-ltb, lt-leb, le-leb, eq-eqb, ne-eqb}
+use borrow.Author.Tests.{lt-ltb, le-ltb}
 use Rattle.targets.specs.Targets.{elementOf}
 use borrow.Author.Needs.{needs}
 use Rattle.targets.proofs.element_of.Statement.{statement}
 use Rattle.targets.proofs.element_of.Tie as tie
-use Rattle.targets.proofs.element_of.Reads as reads
-use Rattle.targets.proofs.element_of.Lts as lts
-use Rattle.targets.proofs.aromatic_element.Reads as aromatic-element-reads
 
 -- src/lib.rt:41:9
 returns : tie.Need-returns

@@ -1,17 +1,8 @@
-use mathlib.Core.Path.{refl}
-use borrow.Author.Tests.{lt-ltb, le-ltb, lt-leb, le-leb, eq-eqb, ne-eqb}
+use borrow.Author.Tests.{eq-eqb, ne-eqb}
 use Rattle.targets.specs.Targets.{elementTargets}
 use borrow.Author.Needs.{needs}
 use Rattle.targets.proofs.element_targets.Statement.{statement}
 use Rattle.targets.proofs.element_targets.Tie as tie
-use Rattle.targets.proofs.element_targets.Reads as reads
-use Rattle.targets.proofs.element_targets.Lts as lts
-use Rattle.targets.proofs.boron_targets.Reads as boron-targets-reads
-use Rattle.targets.proofs.carbon_targets.Reads as carbon-targets-reads
-use Rattle.targets.proofs.nitrogen_targets.Reads as nitrogen-targets-reads
-use Rattle.targets.proofs.oxygen_targets.Reads as oxygen-targets-reads
-use Rattle.targets.proofs.phosphorus_targets.Reads as phosphorus-targets-reads
-use Rattle.targets.proofs.sulfur_targets.Reads as sulfur-targets-reads
 
 -- src/lib.rt:156:9
 boron-targets-requires : tie.Need-boron-targets-requires

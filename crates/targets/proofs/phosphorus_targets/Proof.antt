@@ -1,11 +1,8 @@
-use mathlib.Core.Path.{refl}
-use borrow.Author.Tests.{lt-ltb, le-ltb, lt-leb, le-leb, eq-eqb, ne-eqb}
+use borrow.Author.Tests.{eq-eqb, ne-eqb}
 use Rattle.targets.specs.Targets.{phosphorus}
 use borrow.Author.Needs.{needs}
 use Rattle.targets.proofs.phosphorus_targets.Statement.{statement}
 use Rattle.targets.proofs.phosphorus_targets.Tie as tie
-use Rattle.targets.proofs.phosphorus_targets.Reads as reads
-use Rattle.targets.proofs.phosphorus_targets.Lts as lts
 
 -- src/lib.rt:125:18
 sub-if1 : tie.Need-sub-if1

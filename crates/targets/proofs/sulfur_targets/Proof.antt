@@ -1,11 +1,8 @@
-use mathlib.Core.Path.{refl}
-use borrow.Author.Tests.{lt-ltb, le-ltb, lt-leb, le-leb, eq-eqb, ne-eqb}
+use borrow.Author.Tests.{eq-eqb, ne-eqb}
 use Rattle.targets.specs.Targets.{sulfur}
 use borrow.Author.Needs.{needs}
 use Rattle.targets.proofs.sulfur_targets.Statement.{statement}
 use Rattle.targets.proofs.sulfur_targets.Tie as tie
-use Rattle.targets.proofs.sulfur_targets.Reads as reads
-use Rattle.targets.proofs.sulfur_targets.Lts as lts
 
 -- src/lib.rt:141:9
 returns : tie.Need-returns

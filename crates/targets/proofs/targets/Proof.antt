@@ -1,15 +1,7 @@
-use mathlib.Core.Path.{refl}
-use borrow.Author.Tests.{lt-ltb, le-ltb, lt-leb, le-leb, eq-eqb, ne-eqb}
 use Rattle.targets.specs.Targets.{targetsOf}
 use borrow.Author.Needs.{needs}
 use Rattle.targets.proofs.targets.Statement.{statement}
 use Rattle.targets.proofs.targets.Tie as tie
-use Rattle.targets.proofs.targets.Reads as reads
-use Rattle.targets.proofs.targets.Lts as lts
-use Rattle.targets.proofs.aliphatic_targets.Reads as aliphatic-targets-reads
-use Rattle.targets.proofs.aromatic_targets.Reads as aromatic-targets-reads
-use Rattle.targets.proofs.element_of.Reads as element-of-reads
-use Rattle.targets.proofs.element_targets.Reads as element-targets-reads
 
 -- src/lib.rt:239:27
 enum-told : tie.Need-enum-told

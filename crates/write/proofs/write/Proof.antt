@@ -6,14 +6,6 @@ use Rattle.write.proofs.Calls.{write-13, write-14, write-17, write-all}
 use Rattle.write.proofs.One.{promised}
 use Rattle.write.proofs.write.Statement.{statement}
 use Rattle.write.proofs.write.Tie as tie
-use Rattle.write.proofs.write.Reads as reads
-use Rattle.write.proofs.write.Lts as lts
-use Rattle.graph.proofs.limits.atom_room.Reads as atom-room-reads
-use Rattle.graph.proofs.limits.bond_room.Reads as bond-room-reads
-use Rattle.judge.proofs.judge.Reads as judge-reads
-use Rattle.write.proofs.clear_bytes.Reads as clear-bytes-reads
-use Rattle.write.proofs.write_few.Reads as write-few-reads
-use Rattle.write.proofs.write_many.Reads as write-many-reads
 
 clear-bytes-requires : tie.Need-clear-bytes-requires
 clear-bytes-requires c κs = search needs

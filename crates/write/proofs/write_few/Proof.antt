@@ -4,9 +4,6 @@ use native.Mathlib.Omega.{arith}
 use borrow.Author.Needs.{needs}
 use Rattle.write.proofs.write_few.Statement.{statement}
 use Rattle.write.proofs.write_few.Tie as tie
-use Rattle.write.proofs.write_few.Reads as reads
-use Rattle.write.proofs.write_few.Lts as lts
-use Rattle.write.proofs.write_in.Reads as write-in-reads
 
 slice-aggregate-write-in : tie.Need-slice-aggregate-write-in
 slice-aggregate-write-in c = search needs

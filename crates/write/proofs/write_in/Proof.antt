@@ -4,11 +4,6 @@ use Rattle.write.proofs.Ends.{blank-written, few}
 use borrow.Author.Needs.{needs}
 use Rattle.write.proofs.write_in.Statement.{statement}
 use Rattle.write.proofs.write_in.Tie as tie
-use Rattle.write.proofs.write_in.Reads as reads
-use Rattle.write.proofs.write_in.Lts as lts
-use Rattle.build.proofs.lay_starts.Reads as lay-starts-reads
-use Rattle.walk.proofs.lent.walk.Reads as walk-reads
-use Rattle.write.proofs.conclude.Reads as conclude-reads
 
 lay-starts-requires : tie.Need-lay-starts-requires
 lay-starts-requires c κs = search needs

@@ -4,9 +4,6 @@ use native.Mathlib.Omega.{arith}
 use borrow.Author.Needs.{needs}
 use Rattle.write.proofs.write_many.Statement.{statement}
 use Rattle.write.proofs.write_many.Tie as tie
-use Rattle.write.proofs.write_many.Reads as reads
-use Rattle.write.proofs.write_many.Lts as lts
-use Rattle.write.proofs.write_in.Reads as write-in-reads
 
 slice-aggregate-write-in : tie.Need-slice-aggregate-write-in
 slice-aggregate-write-in c = search needs

@@ -1,13 +1,8 @@
-use mathlib.Core.Path.{refl}
-use borrow.Author.Tests.{lt-ltb, le-ltb, lt-leb, le-leb, eq-eqb, ne-eqb}
+use borrow.Author.Tests.{eq-eqb, ne-eqb}
 use Rattle.scan.specs.Scan.{closeAt}
 use borrow.Author.Needs.{needs}
 use Rattle.bracket.proofs.read_bracket.close.Statement.{statement}
 use Rattle.bracket.proofs.read_bracket.close.Tie as tie
-use Rattle.bracket.proofs.read_bracket.close.Reads as reads
-use Rattle.bracket.proofs.read_bracket.close.Lts as lts
-use Rattle.scan.proofs.scanner.missing_character.Reads as missing-character-reads
-use Rattle.scan.proofs.scanner.peek.Reads as peek-reads
 
 -- src/read_bracket.rt:67:9
 peek-requires : tie.Need-peek-requires

@@ -1,16 +1,7 @@
-use mathlib.Core.Path.{refl}
-use borrow.Author.Tests.{lt-ltb, le-ltb, lt-leb, le-leb, eq-eqb, ne-eqb}
 use Rattle.scan.specs.Scan.{afterConfiguration, afterHydrogens, afterCharge, afterMap}
 use borrow.Author.Needs.{needs}
 use Rattle.bracket.proofs.read_bracket.ending.Statement.{statement}
 use Rattle.bracket.proofs.read_bracket.ending.Tie as tie
-use Rattle.bracket.proofs.read_bracket.ending.Reads as reads
-use Rattle.bracket.proofs.read_bracket.ending.Lts as lts
-use Rattle.bracket.proofs.read_bracket.close.Reads as close-reads
-use Rattle.bracket.proofs.read_bracket.hydrogens.Reads as hydrogens-reads
-use Rattle.bracket.proofs.read_bracket.map.Reads as map-reads
-use Rattle.bracket.proofs.read_charge.read_charge.Reads as read-charge-reads
-use Rattle.scan.proofs.scanner.missing_character.Reads as missing-character-reads
 
 -- src/read_bracket.rt:78:9
 hydrogens-requires : tie.Need-hydrogens-requires

@@ -1,13 +1,8 @@
-use mathlib.Core.Path.{refl}
-use borrow.Author.Tests.{lt-ltb, le-ltb, lt-leb, le-leb, eq-eqb, ne-eqb}
+use borrow.Author.Tests.{lt-ltb, le-ltb, eq-eqb, ne-eqb}
 use Rattle.scan.specs.Scan.{hydrogensAt}
 use borrow.Author.Needs.{needs}
 use Rattle.bracket.proofs.read_bracket.hydrogens.Statement.{statement}
 use Rattle.bracket.proofs.read_bracket.hydrogens.Tie as tie
-use Rattle.bracket.proofs.read_bracket.hydrogens.Reads as reads
-use Rattle.bracket.proofs.read_bracket.hydrogens.Lts as lts
-use Rattle.scan.proofs.scanner.digit.Reads as digit-reads
-use Rattle.scan.proofs.scanner.peek.Reads as peek-reads
 
 -- src/read_bracket.rt:29:9
 peek-requires : tie.Need-peek-requires

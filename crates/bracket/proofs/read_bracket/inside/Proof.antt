@@ -1,16 +1,7 @@
-use mathlib.Core.Path.{refl}
-use borrow.Author.Tests.{lt-ltb, le-ltb, lt-leb, le-leb, eq-eqb, ne-eqb}
 use Rattle.scan.specs.Scan.{insideAt, afterIsotope, afterSymbol, configured}
 use borrow.Author.Needs.{needs}
 use Rattle.bracket.proofs.read_bracket.inside.Statement.{statement}
 use Rattle.bracket.proofs.read_bracket.inside.Tie as tie
-use Rattle.bracket.proofs.read_bracket.inside.Reads as reads
-use Rattle.bracket.proofs.read_bracket.inside.Lts as lts
-use Rattle.bracket.proofs.read_bracket.ending.Reads as ending-reads
-use Rattle.bracket.proofs.read_bracket.isotope.Reads as isotope-reads
-use Rattle.bracket.proofs.read_configuration.read_configuration.Reads as read-configuration-reads
-use Rattle.bracket.proofs.read_symbol.read_symbol.Reads as read-symbol-reads
-use Rattle.scan.proofs.scanner.missing_character.Reads as missing-character-reads
 
 -- src/read_bracket.rt:101:9
 isotope-requires : tie.Need-isotope-requires

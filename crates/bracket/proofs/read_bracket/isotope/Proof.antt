@@ -1,12 +1,8 @@
-use mathlib.Core.Path.{refl}
-use borrow.Author.Tests.{lt-ltb, le-ltb, lt-leb, le-leb, eq-eqb, ne-eqb}
+use borrow.Author.Tests.{eq-eqb, ne-eqb}
 use Rattle.scan.specs.Scan.{isotopeAt}
 use borrow.Author.Needs.{needs}
 use Rattle.bracket.proofs.read_bracket.isotope.Statement.{statement}
 use Rattle.bracket.proofs.read_bracket.isotope.Tie as tie
-use Rattle.bracket.proofs.read_bracket.isotope.Reads as reads
-use Rattle.bracket.proofs.read_bracket.isotope.Lts as lts
-use Rattle.scan.proofs.scanner.number.Reads as number-reads
 
 -- src/read_bracket.rt:15:9
 number-requires : tie.Need-number-requires

@@ -1,13 +1,8 @@
-use mathlib.Core.Path.{refl}
-use borrow.Author.Tests.{lt-ltb, le-ltb, lt-leb, le-leb, eq-eqb, ne-eqb}
+use borrow.Author.Tests.{eq-eqb, ne-eqb}
 use Rattle.scan.specs.Scan.{mapAt}
 use borrow.Author.Needs.{needs}
 use Rattle.bracket.proofs.read_bracket.map.Statement.{statement}
 use Rattle.bracket.proofs.read_bracket.map.Tie as tie
-use Rattle.bracket.proofs.read_bracket.map.Reads as reads
-use Rattle.bracket.proofs.read_bracket.map.Lts as lts
-use Rattle.scan.proofs.scanner.number.Reads as number-reads
-use Rattle.scan.proofs.scanner.peek.Reads as peek-reads
 
 -- src/read_bracket.rt:53:9
 peek-requires : tie.Need-peek-requires

@@ -1,13 +1,8 @@
-use mathlib.Core.Path.{refl}
-use borrow.Author.Tests.{lt-ltb, le-ltb, lt-leb, le-leb, eq-eqb, ne-eqb}
+use borrow.Author.Tests.{eq-eqb, ne-eqb}
 use Rattle.scan.specs.Scan.{bracketAt}
 use borrow.Author.Needs.{needs}
 use Rattle.bracket.proofs.read_bracket.read_bracket.Statement.{statement}
 use Rattle.bracket.proofs.read_bracket.read_bracket.Tie as tie
-use Rattle.bracket.proofs.read_bracket.read_bracket.Reads as reads
-use Rattle.bracket.proofs.read_bracket.read_bracket.Lts as lts
-use Rattle.bracket.proofs.read_bracket.inside.Reads as inside-reads
-use Rattle.scan.proofs.scanner.peek.Reads as peek-reads
 
 -- src/read_bracket.rt:114:9
 peek-requires : tie.Need-peek-requires

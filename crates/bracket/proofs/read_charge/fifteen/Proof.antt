@@ -1,12 +1,8 @@
-use mathlib.Core.Path.{refl}
-use borrow.Author.Tests.{lt-ltb, le-ltb, lt-leb, le-leb, eq-eqb, ne-eqb}
+use borrow.Author.Tests.{lt-ltb, le-ltb, eq-eqb, ne-eqb}
 use Rattle.scan.specs.Scan.{fifteenAt}
 use borrow.Author.Needs.{needs}
 use Rattle.bracket.proofs.read_charge.fifteen.Statement.{statement}
 use Rattle.bracket.proofs.read_charge.fifteen.Tie as tie
-use Rattle.bracket.proofs.read_charge.fifteen.Reads as reads
-use Rattle.bracket.proofs.read_charge.fifteen.Lts as lts
-use Rattle.scan.proofs.scanner.digit.Reads as digit-reads
 
 -- src/read_charge.rt:13:9
 digit-requires : tie.Need-digit-requires

@@ -1,13 +1,8 @@
-use mathlib.Core.Path.{refl}
-use borrow.Author.Tests.{lt-ltb, le-ltb, lt-leb, le-leb, eq-eqb, ne-eqb}
+use borrow.Author.Tests.{eq-eqb, ne-eqb}
 use Rattle.scan.specs.Scan.{chargeAt}
 use borrow.Author.Needs.{needs}
 use Rattle.bracket.proofs.read_charge.read_charge.Statement.{statement}
 use Rattle.bracket.proofs.read_charge.read_charge.Tie as tie
-use Rattle.bracket.proofs.read_charge.read_charge.Reads as reads
-use Rattle.bracket.proofs.read_charge.read_charge.Lts as lts
-use Rattle.bracket.proofs.read_charge.signed.Reads as signed-reads
-use Rattle.scan.proofs.scanner.peek.Reads as peek-reads
 
 -- src/read_charge.rt:67:9
 peek-requires : tie.Need-peek-requires

@@ -1,13 +1,8 @@
-use mathlib.Core.Path.{refl}
-use borrow.Author.Tests.{lt-ltb, le-ltb, lt-leb, le-leb, eq-eqb, ne-eqb}
+use borrow.Author.Tests.{lt-ltb, le-ltb, eq-eqb, ne-eqb}
 use Rattle.scan.specs.Scan.{signedAt}
 use borrow.Author.Needs.{needs}
 use Rattle.bracket.proofs.read_charge.signed.Statement.{statement}
 use Rattle.bracket.proofs.read_charge.signed.Tie as tie
-use Rattle.bracket.proofs.read_charge.signed.Reads as reads
-use Rattle.bracket.proofs.read_charge.signed.Lts as lts
-use Rattle.bracket.proofs.read_charge.fifteen.Reads as fifteen-reads
-use Rattle.scan.proofs.scanner.peek.Reads as peek-reads
 
 -- src/read_charge.rt:50:9
 fifteen-requires : tie.Need-fifteen-requires

@@ -1,12 +1,8 @@
-use mathlib.Core.Path.{refl}
-use borrow.Author.Tests.{lt-ltb, le-ltb, lt-leb, le-leb, eq-eqb, ne-eqb}
+use borrow.Author.Tests.{lt-ltb, le-ltb}
 use Rattle.scan.specs.Scan.{lateAt}
 use borrow.Author.Needs.{needs}
 use Rattle.bracket.proofs.read_configuration.late.Statement.{statement}
 use Rattle.bracket.proofs.read_configuration.late.Tie as tie
-use Rattle.bracket.proofs.read_configuration.late.Reads as reads
-use Rattle.bracket.proofs.read_configuration.late.Lts as lts
-use Rattle.scan.proofs.scanner.peek.Reads as peek-reads
 
 -- src/read_configuration.rt:28:9
 peek-requires : tie.Need-peek-requires

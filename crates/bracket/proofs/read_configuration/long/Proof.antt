@@ -1,13 +1,8 @@
-use mathlib.Core.Path.{refl}
-use borrow.Author.Tests.{lt-ltb, le-ltb, lt-leb, le-leb, eq-eqb, ne-eqb}
+use borrow.Author.Tests.{lt-ltb, le-ltb, eq-eqb, ne-eqb}
 use Rattle.scan.specs.Scan.{longAt}
 use borrow.Author.Needs.{needs}
 use Rattle.bracket.proofs.read_configuration.long.Statement.{statement}
 use Rattle.bracket.proofs.read_configuration.long.Tie as tie
-use Rattle.bracket.proofs.read_configuration.long.Reads as reads
-use Rattle.bracket.proofs.read_configuration.long.Lts as lts
-use Rattle.bracket.proofs.read_configuration.late.Reads as late-reads
-use Rattle.scan.proofs.scanner.digit.Reads as digit-reads
 
 -- src/read_configuration.rt:40:9
 digit-requires : tie.Need-digit-requires

@@ -1,13 +1,8 @@
-use mathlib.Core.Path.{refl}
-use borrow.Author.Tests.{lt-ltb, le-ltb, lt-leb, le-leb, eq-eqb, ne-eqb}
+use borrow.Author.Tests.{eq-eqb, ne-eqb}
 use Rattle.scan.specs.Scan.{octahedralAt}
 use borrow.Author.Needs.{needs}
 use Rattle.bracket.proofs.read_configuration.octahedral.Statement.{statement}
 use Rattle.bracket.proofs.read_configuration.octahedral.Tie as tie
-use Rattle.bracket.proofs.read_configuration.octahedral.Reads as reads
-use Rattle.bracket.proofs.read_configuration.octahedral.Lts as lts
-use Rattle.bracket.proofs.read_configuration.long.Reads as long-reads
-use Rattle.scan.proofs.scanner.peek.Reads as peek-reads
 
 -- src/read_configuration.rt:72:9
 peek-requires : tie.Need-peek-requires

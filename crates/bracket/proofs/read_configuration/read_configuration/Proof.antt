@@ -1,16 +1,8 @@
-use mathlib.Core.Path.{refl}
-use borrow.Author.Tests.{lt-ltb, le-ltb, lt-leb, le-leb, eq-eqb, ne-eqb}
+use borrow.Author.Tests.{eq-eqb, ne-eqb}
 use Rattle.scan.specs.Scan.{configurationAt}
 use borrow.Author.Needs.{needs}
 use Rattle.bracket.proofs.read_configuration.read_configuration.Statement.{statement}
 use Rattle.bracket.proofs.read_configuration.read_configuration.Tie as tie
-use Rattle.bracket.proofs.read_configuration.read_configuration.Reads as reads
-use Rattle.bracket.proofs.read_configuration.read_configuration.Lts as lts
-use Rattle.bracket.proofs.read_configuration.allene.Reads as allene-reads
-use Rattle.bracket.proofs.read_configuration.octahedral.Reads as octahedral-reads
-use Rattle.bracket.proofs.read_configuration.square_planar.Reads as square-planar-reads
-use Rattle.bracket.proofs.read_configuration.trigonal.Reads as trigonal-reads
-use Rattle.scan.proofs.scanner.peek.Reads as peek-reads
 
 -- src/read_configuration.rt:107:9
 peek-requires : tie.Need-peek-requires

@@ -1,12 +1,8 @@
-use mathlib.Core.Path.{refl}
-use borrow.Author.Tests.{lt-ltb, le-ltb, lt-leb, le-leb, eq-eqb, ne-eqb}
+use borrow.Author.Tests.{lt-ltb, le-ltb, eq-eqb, ne-eqb}
 use Rattle.scan.specs.Scan.{shortAt}
 use borrow.Author.Needs.{needs}
 use Rattle.bracket.proofs.read_configuration.short.Statement.{statement}
 use Rattle.bracket.proofs.read_configuration.short.Tie as tie
-use Rattle.bracket.proofs.read_configuration.short.Reads as reads
-use Rattle.bracket.proofs.read_configuration.short.Lts as lts
-use Rattle.scan.proofs.scanner.digit.Reads as digit-reads
 
 -- src/read_configuration.rt:13:9
 digit-requires : tie.Need-digit-requires

@@ -1,13 +1,8 @@
-use mathlib.Core.Path.{refl}
-use borrow.Author.Tests.{lt-ltb, le-ltb, lt-leb, le-leb, eq-eqb, ne-eqb}
+use borrow.Author.Tests.{eq-eqb, ne-eqb}
 use Rattle.scan.specs.Scan.{squareAt}
 use borrow.Author.Needs.{needs}
 use Rattle.bracket.proofs.read_configuration.square_planar.Statement.{statement}
 use Rattle.bracket.proofs.read_configuration.square_planar.Tie as tie
-use Rattle.bracket.proofs.read_configuration.square_planar.Reads as reads
-use Rattle.bracket.proofs.read_configuration.square_planar.Lts as lts
-use Rattle.bracket.proofs.read_configuration.short.Reads as short-reads
-use Rattle.scan.proofs.scanner.peek.Reads as peek-reads
 
 -- src/read_configuration.rt:83:9
 peek-requires : tie.Need-peek-requires

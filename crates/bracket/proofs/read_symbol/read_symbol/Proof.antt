@@ -1,16 +1,8 @@
-use mathlib.Core.Path.{refl}
-use borrow.Author.Tests.{lt-ltb, le-ltb, lt-leb, le-leb, eq-eqb, ne-eqb}
+use borrow.Author.Tests.{lt-ltb, le-ltb, eq-eqb, ne-eqb}
 use Rattle.scan.specs.Scan.{symbolAt, symbolOf}
 use borrow.Author.Needs.{needs}
 use Rattle.bracket.proofs.read_symbol.read_symbol.Statement.{statement}
 use Rattle.bracket.proofs.read_symbol.read_symbol.Tie as tie
-use Rattle.bracket.proofs.read_symbol.read_symbol.Reads as reads
-use Rattle.bracket.proofs.read_symbol.read_symbol.Lts as lts
-use Rattle.feature.proofs.element.find.Reads as find-reads
-use Rattle.feature.proofs.element.is_first.Reads as is-first-reads
-use Rattle.bracket.proofs.read_symbol.slipped.Reads as slipped-reads
-use Rattle.bracket.proofs.read_symbol.two_letters.Reads as two-letters-reads
-use Rattle.scan.proofs.scanner.peek.Reads as peek-reads
 
 -- src/read_symbol.rt:37:9
 peek-requires : tie.Need-peek-requires

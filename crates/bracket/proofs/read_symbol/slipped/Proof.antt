@@ -1,11 +1,8 @@
-use mathlib.Core.Path.{refl}
-use borrow.Author.Tests.{lt-ltb, le-ltb, lt-leb, le-leb, eq-eqb, ne-eqb}
+use borrow.Author.Tests.{eq-eqb, ne-eqb}
 use Rattle.scan.specs.Scan.{slip}
 use borrow.Author.Needs.{needs}
 use Rattle.bracket.proofs.read_symbol.slipped.Statement.{statement}
 use Rattle.bracket.proofs.read_symbol.slipped.Tie as tie
-use Rattle.bracket.proofs.read_symbol.slipped.Reads as reads
-use Rattle.bracket.proofs.read_symbol.slipped.Lts as lts
 
 -- src/read_symbol.rt:16:13
 cast-if1 : tie.Need-cast-if1

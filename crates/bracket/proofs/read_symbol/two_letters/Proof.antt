@@ -2,9 +2,6 @@ use Rattle.bracket.proofs.Letters.{no-name}
 use borrow.Author.Needs.{needs}
 use Rattle.bracket.proofs.read_symbol.two_letters.Statement.{statement}
 use Rattle.bracket.proofs.read_symbol.two_letters.Tie as tie
-use Rattle.bracket.proofs.read_symbol.two_letters.Reads as reads
-use Rattle.bracket.proofs.read_symbol.two_letters.Lts as lts
-use Rattle.feature.proofs.element.find.Reads as find-reads
 
 -- src/read_symbol.rt:27:12
 cast-if1 : tie.Need-cast-if1

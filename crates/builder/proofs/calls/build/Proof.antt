@@ -5,12 +5,6 @@ use Rattle.builder.proofs.Builds.{end-within, build-none, build-less, b
 use borrow.Author.Needs.{needs}
 use Rattle.builder.proofs.calls.build.Statement.{statement}
 use Rattle.builder.proofs.calls.build.Tie as tie
-use Rattle.builder.proofs.calls.build.Reads as reads
-use Rattle.builder.proofs.calls.build.Lts as lts
-use Rattle.build.proofs.build.Reads as build-reads
-use Rattle.build.proofs.clear.Reads as clear-reads
-use Rattle.builder.proofs.calls.called.Reads as called-reads
-use Rattle.standing.proofs.state.is_state.Reads as is-state-reads
 
 -- src/builder.rt:144:9
 is-state-requires : tie.Need-is-state-requires

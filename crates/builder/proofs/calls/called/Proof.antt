@@ -3,8 +3,6 @@ use Rattle.builder.specs.Build.{calledOf}
 use borrow.Author.Needs.{needs}
 use Rattle.builder.proofs.calls.called.Statement.{statement}
 use Rattle.builder.proofs.calls.called.Tie as tie
-use Rattle.builder.proofs.calls.called.Reads as reads
-use Rattle.builder.proofs.calls.called.Lts as lts
 
 -- src/builder.rt:125:24
 enum-told : tie.Need-enum-told

@@ -7,12 +7,6 @@ use Rattle.builder.proofs.Ways.{unfit, no-state, passed, small-refused}
 use borrow.Author.Needs.{needs}
 use Rattle.builder.proofs.calls.extend.Statement.{statement}
 use Rattle.builder.proofs.calls.extend.Tie as tie
-use Rattle.builder.proofs.calls.extend.Reads as reads
-use Rattle.builder.proofs.calls.extend.Lts as lts
-use Rattle.standing.proofs.state.is_state.Reads as is-state-reads
-use Rattle.feature.proofs.atom_kind.in_range.Reads as in-range-reads
-use Rattle.graph.proofs.builder.Builder.refused.Reads as refused-reads
-use Rattle.graph.proofs.builder.extend.Reads as extend-reads
 
 -- src/builder.rt:52:9
 in-range-requires : tie.Need-in-range-requires

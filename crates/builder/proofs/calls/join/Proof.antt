@@ -6,11 +6,6 @@ use Rattle.builder.proofs.Ways.{unfit, no-state, passed, small-refused}
 use borrow.Author.Needs.{needs}
 use Rattle.builder.proofs.calls.join.Statement.{statement}
 use Rattle.builder.proofs.calls.join.Tie as tie
-use Rattle.builder.proofs.calls.join.Reads as reads
-use Rattle.builder.proofs.calls.join.Lts as lts
-use Rattle.standing.proofs.state.is_state.Reads as is-state-reads
-use Rattle.graph.proofs.builder.Builder.refused.Reads as refused-reads
-use Rattle.graph.proofs.builder.join.Reads as join-reads
 
 -- src/builder.rt:76:9
 refused-requires : tie.Need-refused-requires

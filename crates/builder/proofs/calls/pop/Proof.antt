@@ -6,11 +6,6 @@ use Rattle.builder.proofs.Ways.{no-state, passed}
 use borrow.Author.Needs.{needs}
 use Rattle.builder.proofs.calls.pop.Statement.{statement}
 use Rattle.builder.proofs.calls.pop.Tie as tie
-use Rattle.builder.proofs.calls.pop.Reads as reads
-use Rattle.builder.proofs.calls.pop.Lts as lts
-use Rattle.standing.proofs.state.is_state.Reads as is-state-reads
-use Rattle.graph.proofs.builder.Builder.pop.Reads as pop-reads
-use Rattle.graph.proofs.builder.Builder.refused.Reads as refused-reads
 
 -- src/builder.rt:97:9
 is-state-requires : tie.Need-is-state-requires

@@ -7,12 +7,6 @@ use Rattle.builder.proofs.Ways.{unfit, no-state, passed, small-refused}
 use borrow.Author.Needs.{needs}
 use Rattle.builder.proofs.calls.root.Statement.{statement}
 use Rattle.builder.proofs.calls.root.Tie as tie
-use Rattle.builder.proofs.calls.root.Reads as reads
-use Rattle.builder.proofs.calls.root.Lts as lts
-use Rattle.standing.proofs.state.is_state.Reads as is-state-reads
-use Rattle.feature.proofs.atom_kind.in_range.Reads as in-range-reads
-use Rattle.graph.proofs.builder.Builder.refused.Reads as refused-reads
-use Rattle.graph.proofs.builder.root.Reads as root-reads
 
 -- src/builder.rt:29:9
 in-range-requires : tie.Need-in-range-requires

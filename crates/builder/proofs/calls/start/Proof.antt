@@ -3,13 +3,6 @@ use borrow.Author.Needs.{needs}
 use Rattle.builder.proofs.Start.{start-short, start-few, start-goes}
 use Rattle.builder.proofs.calls.start.Statement.{statement}
 use Rattle.builder.proofs.calls.start.Tie as tie
-use Rattle.builder.proofs.calls.start.Reads as reads
-use Rattle.builder.proofs.calls.start.Lts as lts
-use Rattle.build.proofs.clear.Reads as clear-reads
-use Rattle.graph.proofs.builder.Builder.refused.Reads as refused-reads
-use Rattle.graph.proofs.builder.Builder.start.Reads as start-reads
-use Rattle.graph.proofs.limits.atom_room.Reads as atom-room-reads
-use Rattle.graph.proofs.limits.lesser.Reads as lesser-reads
 
 -- src/calls.rt:45:9
 atom-room-requires : tie.Need-atom-room-requires

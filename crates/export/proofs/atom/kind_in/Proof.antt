@@ -4,9 +4,6 @@ use Rattle.desk_atom.specs.Texts.{kindsIn}
 use borrow.Author.Needs.{needs}
 use Rattle.export.proofs.atom.kind_in.Statement.{statement}
 use Rattle.export.proofs.atom.kind_in.Tie as tie
-use Rattle.export.proofs.atom.kind_in.Reads as reads
-use Rattle.export.proofs.atom.kind_in.Lts as lts
-use Rattle.record.proofs.words.Reads as words-reads
 
 enum-known-b : tie.Need-enum-known-b
 enum-known-b c = search needs

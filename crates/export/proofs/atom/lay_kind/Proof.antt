@@ -2,9 +2,6 @@
 use borrow.Author.Needs.{needs}
 use Rattle.export.proofs.atom.lay_kind.Statement.{statement}
 use Rattle.export.proofs.atom.lay_kind.Tie as tie
-use Rattle.export.proofs.atom.lay_kind.Reads as reads
-use Rattle.export.proofs.atom.lay_kind.Lts as lts
-use Rattle.record.proofs.poke.Reads as poke-reads
 
 clear-requires : tie.Need-clear-requires
 clear-requires c κs = search needs

@@ -3,15 +3,6 @@ use Rattle.export.proofs.Reports.{no-room, atom-read}
 use borrow.Author.Needs.{needs}
 use Rattle.export.proofs.atom.mavisdrok_read_atom.Statement.{statement}
 use Rattle.export.proofs.atom.mavisdrok_read_atom.Tie as tie
-use Rattle.export.proofs.atom.mavisdrok_read_atom.Reads as reads
-use Rattle.export.proofs.atom.mavisdrok_read_atom.Lts as lts
-use Rattle.build.proofs.clear.Reads as clear-reads
-use Rattle.desk_atom.proofs.read_atom.Reads as read-atom-reads
-use Rattle.export.proofs.atom.kind_in.Reads as kind-in-reads
-use Rattle.export.proofs.atom.lay_kind.Reads as lay-kind-reads
-use Rattle.report.proofs.answer.lay.Reads as lay-reads
-use Rattle.report.proofs.answer.of_begins.Reads as of-begins-reads
-use Rattle.report.proofs.answer.refuse.Reads as refuse-reads
 
 clear-requires : tie.Need-clear-requires
 clear-requires c κs = search needs

@@ -4,14 +4,6 @@ use Rattle.export.specs.Given.{onAtom}
 use borrow.Author.Needs.{needs}
 use Rattle.export.proofs.atom.mavisdrok_spell_atom.Statement.{statement}
 use Rattle.export.proofs.atom.mavisdrok_spell_atom.Tie as tie
-use Rattle.export.proofs.atom.mavisdrok_spell_atom.Reads as reads
-use Rattle.export.proofs.atom.mavisdrok_spell_atom.Lts as lts
-use Rattle.desk_atom.proofs.spell_atom.Reads as spell-atom-reads
-use Rattle.desk_atom.proofs.wipe.Reads as wipe-reads
-use Rattle.report.proofs.answer.lay.Reads as lay-reads
-use Rattle.report.proofs.answer.of_spelt.Reads as of-spelt-reads
-use Rattle.report.proofs.answer.refuse.Reads as refuse-reads
-use Rattle.record.proofs.kind.Reads as kind-reads
 
 kind-requires : tie.Need-kind-requires
 kind-requires c κs = search needs

@@ -4,14 +4,6 @@ use Rattle.export.specs.Given.{onBond}
 use borrow.Author.Needs.{needs}
 use Rattle.export.proofs.atom.mavisdrok_spell_bond.Statement.{statement}
 use Rattle.export.proofs.atom.mavisdrok_spell_bond.Tie as tie
-use Rattle.export.proofs.atom.mavisdrok_spell_bond.Reads as reads
-use Rattle.export.proofs.atom.mavisdrok_spell_bond.Lts as lts
-use Rattle.desk_atom.proofs.spell_bond.Reads as spell-bond-reads
-use Rattle.desk_atom.proofs.wipe.Reads as wipe-reads
-use Rattle.report.proofs.answer.lay.Reads as lay-reads
-use Rattle.report.proofs.answer.of_spelt.Reads as of-spelt-reads
-use Rattle.report.proofs.answer.refuse.Reads as refuse-reads
-use Rattle.feature.proofs.bond_kind.decode.Reads as decode-reads
 
 decode-requires : tie.Need-decode-requires
 decode-requires c κs = search needs

@@ -3,11 +3,6 @@ use Rattle.export.specs.Atom.{told}
 use borrow.Author.Needs.{needs}
 use Rattle.export.proofs.atom.mavisdrok_spell_rnum.Statement.{statement}
 use Rattle.export.proofs.atom.mavisdrok_spell_rnum.Tie as tie
-use Rattle.export.proofs.atom.mavisdrok_spell_rnum.Reads as reads
-use Rattle.export.proofs.atom.mavisdrok_spell_rnum.Lts as lts
-use Rattle.desk_atom.proofs.spell_rnum.Reads as spell-rnum-reads
-use Rattle.report.proofs.answer.lay.Reads as lay-reads
-use Rattle.report.proofs.answer.of_spelt.Reads as of-spelt-reads
 
 spell-rnum-requires : tie.Need-spell-rnum-requires
 spell-rnum-requires c κs = search needs

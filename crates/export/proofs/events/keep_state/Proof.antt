@@ -4,9 +4,6 @@ use Rattle.export.specs.Events.{keptIn}
 use borrow.Author.Needs.{needs}
 use Rattle.export.proofs.events.keep_state.Statement.{statement}
 use Rattle.export.proofs.events.keep_state.Tie as tie
-use Rattle.export.proofs.events.keep_state.Reads as reads
-use Rattle.export.proofs.events.keep_state.Lts as lts
-use Rattle.report.proofs.state.lay_builder.Reads as lay-builder-reads
 
 returns : tie.Need-returns
 unfolding keptIn

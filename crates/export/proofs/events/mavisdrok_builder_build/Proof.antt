@@ -7,14 +7,6 @@ use Rattle.export.specs.Given.{onBuilder}
 use borrow.Author.Needs.{needs}
 use Rattle.export.proofs.events.mavisdrok_builder_build.Statement.{statement}
 use Rattle.export.proofs.events.mavisdrok_builder_build.Tie as tie
-use Rattle.export.proofs.events.mavisdrok_builder_build.Reads as reads
-use Rattle.export.proofs.events.mavisdrok_builder_build.Lts as lts
-use Rattle.build.proofs.clear.Reads as clear-reads
-use Rattle.builder.proofs.calls.build.Reads as build-reads
-use Rattle.report.proofs.answer.lay.Reads as lay-reads
-use Rattle.report.proofs.answer.of_built.Reads as of-built-reads
-use Rattle.report.proofs.answer.refuse.Reads as refuse-reads
-use Rattle.report.proofs.state.builder_in.Reads as builder-in-reads
 
 builder-in-requires : tie.Need-builder-in-requires
 builder-in-requires c κs = search needs

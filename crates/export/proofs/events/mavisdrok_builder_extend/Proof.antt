@@ -4,14 +4,6 @@ use Rattle.export.specs.Given.{onAtom, onBond, onBuilder}
 use borrow.Author.Needs.{needs}
 use Rattle.export.proofs.events.mavisdrok_builder_extend.Statement.{statement}
 use Rattle.export.proofs.events.mavisdrok_builder_extend.Tie as tie
-use Rattle.export.proofs.events.mavisdrok_builder_extend.Reads as reads
-use Rattle.export.proofs.events.mavisdrok_builder_extend.Lts as lts
-use Rattle.builder.proofs.calls.extend.Reads as extend-reads
-use Rattle.export.proofs.events.keep.Reads as keep-reads
-use Rattle.report.proofs.answer.refuse.Reads as refuse-reads
-use Rattle.report.proofs.state.builder_in.Reads as builder-in-reads
-use Rattle.feature.proofs.bond_kind.decode.Reads as decode-reads
-use Rattle.record.proofs.kind.Reads as kind-reads
 
 kind-requires : tie.Need-kind-requires
 kind-requires c κs = search needs

@@ -4,13 +4,6 @@ use Rattle.export.specs.Given.{onBond, onBuilder}
 use borrow.Author.Needs.{needs}
 use Rattle.export.proofs.events.mavisdrok_builder_join.Statement.{statement}
 use Rattle.export.proofs.events.mavisdrok_builder_join.Tie as tie
-use Rattle.export.proofs.events.mavisdrok_builder_join.Reads as reads
-use Rattle.export.proofs.events.mavisdrok_builder_join.Lts as lts
-use Rattle.builder.proofs.calls.join.Reads as join-reads
-use Rattle.export.proofs.events.keep.Reads as keep-reads
-use Rattle.report.proofs.answer.refuse.Reads as refuse-reads
-use Rattle.report.proofs.state.builder_in.Reads as builder-in-reads
-use Rattle.feature.proofs.bond_kind.decode.Reads as decode-reads
 
 decode-requires : tie.Need-decode-requires
 decode-requires c κs = search needs

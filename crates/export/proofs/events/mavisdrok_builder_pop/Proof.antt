@@ -4,12 +4,6 @@ use Rattle.export.specs.Given.{onBuilder}
 use borrow.Author.Needs.{needs}
 use Rattle.export.proofs.events.mavisdrok_builder_pop.Statement.{statement}
 use Rattle.export.proofs.events.mavisdrok_builder_pop.Tie as tie
-use Rattle.export.proofs.events.mavisdrok_builder_pop.Reads as reads
-use Rattle.export.proofs.events.mavisdrok_builder_pop.Lts as lts
-use Rattle.builder.proofs.calls.pop.Reads as pop-reads
-use Rattle.export.proofs.events.keep.Reads as keep-reads
-use Rattle.report.proofs.answer.refuse.Reads as refuse-reads
-use Rattle.report.proofs.state.builder_in.Reads as builder-in-reads
 
 builder-in-requires : tie.Need-builder-in-requires
 builder-in-requires c κs = search needs

@@ -4,13 +4,6 @@ use Rattle.export.specs.Given.{onAtom, onBuilder}
 use borrow.Author.Needs.{needs}
 use Rattle.export.proofs.events.mavisdrok_builder_root.Statement.{statement}
 use Rattle.export.proofs.events.mavisdrok_builder_root.Tie as tie
-use Rattle.export.proofs.events.mavisdrok_builder_root.Reads as reads
-use Rattle.export.proofs.events.mavisdrok_builder_root.Lts as lts
-use Rattle.builder.proofs.calls.root.Reads as root-reads
-use Rattle.export.proofs.events.keep.Reads as keep-reads
-use Rattle.report.proofs.answer.refuse.Reads as refuse-reads
-use Rattle.report.proofs.state.builder_in.Reads as builder-in-reads
-use Rattle.record.proofs.kind.Reads as kind-reads
 
 kind-requires : tie.Need-kind-requires
 kind-requires c κs = search needs

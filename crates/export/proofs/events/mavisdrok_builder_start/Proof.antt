@@ -4,11 +4,6 @@ use Rattle.export.specs.Events.{startX, after, unheard}
 use borrow.Author.Needs.{needs}
 use Rattle.export.proofs.events.mavisdrok_builder_start.Statement.{statement}
 use Rattle.export.proofs.events.mavisdrok_builder_start.Tie as tie
-use Rattle.export.proofs.events.mavisdrok_builder_start.Reads as reads
-use Rattle.export.proofs.events.mavisdrok_builder_start.Lts as lts
-use Rattle.builder.proofs.calls.start.Reads as start-reads
-use Rattle.export.proofs.events.keep.Reads as keep-reads
-use Rattle.report.proofs.answer.refuse.Reads as refuse-reads
 
 -- src/events.rt:55:9
 refuse-requires : tie.Need-refuse-requires

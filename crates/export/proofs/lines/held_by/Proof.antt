@@ -3,8 +3,6 @@ use Rattle.export.specs.Lines.{heldBy}
 use borrow.Author.Needs.{needs}
 use Rattle.export.proofs.lines.held_by.Statement.{statement}
 use Rattle.export.proofs.lines.held_by.Tie as tie
-use Rattle.export.proofs.lines.held_by.Reads as reads
-use Rattle.export.proofs.lines.held_by.Lts as lts
 
 enum-known-said : tie.Need-enum-known-said
 enum-known-said c = search needs

@@ -8,10 +8,6 @@ use Rattle.export.specs.Given.{onWriter}
 use borrow.Author.Needs.{needs}
 use Rattle.export.proofs.lines.keep_state.Statement.{statement}
 use Rattle.export.proofs.lines.keep_state.Tie as tie
-use Rattle.export.proofs.lines.keep_state.Reads as reads
-use Rattle.export.proofs.lines.keep_state.Lts as lts
-use Rattle.export.proofs.lines.held_by.Reads as held-by-reads
-use Rattle.report.proofs.state.lay_writer.Reads as lay-writer-reads
 
 held-by-requires : tie.Need-held-by-requires
 held-by-requires c κs = search needs

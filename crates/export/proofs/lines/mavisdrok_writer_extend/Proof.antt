@@ -4,14 +4,6 @@ use Rattle.export.specs.Given.{onAtom, onBond, onWriter}
 use borrow.Author.Needs.{needs}
 use Rattle.export.proofs.lines.mavisdrok_writer_extend.Statement.{statement}
 use Rattle.export.proofs.lines.mavisdrok_writer_extend.Tie as tie
-use Rattle.export.proofs.lines.mavisdrok_writer_extend.Reads as reads
-use Rattle.export.proofs.lines.mavisdrok_writer_extend.Lts as lts
-use Rattle.desk_lines.proofs.extend.Reads as extend-reads
-use Rattle.export.proofs.lines.keep.Reads as keep-reads
-use Rattle.report.proofs.answer.refuse.Reads as refuse-reads
-use Rattle.report.proofs.state.writer_in.Reads as writer-in-reads
-use Rattle.feature.proofs.bond_kind.decode.Reads as decode-reads
-use Rattle.record.proofs.kind.Reads as kind-reads
 
 kind-requires : tie.Need-kind-requires
 kind-requires c κs = search needs

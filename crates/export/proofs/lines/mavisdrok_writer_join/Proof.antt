@@ -4,13 +4,6 @@ use Rattle.export.specs.Given.{onBond, onWriter}
 use borrow.Author.Needs.{needs}
 use Rattle.export.proofs.lines.mavisdrok_writer_join.Statement.{statement}
 use Rattle.export.proofs.lines.mavisdrok_writer_join.Tie as tie
-use Rattle.export.proofs.lines.mavisdrok_writer_join.Reads as reads
-use Rattle.export.proofs.lines.mavisdrok_writer_join.Lts as lts
-use Rattle.desk_lines.proofs.join.Reads as join-reads
-use Rattle.export.proofs.lines.keep.Reads as keep-reads
-use Rattle.report.proofs.answer.refuse.Reads as refuse-reads
-use Rattle.report.proofs.state.writer_in.Reads as writer-in-reads
-use Rattle.feature.proofs.bond_kind.decode.Reads as decode-reads
 
 decode-requires : tie.Need-decode-requires
 decode-requires c κs = search needs

@@ -4,12 +4,6 @@ use Rattle.export.specs.Given.{onWriter}
 use borrow.Author.Needs.{needs}
 use Rattle.export.proofs.lines.mavisdrok_writer_pop.Statement.{statement}
 use Rattle.export.proofs.lines.mavisdrok_writer_pop.Tie as tie
-use Rattle.export.proofs.lines.mavisdrok_writer_pop.Reads as reads
-use Rattle.export.proofs.lines.mavisdrok_writer_pop.Lts as lts
-use Rattle.desk_lines.proofs.pop.Reads as pop-reads
-use Rattle.export.proofs.lines.keep.Reads as keep-reads
-use Rattle.report.proofs.answer.refuse.Reads as refuse-reads
-use Rattle.report.proofs.state.writer_in.Reads as writer-in-reads
 
 writer-in-requires : tie.Need-writer-in-requires
 writer-in-requires c κs = search needs

@@ -3,8 +3,6 @@ use Rattle.export.specs.Rings.{heldBy}
 use borrow.Author.Needs.{needs}
 use Rattle.export.proofs.rings.held_by.Statement.{statement}
 use Rattle.export.proofs.rings.held_by.Tie as tie
-use Rattle.export.proofs.rings.held_by.Reads as reads
-use Rattle.export.proofs.rings.held_by.Lts as lts
 
 enum-known-handed : tie.Need-enum-known-handed
 enum-known-handed c = search needs

@@ -8,10 +8,6 @@ use Rattle.export.specs.Given.{onPool}
 use borrow.Author.Needs.{needs}
 use Rattle.export.proofs.rings.keep_state.Statement.{statement}
 use Rattle.export.proofs.rings.keep_state.Tie as tie
-use Rattle.export.proofs.rings.keep_state.Reads as reads
-use Rattle.export.proofs.rings.keep_state.Lts as lts
-use Rattle.export.proofs.rings.held_by.Reads as held-by-reads
-use Rattle.report.proofs.state.lay_pool.Reads as lay-pool-reads
 
 held-by-requires : tie.Need-held-by-requires
 held-by-requires c κs = search needs

@@ -4,14 +4,6 @@ use Rattle.export.specs.Given.{onPool}
 use borrow.Author.Needs.{needs}
 use Rattle.export.proofs.rings.mavisdrok_pool_hit.Statement.{statement}
 use Rattle.export.proofs.rings.mavisdrok_pool_hit.Tie as tie
-use Rattle.export.proofs.rings.mavisdrok_pool_hit.Reads as reads
-use Rattle.export.proofs.rings.mavisdrok_pool_hit.Lts as lts
-use Rattle.desk_rings.proofs.hit.Reads as hit-reads
-use Rattle.report.proofs.answer.lay.Reads as lay-reads
-use Rattle.report.proofs.answer.of_handed.Reads as of-handed-reads
-use Rattle.report.proofs.answer.refuse.Reads as refuse-reads
-use Rattle.export.proofs.rings.keep_state.Reads as keep-state-reads
-use Rattle.report.proofs.state.pool_in.Reads as pool-in-reads
 
 pool-in-requires : tie.Need-pool-in-requires
 pool-in-requires c κs = search needs

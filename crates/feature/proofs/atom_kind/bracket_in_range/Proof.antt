@@ -1,11 +1,7 @@
-use mathlib.Core.Path.{refl}
-use borrow.Author.Needs.{needs}
-use borrow.Author.Tests.{lt-ltb, le-ltb, lt-leb, le-leb, eq-eqb, ne-eqb}
+use borrow.Author.Tests.{lt-ltb, le-ltb, lt-leb, le-leb}
 use Rattle.feature.specs.Kinds.{bracketInRange}
 use Rattle.feature.proofs.atom_kind.bracket_in_range.Statement.{statement}
 use Rattle.feature.proofs.atom_kind.bracket_in_range.Tie as tie
-use Rattle.feature.proofs.atom_kind.bracket_in_range.Reads as reads
-use Rattle.feature.proofs.atom_kind.bracket_in_range.Lts as lts
 
 -- src/atom_kind.rt:47:9
 returns : tie.Need-returns

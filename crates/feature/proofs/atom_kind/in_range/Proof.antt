@@ -1,12 +1,7 @@
-use mathlib.Core.Path.{refl}
-use borrow.Author.Tests.{lt-ltb, le-ltb, lt-leb, le-leb, eq-eqb, ne-eqb}
 use Rattle.feature.specs.Kinds.{inRange}
 use borrow.Author.Needs.{needs}
 use Rattle.feature.proofs.atom_kind.in_range.Statement.{statement}
 use Rattle.feature.proofs.atom_kind.in_range.Tie as tie
-use Rattle.feature.proofs.atom_kind.in_range.Reads as reads
-use Rattle.feature.proofs.atom_kind.in_range.Lts as lts
-use Rattle.feature.proofs.atom_kind.bracket_in_range.Reads as bracket-in-range-reads
 
 -- src/atom_kind.rt:72:27
 enum-told : tie.Need-enum-told

@@ -1,12 +1,7 @@
-use mathlib.Core.Path.{refl}
-use borrow.Author.Tests.{lt-ltb, le-ltb, lt-leb, le-leb, eq-eqb, ne-eqb}
 use Rattle.feature.specs.Kinds.{invertOf}
 use borrow.Author.Needs.{needs}
 use Rattle.feature.proofs.atom_kind.invert.Statement.{statement}
 use Rattle.feature.proofs.atom_kind.invert.Tie as tie
-use Rattle.feature.proofs.atom_kind.invert.Reads as reads
-use Rattle.feature.proofs.atom_kind.invert.Lts as lts
-use Rattle.feature.proofs.atom_kind.invert_bracket.Reads as invert-bracket-reads
 
 -- src/atom_kind.rt:115:27
 enum-told : tie.Need-enum-told

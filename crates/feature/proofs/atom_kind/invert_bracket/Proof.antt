@@ -1,11 +1,7 @@
-use mathlib.Core.Path.{refl}
-use borrow.Author.Needs.{needs}
-use borrow.Author.Tests.{lt-ltb, le-ltb, lt-leb, le-leb, eq-eqb, ne-eqb}
+use borrow.Author.Tests.{eq-eqb, ne-eqb}
 use Rattle.feature.specs.Kinds.{invertBracket}
 use Rattle.feature.proofs.atom_kind.invert_bracket.Statement.{statement}
 use Rattle.feature.proofs.atom_kind.invert_bracket.Tie as tie
-use Rattle.feature.proofs.atom_kind.invert_bracket.Reads as reads
-use Rattle.feature.proofs.atom_kind.invert_bracket.Lts as lts
 
 -- src/atom_kind.rt:89:9
 returns : tie.Need-returns

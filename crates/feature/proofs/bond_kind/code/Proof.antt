@@ -1,11 +1,7 @@
-use mathlib.Core.Path.{refl}
-use borrow.Author.Tests.{lt-ltb, le-ltb, lt-leb, le-leb, eq-eqb, ne-eqb}
 use Rattle.feature.specs.Bonds.{codeOf}
 use borrow.Author.Needs.{needs}
 use Rattle.feature.proofs.bond_kind.code.Statement.{statement}
 use Rattle.feature.proofs.bond_kind.code.Tie as tie
-use Rattle.feature.proofs.bond_kind.code.Reads as reads
-use Rattle.feature.proofs.bond_kind.code.Lts as lts
 
 -- src/bond_kind.rt:50:29
 enum-told : tie.Need-enum-told

@@ -1,11 +1,7 @@
-use mathlib.Core.Path.{refl}
-use borrow.Author.Needs.{needs}
-use borrow.Author.Tests.{lt-ltb, le-ltb, lt-leb, le-leb, eq-eqb, ne-eqb}
+use borrow.Author.Tests.{eq-eqb, ne-eqb}
 use Rattle.feature.specs.Bonds.{kindOf}
 use Rattle.feature.proofs.bond_kind.decode.Statement.{statement}
 use Rattle.feature.proofs.bond_kind.decode.Tie as tie
-use Rattle.feature.proofs.bond_kind.decode.Reads as reads
-use Rattle.feature.proofs.bond_kind.decode.Lts as lts
 
 -- src/bond_kind.rt:65:9
 returns : tie.Need-returns

@@ -1,11 +1,7 @@
-use mathlib.Core.Path.{refl}
-use borrow.Author.Tests.{lt-ltb, le-ltb, lt-leb, le-leb, eq-eqb, ne-eqb}
 use Rattle.feature.specs.Bonds.{isDirectional}
 use borrow.Author.Needs.{needs}
 use Rattle.feature.proofs.bond_kind.is_directional.Statement.{statement}
 use Rattle.feature.proofs.bond_kind.is_directional.Tie as tie
-use Rattle.feature.proofs.bond_kind.is_directional.Reads as reads
-use Rattle.feature.proofs.bond_kind.is_directional.Lts as lts
 
 -- src/bond_kind.rt:95:29
 enum-told : tie.Need-enum-told

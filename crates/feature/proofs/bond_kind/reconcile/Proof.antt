@@ -1,14 +1,8 @@
-use mathlib.Core.Path.{refl}
-use borrow.Author.Tests.{lt-ltb, le-ltb, lt-leb, le-leb, eq-eqb, ne-eqb}
+use borrow.Author.Tests.{eq-eqb, ne-eqb}
 use Rattle.feature.specs.Bonds.{reconcileOf}
 use borrow.Author.Needs.{needs}
 use Rattle.feature.proofs.bond_kind.reconcile.Statement.{statement}
 use Rattle.feature.proofs.bond_kind.reconcile.Tie as tie
-use Rattle.feature.proofs.bond_kind.reconcile.Reads as reads
-use Rattle.feature.proofs.bond_kind.reconcile.Lts as lts
-use Rattle.feature.proofs.bond_kind.code.Reads as code-reads
-use Rattle.feature.proofs.bond_kind.is_directional.Reads as is-directional-reads
-use Rattle.feature.proofs.bond_kind.reverse.Reads as reverse-reads
 
 -- src/bond_kind.rt:110:9
 code-requires : tie.Need-code-requires

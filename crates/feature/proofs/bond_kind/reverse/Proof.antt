@@ -1,11 +1,7 @@
-use mathlib.Core.Path.{refl}
-use borrow.Author.Tests.{lt-ltb, le-ltb, lt-leb, le-leb, eq-eqb, ne-eqb}
 use Rattle.feature.specs.Bonds.{reverseOf}
 use borrow.Author.Needs.{needs}
 use Rattle.feature.proofs.bond_kind.reverse.Statement.{statement}
 use Rattle.feature.proofs.bond_kind.reverse.Tie as tie
-use Rattle.feature.proofs.bond_kind.reverse.Reads as reads
-use Rattle.feature.proofs.bond_kind.reverse.Lts as lts
 
 -- src/bond_kind.rt:34:29
 enum-told : tie.Need-enum-told

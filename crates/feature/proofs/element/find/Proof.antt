@@ -3,10 +3,6 @@ use Rattle.feature.proofs.Names.{found, missed, passed}
 use borrow.Author.Needs.{needs}
 use Rattle.feature.proofs.element.find.Statement.{statement}
 use Rattle.feature.proofs.element.find.Tie as tie
-use Rattle.feature.proofs.element.find.Reads as reads
-use Rattle.feature.proofs.element.find.Lts as lts
-use Rattle.feature.proofs.element.name.Reads as name-reads
-use Rattle.feature.proofs.element.rank.Reads as rank-reads
 
 -- src/element.rt:196:9
 rank-requires : tie.Need-rank-requires

@@ -6,10 +6,6 @@ use Rattle.feature.proofs.Names.{begun, unbegun, no-byte}
 use borrow.Author.Needs.{needs}
 use Rattle.feature.proofs.element.is_first.Statement.{statement}
 use Rattle.feature.proofs.element.is_first.Tie as tie
-use Rattle.feature.proofs.element.is_first.Reads as reads
-use Rattle.feature.proofs.element.is_first.Lts as lts
-use Rattle.feature.proofs.element.name.Reads as name-reads
-use Rattle.feature.proofs.element.rank.Reads as rank-reads
 
 -- src/element.rt:220:9
 returns : tie.Need-returns

@@ -1,5 +1,5 @@
 -- `feature::element::name` meets its contract: each arm at its symbol, and the last past the table. Assumes nothing.
-use mathlib.Core.Path.{refl, sym}
+use mathlib.Core.Path.{sym}
 use Rattle.feature.specs.Names.{names}
 use Rattle.feature.proofs.Names.{name-out}
 use Rattle.feature.proofs.Table.{beyond}

@@ -1,5 +1,5 @@
 -- `feature::element::rank` meets its contract: each name passed is lower, and the one at which the search ends is not. Assumes nothing.
-use Prim.Native.Nat.{ℕ, _-_, _/_, _*_, _<_, _≤_}
+use Prim.Native.Nat.{ℕ, _-_, _<_, _≤_}
 use native.Mathlib.Omega.{arith}
 use borrow.Author.Needs.{needs}
 use lib.ListN.{getD}

@@ -1,6 +1,6 @@
 -- `form::byte::put` meets its contract. Assumes nothing.
 use native.Mathlib.Omega.{arith}
-use lib.ListN.{length, length-set}
+use lib.ListN.{length-set}
 use borrow.Author.Needs.{needs}
 use Rattle.form.proofs.byte.put.Statement.{statement}
 use Rattle.form.proofs.byte.put.Tie as tie

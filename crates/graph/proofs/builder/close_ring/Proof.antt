@@ -6,15 +6,6 @@ use mathlib.Core.Path.{ap, sym, _∙_}
 use borrow.Author.Needs.{needs}
 use Rattle.graph.proofs.builder.close_ring.Statement.{statement}
 use Rattle.graph.proofs.builder.close_ring.Tie as tie
-use Rattle.graph.proofs.builder.close_ring.Reads as reads
-use Rattle.graph.proofs.builder.close_ring.Lts as lts
-use Rattle.feature.proofs.bond_kind.reconcile.Reads as reconcile-reads
-use Rattle.graph.proofs.builder.Builder.fail.Reads as fail-reads
-use Rattle.graph.proofs.builder.Builder.joined.Reads as joined-reads
-use Rattle.graph.proofs.builder.Builder.refused.Reads as refused-reads
-use Rattle.graph.proofs.builder.settle.Reads as settle-reads
-use Rattle.graph.proofs.opens.rejoin.Reads as rejoin-reads
-use Rattle.record.proofs.look.Reads as look-reads
 
 -- src/builder.rt:264:14
 sub-w : tie.Need-sub-w

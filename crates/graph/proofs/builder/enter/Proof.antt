@@ -2,10 +2,6 @@ use Rattle.graph.specs.State.{entered}
 use borrow.Author.Needs.{needs}
 use Rattle.graph.proofs.builder.enter.Statement.{statement}
 use Rattle.graph.proofs.builder.enter.Tie as tie
-use Rattle.graph.proofs.builder.enter.Reads as reads
-use Rattle.graph.proofs.builder.enter.Lts as lts
-use Rattle.record.proofs.poke.Reads as poke-reads
-use Rattle.record.proofs.store.Reads as store-reads
 
 -- src/builder.rt:139:18
 mul-store : tie.Need-mul-store

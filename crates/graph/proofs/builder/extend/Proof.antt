@@ -3,11 +3,6 @@ use Rattle.graph.specs.State.{extendOf, extendedBy, refuse}
 use borrow.Author.Needs.{needs}
 use Rattle.graph.proofs.builder.extend.Statement.{statement}
 use Rattle.graph.proofs.builder.extend.Tie as tie
-use Rattle.graph.proofs.builder.extend.Reads as reads
-use Rattle.graph.proofs.builder.extend.Lts as lts
-use Rattle.feature.proofs.atom_kind.invert.Reads as invert-reads
-use Rattle.graph.proofs.builder.Builder.refused.Reads as refused-reads
-use Rattle.graph.proofs.builder.attach.Reads as attach-reads
 
 -- src/builder.rt:195:9
 refused-requires : tie.Need-refused-requires

@@ -1,14 +1,8 @@
-use borrow.Author.Tests.{lt-ltb, le-ltb, lt-leb, le-leb, eq-eqb, ne-eqb}
+use borrow.Author.Tests.{lt-ltb, le-ltb, eq-eqb, ne-eqb}
 use Rattle.graph.specs.State.{joinOf, refuse}
 use borrow.Author.Needs.{needs}
 use Rattle.graph.proofs.builder.join.Statement.{statement}
 use Rattle.graph.proofs.builder.join.Tie as tie
-use Rattle.graph.proofs.builder.join.Reads as reads
-use Rattle.graph.proofs.builder.join.Lts as lts
-use Rattle.graph.proofs.builder.Builder.refused.Reads as refused-reads
-use Rattle.graph.proofs.builder.close_ring.Reads as close-ring-reads
-use Rattle.graph.proofs.builder.open_ring.Reads as open-ring-reads
-use Rattle.record.proofs.look.Reads as look-reads
 
 -- src/builder.rt:300:9
 refused-requires : tie.Need-refused-requires

@@ -2,13 +2,6 @@ use Rattle.graph.specs.State.{openedOf, lastOf}
 use borrow.Author.Needs.{needs}
 use Rattle.graph.proofs.builder.open_ring.Statement.{statement}
 use Rattle.graph.proofs.builder.open_ring.Tie as tie
-use Rattle.graph.proofs.builder.open_ring.Reads as reads
-use Rattle.graph.proofs.builder.open_ring.Lts as lts
-use Rattle.feature.proofs.bond_kind.code.Reads as code-reads
-use Rattle.graph.proofs.builder.Builder.joined.Reads as joined-reads
-use Rattle.graph.proofs.builder.put_entry.Reads as put-entry-reads
-use Rattle.graph.proofs.opens.rejoin.Reads as rejoin-reads
-use Rattle.record.proofs.look.Reads as look-reads
 
 -- src/builder.rt:224:29
 sub-look : tie.Need-sub-look

@@ -3,9 +3,6 @@ use Rattle.graph.proofs.Sums.{add-two}
 use borrow.Author.Needs.{needs}
 use Rattle.graph.proofs.builder.put_entry.Statement.{statement}
 use Rattle.graph.proofs.builder.put_entry.Tie as tie
-use Rattle.graph.proofs.builder.put_entry.Reads as reads
-use Rattle.graph.proofs.builder.put_entry.Lts as lts
-use Rattle.record.proofs.poke.Reads as poke-reads
 
 -- src/builder.rt:125:14
 mul-at : tie.Need-mul-at

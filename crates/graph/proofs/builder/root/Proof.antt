@@ -1,12 +1,8 @@
-use borrow.Author.Tests.{lt-ltb, le-ltb, lt-leb, le-leb, eq-eqb, ne-eqb}
+use borrow.Author.Tests.{lt-leb, le-leb}
 use Rattle.graph.specs.State.{rootOf, refuse}
 use borrow.Author.Needs.{needs}
 use Rattle.graph.proofs.builder.root.Statement.{statement}
 use Rattle.graph.proofs.builder.root.Tie as tie
-use Rattle.graph.proofs.builder.root.Reads as reads
-use Rattle.graph.proofs.builder.root.Lts as lts
-use Rattle.graph.proofs.builder.Builder.refused.Reads as refused-reads
-use Rattle.graph.proofs.builder.enter.Reads as enter-reads
 
 -- src/builder.rt:153:9
 refused-requires : tie.Need-refused-requires

@@ -3,11 +3,6 @@ use Rattle.graph.proofs.Sums.{add-two}
 use borrow.Author.Needs.{needs}
 use Rattle.graph.proofs.builder.settle.Statement.{statement}
 use Rattle.graph.proofs.builder.settle.Tie as tie
-use Rattle.graph.proofs.builder.settle.Reads as reads
-use Rattle.graph.proofs.builder.settle.Lts as lts
-use Rattle.feature.proofs.bond_kind.code.Reads as code-reads
-use Rattle.graph.proofs.builder.put_entry.Reads as put-entry-reads
-use Rattle.record.proofs.poke.Reads as poke-reads
 
 -- src/builder.rt:243:19
 add-poke : tie.Need-add-poke

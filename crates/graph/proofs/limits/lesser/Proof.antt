@@ -3,8 +3,6 @@ use borrow.Author.Tests.{lt-ltb, le-ltb}
 use Rattle.graph.specs.Limits.{lesserOf}
 use Rattle.graph.proofs.limits.lesser.Statement.{statement}
 use Rattle.graph.proofs.limits.lesser.Tie as tie
-use Rattle.graph.proofs.limits.lesser.Reads as reads
-use Rattle.graph.proofs.limits.lesser.Lts as lts
 
 -- src/limits.rt:18:9
 returns : tie.Need-returns

@@ -1,9 +1,9 @@
 -- `graph::opens::put_back` meets its contract: the room has the numbers put back so far. Assumes nothing.
-use Prim.Native.Nat.{ℕ, _-_, _<_, _≤_}
+use Prim.Native.Nat.{ℕ, _-_, _≤_}
 use mathlib.Core.Path.{_≡_, refl, ap, _∙_}
 use native.Mathlib.Omega.{arith}
 use borrow.Author.Needs.{needs}
-use lib.ListN.{length, getD, take}
+use lib.ListN.{length, take}
 use lib.Seq.{sets, length-sets, take-all}
 use mathlib.Core.List.{List}
 use Rattle.graph.proofs.Rings.{put-more}

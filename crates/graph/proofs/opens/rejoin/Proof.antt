@@ -7,11 +7,6 @@ use Rattle.graph.specs.Rings.{numbers, joinedAt}
 use Rattle.graph.proofs.Rings.{through}
 use Rattle.graph.proofs.opens.rejoin.Statement.{statement}
 use Rattle.graph.proofs.opens.rejoin.Tie as tie
-use Rattle.graph.proofs.opens.rejoin.Reads as reads
-use Rattle.graph.proofs.opens.rejoin.Lts as lts
-use Rattle.graph.proofs.opens.Opens.join.Reads as join-reads
-use Rattle.graph.proofs.opens.put_back.Reads as put-back-reads
-use Rattle.graph.proofs.opens.taken.Reads as taken-reads
 
 poke-requires : tie.Need-poke-requires
 poke-requires c κs = search needs

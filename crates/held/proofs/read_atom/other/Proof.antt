@@ -1,13 +1,7 @@
-use mathlib.Core.Path.{refl}
-use borrow.Author.Tests.{lt-ltb, le-ltb, lt-leb, le-leb, eq-eqb, ne-eqb}
 use Rattle.scan.specs.Scan.{otherAt, orElse}
 use borrow.Author.Needs.{needs}
 use Rattle.held.proofs.read_atom.other.Statement.{statement}
 use Rattle.held.proofs.read_atom.other.Tie as tie
-use Rattle.held.proofs.read_atom.other.Reads as reads
-use Rattle.held.proofs.read_atom.other.Lts as lts
-use Rattle.held.proofs.read_atom.star.Reads as star-reads
-use Rattle.bracket.proofs.read_bracket.read_bracket.Reads as read-bracket-reads
 
 -- src/read_atom.rt:24:11
 read-bracket-requires : tie.Need-read-bracket-requires

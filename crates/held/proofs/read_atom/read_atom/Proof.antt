@@ -1,13 +1,7 @@
-use mathlib.Core.Path.{refl}
-use borrow.Author.Tests.{lt-ltb, le-ltb, lt-leb, le-leb, eq-eqb, ne-eqb}
 use Rattle.scan.specs.Scan.{atomAt, orElse}
 use borrow.Author.Needs.{needs}
 use Rattle.held.proofs.read_atom.read_atom.Statement.{statement}
 use Rattle.held.proofs.read_atom.read_atom.Tie as tie
-use Rattle.held.proofs.read_atom.read_atom.Reads as reads
-use Rattle.held.proofs.read_atom.read_atom.Lts as lts
-use Rattle.held.proofs.read_atom.other.Reads as other-reads
-use Rattle.held.proofs.read_organic.read_organic.Reads as read-organic-reads
 
 -- src/read_atom.rt:35:11
 read-organic-requires : tie.Need-read-organic-requires

@@ -1,12 +1,8 @@
-use mathlib.Core.Path.{refl}
-use borrow.Author.Tests.{lt-ltb, le-ltb, lt-leb, le-leb, eq-eqb, ne-eqb}
+use borrow.Author.Tests.{eq-eqb, ne-eqb}
 use Rattle.scan.specs.Scan.{starAt}
 use borrow.Author.Needs.{needs}
 use Rattle.held.proofs.read_atom.star.Statement.{statement}
 use Rattle.held.proofs.read_atom.star.Tie as tie
-use Rattle.held.proofs.read_atom.star.Reads as reads
-use Rattle.held.proofs.read_atom.star.Lts as lts
-use Rattle.scan.proofs.scanner.peek.Reads as peek-reads
 
 -- src/read_atom.rt:13:9
 peek-requires : tie.Need-peek-requires

@@ -1,11 +1,8 @@
-use mathlib.Core.Path.{refl}
-use borrow.Author.Tests.{lt-ltb, le-ltb, lt-leb, le-leb, eq-eqb, ne-eqb}
+use borrow.Author.Tests.{eq-eqb, ne-eqb}
 use Rattle.scan.specs.Scan.{aliphaticOf}
 use borrow.Author.Needs.{needs}
 use Rattle.held.proofs.read_organic.aliphatic.Statement.{statement}
 use Rattle.held.proofs.read_organic.aliphatic.Tie as tie
-use Rattle.held.proofs.read_organic.aliphatic.Reads as reads
-use Rattle.held.proofs.read_organic.aliphatic.Lts as lts
 
 -- src/read_organic.rt:38:13
 cast-if1 : tie.Need-cast-if1

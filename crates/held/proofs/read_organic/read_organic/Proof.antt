@@ -1,16 +1,8 @@
-use mathlib.Core.Path.{refl}
-use borrow.Author.Tests.{lt-ltb, le-ltb, lt-leb, le-leb, eq-eqb, ne-eqb}
+use borrow.Author.Tests.{lt-ltb, le-ltb, eq-eqb, ne-eqb}
 use Rattle.scan.specs.Scan.{organicAt}
 use borrow.Author.Needs.{needs}
 use Rattle.held.proofs.read_organic.read_organic.Statement.{statement}
 use Rattle.held.proofs.read_organic.read_organic.Tie as tie
-use Rattle.held.proofs.read_organic.read_organic.Reads as reads
-use Rattle.held.proofs.read_organic.read_organic.Lts as lts
-use Rattle.held.proofs.read_organic.aliphatic.Reads as aliphatic-reads
-use Rattle.held.proofs.read_organic.aromatic.Reads as aromatic-reads
-use Rattle.held.proofs.read_organic.optional.Reads as optional-reads
-use Rattle.held.proofs.read_organic.wanted.Reads as wanted-reads
-use Rattle.scan.proofs.scanner.peek.Reads as peek-reads
 
 -- src/read_organic.rt:86:9
 peek-requires : tie.Need-peek-requires

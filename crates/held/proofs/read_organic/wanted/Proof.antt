@@ -1,13 +1,8 @@
-use mathlib.Core.Path.{refl}
-use borrow.Author.Tests.{lt-ltb, le-ltb, lt-leb, le-leb, eq-eqb, ne-eqb}
+use borrow.Author.Tests.{eq-eqb, ne-eqb}
 use Rattle.scan.specs.Scan.{wantedAt}
 use borrow.Author.Needs.{needs}
 use Rattle.held.proofs.read_organic.wanted.Statement.{statement}
 use Rattle.held.proofs.read_organic.wanted.Tie as tie
-use Rattle.held.proofs.read_organic.wanted.Reads as reads
-use Rattle.held.proofs.read_organic.wanted.Lts as lts
-use Rattle.scan.proofs.scanner.missing_character.Reads as missing-character-reads
-use Rattle.scan.proofs.scanner.peek.Reads as peek-reads
 
 -- src/read_organic.rt:64:9
 peek-requires : tie.Need-peek-requires

@@ -1,6 +1,6 @@
 -- `label::tray::take_blocks` meets its contract. The measure is the number of turns that are left. Assumes nothing.
 use mathlib.Core.Path.{_≡_}
-use Prim.Native.Nat.{_≤_, _-_}
+use Prim.Native.Nat.{_≤_}
 use lib.ListN.{length}
 use borrow.Author.Needs.{needs}
 use Rattle.label.proofs.tray.take_blocks.Statement.{statement}

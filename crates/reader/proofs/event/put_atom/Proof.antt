@@ -2,11 +2,6 @@ use Rattle.reader.specs.Events.{enterOf, ledOf}
 use borrow.Author.Needs.{needs}
 use Rattle.reader.proofs.event.put_atom.Statement.{statement}
 use Rattle.reader.proofs.event.put_atom.Tie as tie
-use Rattle.reader.proofs.event.put_atom.Reads as reads
-use Rattle.reader.proofs.event.put_atom.Lts as lts
-use Rattle.graph.proofs.builder.extend.Reads as extend-reads
-use Rattle.graph.proofs.builder.root.Reads as root-reads
-use Rattle.reader.proofs.event.put_numb.Reads as put-numb-reads
 
 -- src/event.rt:61:9
 put-numb-requires : tie.Need-put-numb-requires

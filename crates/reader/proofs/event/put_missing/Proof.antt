@@ -1,12 +1,7 @@
-use mathlib.Core.Path.{refl}
-use borrow.Author.Tests.{lt-ltb, le-ltb, lt-leb, le-leb, eq-eqb, ne-eqb}
 use Rattle.reader.specs.Events.{missingSt}
 use borrow.Author.Needs.{needs}
 use Rattle.reader.proofs.event.put_missing.Statement.{statement}
 use Rattle.reader.proofs.event.put_missing.Tie as tie
-use Rattle.reader.proofs.event.put_missing.Reads as reads
-use Rattle.reader.proofs.event.put_missing.Lts as lts
-use Rattle.graph.proofs.builder.Builder.refused.Reads as refused-reads
 
 -- src/event.rt:94:31
 enum-told : tie.Need-enum-told

@@ -1,14 +1,7 @@
-use mathlib.Core.Path.{refl}
-use borrow.Author.Tests.{lt-ltb, le-ltb, lt-leb, le-leb, eq-eqb, ne-eqb}
 use Rattle.reader.specs.Events.{numbOf, judged}
 use borrow.Author.Needs.{needs}
 use Rattle.reader.proofs.event.put_numb.Statement.{statement}
 use Rattle.reader.proofs.event.put_numb.Tie as tie
-use Rattle.reader.proofs.event.put_numb.Reads as reads
-use Rattle.reader.proofs.event.put_numb.Lts as lts
-use Rattle.feature.proofs.atom_kind.invert.Reads as invert-reads
-use Rattle.graph.proofs.builder.Builder.refused.Reads as refused-reads
-use Rattle.reader.proofs.event.count.Reads as count-reads
 
 -- src/event.rt:35:22
 enum-told : tie.Need-enum-told

@@ -2,9 +2,6 @@ use Rattle.reader.specs.Events.{ringOf}
 use borrow.Author.Needs.{needs}
 use Rattle.reader.proofs.event.put_ring.Statement.{statement}
 use Rattle.reader.proofs.event.put_ring.Tie as tie
-use Rattle.reader.proofs.event.put_ring.Reads as reads
-use Rattle.reader.proofs.event.put_ring.Lts as lts
-use Rattle.graph.proofs.builder.join.Reads as join-reads
 
 -- src/event.rt:84:9
 returns : tie.Need-returns

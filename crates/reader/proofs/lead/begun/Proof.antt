@@ -1,5 +1,4 @@
 -- `reader::lead::begun` meets its contract: each arm at its byte, and the last where the byte is none of them. Assumes nothing.
-use mathlib.Core.Path.{refl}
 use borrow.Author.Tests.{ne-eqb}
 use Rattle.reader.specs.Parse.{bodyOf}
 use Rattle.reader.proofs.lead.begun.Statement.{statement}

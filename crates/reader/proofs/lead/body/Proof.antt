@@ -1,14 +1,9 @@
 -- `reader::lead::body` meets its contract. Assumes nothing.
-use mathlib.Core.Path.{refl}
-use borrow.Author.Tests.{lt-ltb, le-ltb, lt-leb, le-leb, eq-eqb, ne-eqb}
+use borrow.Author.Tests.{lt-ltb, le-ltb}
 use Rattle.reader.specs.Parse.{bodyAt}
 use borrow.Author.Needs.{needs}
 use Rattle.reader.proofs.lead.body.Statement.{statement}
 use Rattle.reader.proofs.lead.body.Tie as tie
-use Rattle.reader.proofs.lead.body.Reads as reads
-use Rattle.reader.proofs.lead.body.Lts as lts
-use Rattle.reader.proofs.lead.begun.Reads as begun-reads
-use Rattle.scan.proofs.scanner.peek.Reads as peek-reads
 
 -- src/lead.rt:51:9
 peek-requires : tie.Need-peek-requires

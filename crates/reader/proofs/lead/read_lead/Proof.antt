@@ -1,13 +1,8 @@
-use mathlib.Core.Path.{refl}
-use borrow.Author.Tests.{lt-ltb, le-ltb, lt-leb, le-leb, eq-eqb, ne-eqb}
+use borrow.Author.Tests.{eq-eqb, ne-eqb}
 use Rattle.reader.specs.Parse.{ledAt}
 use borrow.Author.Needs.{needs}
 use Rattle.reader.proofs.lead.read_lead.Statement.{statement}
 use Rattle.reader.proofs.lead.read_lead.Tie as tie
-use Rattle.reader.proofs.lead.read_lead.Reads as reads
-use Rattle.reader.proofs.lead.read_lead.Lts as lts
-use Rattle.scan.proofs.read_bond.read_bond.Reads as read-bond-reads
-use Rattle.scan.proofs.scanner.peek.Reads as peek-reads
 
 -- src/lead.rt:24:9
 peek-requires : tie.Need-peek-requires

@@ -1,14 +1,9 @@
-use mathlib.Core.Path.{refl, sym, _∙_}
+use mathlib.Core.Path.{sym, _∙_}
 use borrow.Author.Tests.{eq-eqb, ne-eqb}
 use Rattle.reader.specs.Post.{cameClosed}
 use borrow.Author.Needs.{needs}
 use Rattle.reader.proofs.line.leave_branch.Statement.{statement}
 use Rattle.reader.proofs.line.leave_branch.Tie as tie
-use Rattle.reader.proofs.line.leave_branch.Reads as reads
-use Rattle.reader.proofs.line.leave_branch.Lts as lts
-use Rattle.graph.proofs.builder.Builder.pop.Reads as pop-reads
-use Rattle.held.proofs.scanner.peek.Reads as peek-reads
-use Rattle.reader.proofs.line.stopped.Reads as stopped-reads
 
 -- src/line.rt:168:9
 peek-requires : tie.Need-peek-requires

@@ -1,4 +1,4 @@
-use mathlib.Core.Path.{sym, ap, _∙_}
+use mathlib.Core.Path.{sym, _∙_}
 use Rattle.reader.specs.Post.{cameMissing}
 use Rattle.reader.proofs.Turn.{atom-none, atom-lacks, atom-made}
 use borrow.Author.Needs.{needs}

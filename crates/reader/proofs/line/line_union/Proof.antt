@@ -1,4 +1,4 @@
-use mathlib.Core.Path.{sym, ap, _∙_}
+use mathlib.Core.Path.{sym, _∙_}
 use Rattle.reader.proofs.Turn.{union-ring, union-lacks, union-made}
 use borrow.Author.Needs.{needs}
 use Rattle.reader.proofs.line.line_union.Statement.{statement}

@@ -2,11 +2,6 @@ use Rattle.reader.proofs.Turn.{led-ready, unit-split, unit-union}
 use borrow.Author.Needs.{needs}
 use Rattle.reader.proofs.line.line_unit.Statement.{statement}
 use Rattle.reader.proofs.line.line_unit.Tie as tie
-use Rattle.reader.proofs.line.line_unit.Reads as reads
-use Rattle.reader.proofs.line.line_unit.Lts as lts
-use Rattle.reader.proofs.lead.read_lead.Reads as read-lead-reads
-use Rattle.reader.proofs.line.line_atom.Reads as line-atom-reads
-use Rattle.reader.proofs.line.line_union.Reads as line-union-reads
 
 -- src/line.rt:144:9
 read-lead-requires : tie.Need-read-lead-requires

@@ -1,5 +1,3 @@
-use mathlib.Core.Path.{refl}
-use borrow.Author.Tests.{lt-ltb, le-ltb, lt-leb, le-leb, eq-eqb, ne-eqb}
 use Rattle.reader.specs.Post.{cameMissing}
 use borrow.Author.Needs.{needs}
 use Rattle.reader.proofs.line.stopped.Statement.{statement}

@@ -3,9 +3,6 @@ use Rattle.report.specs.Report.{laidInto}
 use borrow.Author.Needs.{needs}
 use Rattle.report.proofs.answer.lay.Statement.{statement}
 use Rattle.report.proofs.answer.lay.Tie as tie
-use Rattle.report.proofs.answer.lay.Reads as reads
-use Rattle.report.proofs.answer.lay.Lts as lts
-use Rattle.report.proofs.answer.put_row.Reads as put-row-reads
 
 put-row-requires : tie.Need-put-row-requires
 put-row-requires c κs = search needs

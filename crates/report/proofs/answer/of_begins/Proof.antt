@@ -3,10 +3,6 @@ use Rattle.desk_atom.specs.Texts.{beginsTold}
 use borrow.Author.Needs.{needs}
 use Rattle.report.proofs.answer.of_begins.Statement.{statement}
 use Rattle.report.proofs.answer.of_begins.Tie as tie
-use Rattle.report.proofs.answer.of_begins.Reads as reads
-use Rattle.report.proofs.answer.of_begins.Lts as lts
-use Rattle.report.proofs.answer.alone.Reads as alone-reads
-use Rattle.report.proofs.answer.with_one.Reads as with-one-reads
 
 enum-known-b : tie.Need-enum-known-b
 enum-known-b c = search needs

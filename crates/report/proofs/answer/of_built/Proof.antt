@@ -4,11 +4,6 @@ use Rattle.builder.specs.Build.{leftBy}
 use borrow.Author.Needs.{needs}
 use Rattle.report.proofs.answer.of_built.Statement.{statement}
 use Rattle.report.proofs.answer.of_built.Tie as tie
-use Rattle.report.proofs.answer.of_built.Reads as reads
-use Rattle.report.proofs.answer.of_built.Lts as lts
-use Rattle.report.proofs.answer.alone.Reads as alone-reads
-use Rattle.report.proofs.answer.with_one.Reads as with-one-reads
-use Rattle.report.proofs.answer.with_two.Reads as with-two-reads
 
 enum-known-a : tie.Need-enum-known-a
 enum-known-a c = search needs

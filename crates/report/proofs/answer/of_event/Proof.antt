@@ -3,9 +3,6 @@ use Rattle.report.specs.Report.{ofEvent}
 use borrow.Author.Needs.{needs}
 use Rattle.report.proofs.answer.of_event.Statement.{statement}
 use Rattle.report.proofs.answer.of_event.Tie as tie
-use Rattle.report.proofs.answer.of_event.Reads as reads
-use Rattle.report.proofs.answer.of_event.Lts as lts
-use Rattle.report.proofs.answer.with_one.Reads as with-one-reads
 
 cast-with-one : tie.Need-cast-with-one
 cast-with-one c = search needs

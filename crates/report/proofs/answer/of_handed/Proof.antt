@@ -3,11 +3,6 @@ use Rattle.desk_rings.specs.Slots.{toldOf}
 use borrow.Author.Needs.{needs}
 use Rattle.report.proofs.answer.of_handed.Statement.{statement}
 use Rattle.report.proofs.answer.of_handed.Tie as tie
-use Rattle.report.proofs.answer.of_handed.Reads as reads
-use Rattle.report.proofs.answer.of_handed.Lts as lts
-use Rattle.report.proofs.answer.alone.Reads as alone-reads
-use Rattle.report.proofs.answer.with_one.Reads as with-one-reads
-use Rattle.report.proofs.answer.with_two.Reads as with-two-reads
 
 enum-known-h : tie.Need-enum-known-h
 enum-known-h c = search needs

@@ -3,10 +3,6 @@ use Rattle.desk_lines.specs.Pieces.{toldOf}
 use borrow.Author.Needs.{needs}
 use Rattle.report.proofs.answer.of_said.Statement.{statement}
 use Rattle.report.proofs.answer.of_said.Tie as tie
-use Rattle.report.proofs.answer.of_said.Reads as reads
-use Rattle.report.proofs.answer.of_said.Lts as lts
-use Rattle.report.proofs.answer.alone.Reads as alone-reads
-use Rattle.report.proofs.answer.with_one.Reads as with-one-reads
 
 enum-known-s : tie.Need-enum-known-s
 enum-known-s c = search needs

@@ -3,10 +3,6 @@ use Rattle.desk_atom.specs.Texts.{speltTold}
 use borrow.Author.Needs.{needs}
 use Rattle.report.proofs.answer.of_spelt.Statement.{statement}
 use Rattle.report.proofs.answer.of_spelt.Tie as tie
-use Rattle.report.proofs.answer.of_spelt.Reads as reads
-use Rattle.report.proofs.answer.of_spelt.Lts as lts
-use Rattle.report.proofs.answer.alone.Reads as alone-reads
-use Rattle.report.proofs.answer.with_one.Reads as with-one-reads
 
 enum-known-s : tie.Need-enum-known-s
 enum-known-s c = search needs

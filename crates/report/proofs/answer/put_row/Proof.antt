@@ -4,9 +4,6 @@ use Rattle.graph.proofs.Sums.{add-two}
 use borrow.Author.Needs.{needs}
 use Rattle.report.proofs.answer.put_row.Statement.{statement}
 use Rattle.report.proofs.answer.put_row.Tie as tie
-use Rattle.report.proofs.answer.put_row.Reads as reads
-use Rattle.report.proofs.answer.put_row.Lts as lts
-use Rattle.report.proofs.answer.put.Reads as put-reads
 
 put-requires : tie.Need-put-requires
 put-requires c κs = search needs

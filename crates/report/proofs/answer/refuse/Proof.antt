@@ -2,10 +2,6 @@
 use borrow.Author.Needs.{needs}
 use Rattle.report.proofs.answer.refuse.Statement.{statement}
 use Rattle.report.proofs.answer.refuse.Tie as tie
-use Rattle.report.proofs.answer.refuse.Reads as reads
-use Rattle.report.proofs.answer.refuse.Lts as lts
-use Rattle.report.proofs.answer.alone.Reads as alone-reads
-use Rattle.report.proofs.answer.lay.Reads as lay-reads
 
 alone-requires : tie.Need-alone-requires
 alone-requires c κs = search needs

@@ -5,9 +5,6 @@ use Rattle.report.proofs.States.{builder-is}
 use borrow.Author.Needs.{needs}
 use Rattle.report.proofs.state.builder_in.Statement.{statement}
 use Rattle.report.proofs.state.builder_in.Tie as tie
-use Rattle.report.proofs.state.builder_in.Reads as reads
-use Rattle.report.proofs.state.builder_in.Lts as lts
-use Rattle.report.proofs.state.word.Reads as word-reads
 
 returns : tie.Need-returns
 unfolding builderIn

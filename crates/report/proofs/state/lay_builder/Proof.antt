@@ -3,11 +3,6 @@ use Rattle.report.proofs.States.{laid-builder}
 use borrow.Author.Needs.{needs}
 use Rattle.report.proofs.state.lay_builder.Statement.{statement}
 use Rattle.report.proofs.state.lay_builder.Tie as tie
-use Rattle.report.proofs.state.lay_builder.Reads as reads
-use Rattle.report.proofs.state.lay_builder.Lts as lts
-use Rattle.report.proofs.answer.put.Reads as put-reads
-use Rattle.report.proofs.answer.put_row.Reads as put-row-reads
-use Rattle.report.proofs.state.flag.Reads as flag-reads
 
 cast-put-row : tie.Need-cast-put-row
 cast-put-row c = search needs

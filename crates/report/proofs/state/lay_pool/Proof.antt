@@ -3,9 +3,6 @@ use Rattle.report.specs.State.{poolList}
 use borrow.Author.Needs.{needs}
 use Rattle.report.proofs.state.lay_pool.Statement.{statement}
 use Rattle.report.proofs.state.lay_pool.Tie as tie
-use Rattle.report.proofs.state.lay_pool.Reads as reads
-use Rattle.report.proofs.state.lay_pool.Lts as lts
-use Rattle.report.proofs.answer.put.Reads as put-reads
 
 cast-put : tie.Need-cast-put
 cast-put c = search needs

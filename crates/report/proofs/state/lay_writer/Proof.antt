@@ -3,9 +3,6 @@ use Rattle.report.specs.State.{writerList}
 use borrow.Author.Needs.{needs}
 use Rattle.report.proofs.state.lay_writer.Statement.{statement}
 use Rattle.report.proofs.state.lay_writer.Tie as tie
-use Rattle.report.proofs.state.lay_writer.Reads as reads
-use Rattle.report.proofs.state.lay_writer.Lts as lts
-use Rattle.report.proofs.answer.put.Reads as put-reads
 
 put-requires : tie.Need-put-requires
 put-requires c κs = search needs

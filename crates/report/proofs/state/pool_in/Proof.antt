@@ -4,9 +4,6 @@ use Rattle.report.specs.State.{poolIn}
 use borrow.Author.Needs.{needs}
 use Rattle.report.proofs.state.pool_in.Statement.{statement}
 use Rattle.report.proofs.state.pool_in.Tie as tie
-use Rattle.report.proofs.state.pool_in.Reads as reads
-use Rattle.report.proofs.state.pool_in.Lts as lts
-use Rattle.report.proofs.state.word.Reads as word-reads
 
 returns : tie.Need-returns
 unfolding poolIn

@@ -4,8 +4,6 @@ use lib.ListN.{List·getD-eq-default}
 use borrow.Author.Needs.{needs}
 use Rattle.report.proofs.state.word.Statement.{statement}
 use Rattle.report.proofs.state.word.Tie as tie
-use Rattle.report.proofs.state.word.Reads as reads
-use Rattle.report.proofs.state.word.Lts as lts
 
 mul-result : tie.Need-mul-result
 mul-result c = search needs

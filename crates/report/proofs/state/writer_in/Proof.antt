@@ -4,9 +4,6 @@ use Rattle.report.specs.State.{writerIn}
 use borrow.Author.Needs.{needs}
 use Rattle.report.proofs.state.writer_in.Statement.{statement}
 use Rattle.report.proofs.state.writer_in.Tie as tie
-use Rattle.report.proofs.state.writer_in.Reads as reads
-use Rattle.report.proofs.state.writer_in.Lts as lts
-use Rattle.report.proofs.state.word.Reads as word-reads
 
 returns : tie.Need-returns
 unfolding writerIn

@@ -1,11 +1,7 @@
-use mathlib.Core.Path.{refl}
-use borrow.Author.Tests.{lt-ltb, le-ltb, lt-leb, le-leb, eq-eqb, ne-eqb}
 use Rattle.scan.specs.Scan.{markWidth}
 use borrow.Author.Needs.{needs}
 use Rattle.scan.proofs.read_bond.mark_width.Statement.{statement}
 use Rattle.scan.proofs.read_bond.mark_width.Tie as tie
-use Rattle.scan.proofs.read_bond.mark_width.Reads as reads
-use Rattle.scan.proofs.read_bond.mark_width.Lts as lts
 
 -- src/read_bond.rt:46:29
 enum-told : tie.Need-enum-told

@@ -1,11 +1,8 @@
-use mathlib.Core.Path.{refl}
-use borrow.Author.Tests.{lt-ltb, le-ltb, lt-leb, le-leb, eq-eqb, ne-eqb}
+use borrow.Author.Tests.{eq-eqb, ne-eqb}
 use Rattle.scan.specs.Scan.{bondOf}
 use borrow.Author.Needs.{needs}
 use Rattle.scan.proofs.read_bond.marked.Statement.{statement}
 use Rattle.scan.proofs.read_bond.marked.Tie as tie
-use Rattle.scan.proofs.read_bond.marked.Reads as reads
-use Rattle.scan.proofs.read_bond.marked.Lts as lts
 
 -- src/read_bond.rt:17:13
 cast-if1 : tie.Need-cast-if1

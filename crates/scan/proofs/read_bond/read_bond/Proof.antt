@@ -1,15 +1,8 @@
 use native.Mathlib.Nat.{add-zero}
-use mathlib.Core.Path.{refl}
-use borrow.Author.Tests.{lt-ltb, le-ltb, lt-leb, le-leb, eq-eqb, ne-eqb}
 use Rattle.scan.specs.Scan.{bondOf, markWidth, bondAt}
 use borrow.Author.Needs.{needs}
 use Rattle.scan.proofs.read_bond.read_bond.Statement.{statement}
 use Rattle.scan.proofs.read_bond.read_bond.Tie as tie
-use Rattle.scan.proofs.read_bond.read_bond.Reads as reads
-use Rattle.scan.proofs.read_bond.read_bond.Lts as lts
-use Rattle.scan.proofs.read_bond.mark_width.Reads as mark-width-reads
-use Rattle.scan.proofs.read_bond.marked.Reads as marked-reads
-use Rattle.scan.proofs.scanner.peek.Reads as peek-reads
 
 -- src/read_bond.rt:60:9
 peek-requires : tie.Need-peek-requires

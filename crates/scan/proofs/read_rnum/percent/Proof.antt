@@ -1,13 +1,8 @@
-use mathlib.Core.Path.{refl}
-use borrow.Author.Tests.{lt-ltb, le-ltb, lt-leb, le-leb, eq-eqb, ne-eqb}
+use borrow.Author.Tests.{eq-eqb, ne-eqb}
 use Rattle.scan.specs.Scan.{percentAt}
 use borrow.Author.Needs.{needs}
 use Rattle.scan.proofs.read_rnum.percent.Statement.{statement}
 use Rattle.scan.proofs.read_rnum.percent.Tie as tie
-use Rattle.scan.proofs.read_rnum.percent.Reads as reads
-use Rattle.scan.proofs.read_rnum.percent.Lts as lts
-use Rattle.scan.proofs.scanner.digit.Reads as digit-reads
-use Rattle.scan.proofs.scanner.missing_character.Reads as missing-character-reads
 
 -- src/read_rnum.rt:18:9
 digit-requires : tie.Need-digit-requires

@@ -1,14 +1,8 @@
-use mathlib.Core.Path.{refl}
-use borrow.Author.Tests.{lt-ltb, le-ltb, lt-leb, le-leb, eq-eqb, ne-eqb}
+use borrow.Author.Tests.{lt-ltb, le-ltb, eq-eqb, ne-eqb}
 use Rattle.scan.specs.Scan.{rnumAt}
 use borrow.Author.Needs.{needs}
 use Rattle.scan.proofs.read_rnum.read_rnum.Statement.{statement}
 use Rattle.scan.proofs.read_rnum.read_rnum.Tie as tie
-use Rattle.scan.proofs.read_rnum.read_rnum.Reads as reads
-use Rattle.scan.proofs.read_rnum.read_rnum.Lts as lts
-use Rattle.scan.proofs.read_rnum.percent.Reads as percent-reads
-use Rattle.scan.proofs.scanner.digit.Reads as digit-reads
-use Rattle.scan.proofs.scanner.peek.Reads as peek-reads
 
 -- src/read_rnum.rt:32:9
 digit-requires : tie.Need-digit-requires

@@ -1,12 +1,8 @@
-use mathlib.Core.Path.{refl}
-use borrow.Author.Tests.{lt-ltb, le-ltb, lt-leb, le-leb, eq-eqb, ne-eqb}
+use borrow.Author.Tests.{lt-ltb, le-ltb}
 use Rattle.scan.specs.Scan.{digitAt, digitOf}
 use borrow.Author.Needs.{needs}
 use Rattle.scan.proofs.scanner.digit.Statement.{statement}
 use Rattle.scan.proofs.scanner.digit.Tie as tie
-use Rattle.scan.proofs.scanner.digit.Reads as reads
-use Rattle.scan.proofs.scanner.digit.Lts as lts
-use Rattle.scan.proofs.scanner.peek.Reads as peek-reads
 
 -- src/scanner.rt:50:9
 peek-requires : tie.Need-peek-requires

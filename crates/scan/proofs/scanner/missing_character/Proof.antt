@@ -1,11 +1,7 @@
-use mathlib.Core.Path.{refl}
-use borrow.Author.Needs.{needs}
-use borrow.Author.Tests.{lt-ltb, le-ltb, lt-leb, le-leb, eq-eqb, ne-eqb}
+use borrow.Author.Tests.{lt-ltb, le-ltb}
 use Rattle.scan.specs.Scan.{missingAt}
 use Rattle.scan.proofs.scanner.missing_character.Statement.{statement}
 use Rattle.scan.proofs.scanner.missing_character.Tie as tie
-use Rattle.scan.proofs.scanner.missing_character.Reads as reads
-use Rattle.scan.proofs.scanner.missing_character.Lts as lts
 
 -- src/scanner.rt:86:1
 returns : tie.Need-returns

@@ -1,12 +1,8 @@
-use mathlib.Core.Path.{refl}
-use borrow.Author.Tests.{lt-ltb, le-ltb, lt-leb, le-leb, eq-eqb, ne-eqb}
+use borrow.Author.Tests.{lt-ltb, le-ltb}
 use Rattle.scan.specs.Scan.{digitStep}
 use borrow.Author.Needs.{needs}
 use Rattle.scan.proofs.scanner.more.Statement.{statement}
 use Rattle.scan.proofs.scanner.more.Tie as tie
-use Rattle.scan.proofs.scanner.more.Reads as reads
-use Rattle.scan.proofs.scanner.more.Lts as lts
-use Rattle.scan.proofs.scanner.digit.Reads as digit-reads
 
 -- src/scanner.rt:66:9
 digit-requires : tie.Need-digit-requires

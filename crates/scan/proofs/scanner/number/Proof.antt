@@ -1,12 +1,7 @@
-use mathlib.Core.Path.{refl}
-use borrow.Author.Tests.{lt-ltb, le-ltb, lt-leb, le-leb, eq-eqb, ne-eqb}
 use Rattle.scan.specs.Scan.{numberAt}
 use borrow.Author.Needs.{needs}
 use Rattle.scan.proofs.scanner.number.Statement.{statement}
 use Rattle.scan.proofs.scanner.number.Tie as tie
-use Rattle.scan.proofs.scanner.number.Reads as reads
-use Rattle.scan.proofs.scanner.number.Lts as lts
-use Rattle.scan.proofs.scanner.more.Reads as more-reads
 
 -- src/scanner.rt:80:9
 more-requires : tie.Need-more-requires

@@ -4,9 +4,6 @@ use Rattle.scan.proofs.Laws.{peek-in, peek-out}
 use borrow.Author.Needs.{needs}
 use Rattle.scan.proofs.scanner.peek.Statement.{statement}
 use Rattle.scan.proofs.scanner.peek.Tie as tie
-use Rattle.scan.proofs.scanner.peek.Reads as reads
-use Rattle.scan.proofs.scanner.peek.Lts as lts
-use Rattle.scan.proofs.scanner.wide.Reads as wide-reads
 
 -- src/scanner.rt:43:28
 shared-slice-read-wide : tie.Need-shared-slice-read-wide

@@ -1,6 +1,6 @@
 -- `show::words::print_caret` meets its contract. Blanks up to the place, and the mark. Assumes nothing.
 use mathlib.Core.Path.{_≡_}
-use Prim.Native.Nat.{_≤_, _-_}
+use Prim.Native.Nat.{_-_}
 use lib.ListN.{length}
 use borrow.Author.Needs.{needs}
 use Rattle.show.proofs.words.print_caret.Statement.{statement}

@@ -8,9 +8,6 @@ use Rattle.standing.specs.Chains.{Linked}
 use Rattle.standing.proofs.Links.{linked-none, linked-next}
 use Rattle.standing.proofs.chains.link.Statement.{statement}
 use Rattle.standing.proofs.chains.link.Tie as tie
-use Rattle.standing.proofs.chains.link.Reads as reads
-use Rattle.standing.proofs.chains.link.Lts as lts
-use Rattle.standing.proofs.chains.link_one.Reads as link-one-reads
 
 abbrev Inv-loop : tie.InvT-loop
 Inv-loop entries column n head₀ next₀ i₀ head next i =

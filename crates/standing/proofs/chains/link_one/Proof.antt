@@ -3,10 +3,6 @@ use Rattle.standing.proofs.Links.{link-open, link-closed}
 use borrow.Author.Needs.{needs}
 use Rattle.standing.proofs.chains.link_one.Statement.{statement}
 use Rattle.standing.proofs.chains.link_one.Tie as tie
-use Rattle.standing.proofs.chains.link_one.Reads as reads
-use Rattle.standing.proofs.chains.link_one.Lts as lts
-use Rattle.record.proofs.look.Reads as look-reads
-use Rattle.record.proofs.poke.Reads as poke-reads
 
 -- src/chains.rt:19:14
 mul-at : tie.Need-mul-at

@@ -1,12 +1,9 @@
 -- Each way out of `is_apart`, from the tests passed and what the calls on the way ensure.
 use Rattle.standing.specs.Standing.{isApart}
-use borrow.Author.Tests.{lt-ltb, le-ltb, lt-leb, le-leb, eq-eqb, ne-eqb, not-true, not-false}
+use borrow.Author.Tests.{eq-eqb, ne-eqb}
 use borrow.Author.Needs.{needs}
 use Rattle.standing.proofs.joins.is_apart.Statement.{statement}
 use Rattle.standing.proofs.joins.is_apart.Tie as tie
-use Rattle.standing.proofs.joins.is_apart.Reads as reads
-use Rattle.standing.proofs.joins.is_apart.Lts as lts
-use Rattle.record.proofs.look.Reads as look-reads
 
 -- src/joins.rt:64:8
 look-requires : tie.Need-look-requires

@@ -1,9 +1,7 @@
 -- Each way out of `is_later`, from the tests passed and what the calls on the way ensure.
-use borrow.Author.Tests.{lt-ltb, le-ltb, lt-leb, le-leb, eq-eqb, ne-eqb, not-true, not-false}
+use borrow.Author.Tests.{lt-leb, le-leb}
 use Rattle.standing.proofs.joins.is_later.Statement.{statement}
 use Rattle.standing.proofs.joins.is_later.Tie as tie
-use Rattle.standing.proofs.joins.is_later.Reads as reads
-use Rattle.standing.proofs.joins.is_later.Lts as lts
 
 -- src/joins.rt:25:9
 returns : tie.Need-returns

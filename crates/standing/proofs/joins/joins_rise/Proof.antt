@@ -1,24 +1,16 @@
 -- The loop of `joins_rise`: what holds at each turn, and so what it ends with.
 use Rattle.standing.proofs.Turns.{least-step, later-is}
-use Rattle.graph.specs.State.{unclosed}
-use Rattle.feature.specs.Pick.{pick}
-use lib.Dec.{leb}
 use Rattle.standing.specs.Standing.{isLater, leastOpen}
 use borrow.Author.Needs.{needs}
-use borrow.Author.Tests.{lt-ltb, le-ltb, lt-leb, le-leb, eq-eqb, ne-eqb, not-true, not-false}
+use borrow.Author.Tests.{not-true, not-false}
 use Rattle.feature.proofs.Every.{every-step, every-fails}
 use Rattle.feature.specs.Every.{every}
 use native.Mathlib.Omega.{arith}
 use mathlib.Core.Bool.{true}
-use mathlib.Core.Path.{_≡_, refl, sym, subst, ap, _∙_}
-use Prim.Native.Nat.{ℕ, _+_, _-_, _≤_}
+use mathlib.Core.Path.{_≡_, refl, sym, subst, _∙_}
+use Prim.Native.Nat.{ℕ, _-_, _≤_}
 use Rattle.standing.proofs.joins.joins_rise.Statement.{statement}
 use Rattle.standing.proofs.joins.joins_rise.Tie as tie
-use Rattle.standing.proofs.joins.joins_rise.Reads as reads
-use Rattle.standing.proofs.joins.joins_rise.Lts as lts
-use Rattle.record.proofs.look.Reads as look-reads
-use Rattle.standing.proofs.joins.is_later.Reads as is-later-reads
-use Rattle.standing.proofs.joins.next_least.Reads as next-least-reads
 
 abbrev Inv-loop : tie.InvT-loop
 Inv-loop entries n least₀ i₀ least i = (i ≤ n) × (least ≡ leastOpen entries i) × (every (isLater entries) i ≡ true)

@@ -4,9 +4,6 @@ use Rattle.standing.specs.Standing.{joinsStand}
 use Rattle.standing.proofs.Turns.{more-open, more-joins, no-more}
 use Rattle.standing.proofs.joins.joins_stand.Statement.{statement}
 use Rattle.standing.proofs.joins.joins_stand.Tie as tie
-use Rattle.standing.proofs.joins.joins_stand.Reads as reads
-use Rattle.standing.proofs.joins.joins_stand.Lts as lts
-use Rattle.standing.proofs.joins.open_rings.Reads as open-rings-reads
 
 -- src/joins.rt:111:9
 open-rings-requires : tie.Need-open-rings-requires

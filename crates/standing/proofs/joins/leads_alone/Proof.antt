@@ -1,18 +1,15 @@
 -- The loop of `leads_alone`: what holds at each turn, and so what it ends with.
 use Rattle.standing.specs.Standing.{isApart}
 use borrow.Author.Needs.{needs}
-use borrow.Author.Tests.{lt-ltb, le-ltb, lt-leb, le-leb, eq-eqb, ne-eqb, not-true, not-false}
+use borrow.Author.Tests.{not-true, not-false}
 use Rattle.feature.proofs.Every.{every-step, every-fails}
 use Rattle.feature.specs.Every.{every}
 use native.Mathlib.Omega.{arith}
 use mathlib.Core.Bool.{true}
-use mathlib.Core.Path.{_≡_, refl, sym, subst, ap, _∙_}
-use Prim.Native.Nat.{ℕ, _+_, _-_, _≤_}
+use mathlib.Core.Path.{_≡_, refl, sym, subst, _∙_}
+use Prim.Native.Nat.{ℕ, _-_, _≤_}
 use Rattle.standing.proofs.joins.leads_alone.Statement.{statement}
 use Rattle.standing.proofs.joins.leads_alone.Tie as tie
-use Rattle.standing.proofs.joins.leads_alone.Reads as reads
-use Rattle.standing.proofs.joins.leads_alone.Lts as lts
-use Rattle.standing.proofs.joins.is_apart.Reads as is-apart-reads
 
 abbrev Inv-loop : tie.InvT-loop
 Inv-loop rings n i₀ i = (i ≤ n) × (every (isApart rings n) i ≡ true)

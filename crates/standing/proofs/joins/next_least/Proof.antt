@@ -1,10 +1,8 @@
 -- Each way out of `next_least`, from the tests passed and what the calls on the way ensure.
-use borrow.Author.Tests.{lt-ltb, le-ltb, lt-leb, le-leb, eq-eqb, ne-eqb, not-true, not-false}
+use borrow.Author.Tests.{lt-leb, le-leb}
 use borrow.Author.Needs.{needs}
 use Rattle.standing.proofs.joins.next_least.Statement.{statement}
 use Rattle.standing.proofs.joins.next_least.Tie as tie
-use Rattle.standing.proofs.joins.next_least.Reads as reads
-use Rattle.standing.proofs.joins.next_least.Lts as lts
 
 -- src/joins.rt:38:9
 returns : tie.Need-returns

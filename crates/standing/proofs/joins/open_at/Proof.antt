@@ -1,11 +1,8 @@
 -- Each way out of `open_at`, from the tests passed and what the calls on the way ensure.
-use borrow.Author.Tests.{lt-ltb, le-ltb, lt-leb, le-leb, eq-eqb, ne-eqb, not-true, not-false}
+use borrow.Author.Tests.{eq-eqb, ne-eqb}
 use borrow.Author.Needs.{needs}
 use Rattle.standing.proofs.joins.open_at.Statement.{statement}
 use Rattle.standing.proofs.joins.open_at.Tie as tie
-use Rattle.standing.proofs.joins.open_at.Reads as reads
-use Rattle.standing.proofs.joins.open_at.Lts as lts
-use Rattle.record.proofs.look.Reads as look-reads
 
 -- src/joins.rt:88:8
 look-requires : tie.Need-look-requires

@@ -3,18 +3,11 @@ use Rattle.standing.proofs.Turns.{open-step, open-most, open-one}
 use Rattle.graph.specs.Rings.{numbers}
 use Rattle.standing.specs.Standing.{openRings}
 use borrow.Author.Needs.{needs}
-use borrow.Author.Tests.{lt-ltb, le-ltb, lt-leb, le-leb, eq-eqb, ne-eqb, not-true, not-false}
-use Rattle.feature.proofs.Every.{every-step, every-fails}
-use Rattle.feature.specs.Every.{every}
 use native.Mathlib.Omega.{arith}
-use mathlib.Core.Bool.{true}
-use mathlib.Core.Path.{_≡_, refl, sym, subst, ap, _∙_}
+use mathlib.Core.Path.{_≡_, refl, sym, ap, _∙_}
 use Prim.Native.Nat.{ℕ, _+_, _-_, _≤_}
 use Rattle.standing.proofs.joins.open_rings.Statement.{statement}
 use Rattle.standing.proofs.joins.open_rings.Tie as tie
-use Rattle.standing.proofs.joins.open_rings.Reads as reads
-use Rattle.standing.proofs.joins.open_rings.Lts as lts
-use Rattle.standing.proofs.joins.open_at.Reads as open-at-reads
 
 abbrev Inv-loop : tie.InvT-loop
 Inv-loop rings count₀ n₀ count n = (n ≤ numbers) × (count ≡ openRings rings n)

@@ -1,7 +1,7 @@
 -- The loop of `are_level`: what holds at each turn, and so what it ends with.
 use borrow.Author.Needs.{needs}
 use Prim.Native.Nat.{ℕ, _-_, _<_, _≤_}
-use mathlib.Core.Path.{_≡_, refl, sym, ap, _∙_, subst}
+use mathlib.Core.Path.{_≡_, refl, sym, _∙_, subst}
 use native.Mathlib.Omega.{arith}
 use lib.ListN.{length}
 use borrow.Author.Tests.{not-true, not-false}
@@ -9,9 +9,6 @@ use Rattle.standing.specs.Chains.{Blank, Good}
 use Rattle.standing.proofs.Ways.{ready-again, good-next, all-stand}
 use Rattle.standing.proofs.pairs.are_level.Statement.{statement}
 use Rattle.standing.proofs.pairs.are_level.Tie as tie
-use Rattle.standing.proofs.pairs.are_level.Reads as reads
-use Rattle.standing.proofs.pairs.are_level.Lts as lts
-use Rattle.standing.proofs.pairs.is_level_at.Reads as is-level-at-reads
 
 abbrev Inv-loop : tie.InvT-loop
 Inv-loop entries n atoms first before last after counts₀ a₀ counts a =

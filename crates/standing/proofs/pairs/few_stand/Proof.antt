@@ -1,16 +1,12 @@
 -- The work room is blank, so both chains are linked and all atoms are judged.
 use Prim.Native.Nat.{_+_, _*_}
 use native.Mathlib.Omega.{arith}
-use Rattle.graph.specs.Limits.{atomLimit, bondLimit, fewAtoms}
+use Rattle.graph.specs.Limits.{fewAtoms}
 use Rattle.standing.specs.Chains.{kinds, fewBonds}
 use Rattle.standing.proofs.Ways.{loose-from, loose-to, ready}
 use borrow.Author.Needs.{needs}
 use Rattle.standing.proofs.pairs.few_stand.Statement.{statement}
 use Rattle.standing.proofs.pairs.few_stand.Tie as tie
-use Rattle.standing.proofs.pairs.few_stand.Reads as reads
-use Rattle.standing.proofs.pairs.few_stand.Lts as lts
-use Rattle.standing.proofs.chains.link.Reads as link-reads
-use Rattle.standing.proofs.pairs.are_level.Reads as are-level-reads
 
 -- src/pairs.rt:219:25
 slice-aggregate-link : tie.Need-slice-aggregate-link

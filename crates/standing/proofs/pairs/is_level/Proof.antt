@@ -1,19 +1,11 @@
 -- The loop of `is_level`: what holds at each turn, and so what it ends with.
 use borrow.Author.Needs.{needs}
-use Prim.Native.Nat.{ℕ, _-_, _≤_}
-use mathlib.Core.Path.{_≡_, refl, sym, ap, _∙_, subst}
-use native.Mathlib.Omega.{arith}
-use borrow.Author.Tests.{not-true, not-false}
-use lib.ListN.{length}
-use Rattle.standing.specs.Chains.{Sound, Taken}
+use Prim.Native.Nat.{ℕ}
+use mathlib.Core.Path.{sym, _∙_, subst}
 use Rattle.standing.proofs.Levels.{Stands, Level, stands-head, level-first, level-end}
 use Rattle.standing.proofs.Ways.{says-yes, goes-on, entry-below, level-turn, level-stops}
 use Rattle.standing.proofs.pairs.is_level.Statement.{statement}
 use Rattle.standing.proofs.pairs.is_level.Tie as tie
-use Rattle.standing.proofs.pairs.is_level.Reads as reads
-use Rattle.standing.proofs.pairs.is_level.Lts as lts
-use Rattle.record.proofs.look.Reads as look-reads
-use Rattle.standing.proofs.pairs.left_of.Reads as left-of-reads
 
 abbrev Inv-loop : tie.InvT-loop
 Inv-loop entries n a head next counts p₀ p =

@@ -6,11 +6,6 @@ use Rattle.standing.proofs.Ways.{sized, says-no, ready-sound, level-all
 use borrow.Author.Needs.{needs}
 use Rattle.standing.proofs.pairs.is_level_at.Statement.{statement}
 use Rattle.standing.proofs.pairs.is_level_at.Tie as tie
-use Rattle.standing.proofs.pairs.is_level_at.Reads as reads
-use Rattle.standing.proofs.pairs.is_level_at.Lts as lts
-use Rattle.standing.proofs.pairs.is_level.Reads as is-level-reads
-use Rattle.standing.proofs.pairs.put.Reads as put-reads
-use Rattle.standing.proofs.pairs.take.Reads as take-reads
 
 -- src/pairs.rt:178:5
 put-requires : tie.Need-put-requires

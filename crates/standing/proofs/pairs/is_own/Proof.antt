@@ -1,12 +1,9 @@
 -- Each way out of `is_own`, from the tests passed and what the calls on the way ensure.
 use Rattle.standing.specs.Standing.{isOwn}
-use borrow.Author.Tests.{lt-ltb, le-ltb, lt-leb, le-leb, eq-eqb, ne-eqb, not-true, not-false}
+use borrow.Author.Tests.{eq-eqb, ne-eqb}
 use borrow.Author.Needs.{needs}
 use Rattle.standing.proofs.pairs.is_own.Statement.{statement}
 use Rattle.standing.proofs.pairs.is_own.Tie as tie
-use Rattle.standing.proofs.pairs.is_own.Reads as reads
-use Rattle.standing.proofs.pairs.is_own.Lts as lts
-use Rattle.standing.proofs.pairs.turned.Reads as turned-reads
 
 -- src/pairs.rt:69:9
 returns : tie.Need-returns

@@ -1,11 +1,7 @@
 -- The words of the entry lead to the count.
-use mathlib.Core.Path.{sym, ap, _∙_}
 use borrow.Author.Needs.{needs}
 use Rattle.standing.proofs.pairs.left_of.Statement.{statement}
 use Rattle.standing.proofs.pairs.left_of.Tie as tie
-use Rattle.standing.proofs.pairs.left_of.Reads as reads
-use Rattle.standing.proofs.pairs.left_of.Lts as lts
-use Rattle.record.proofs.look.Reads as look-reads
 
 -- src/pairs.rt:141:14
 mul-at : tie.Need-mul-at

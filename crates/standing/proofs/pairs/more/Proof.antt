@@ -1,12 +1,9 @@
 -- Each way out of `more`, from the tests passed.
-use mathlib.Core.Path.{refl}
-use borrow.Author.Tests.{not-true, not-false, lt-ltb, le-ltb, lt-leb, le-leb, eq-eqb, ne-eqb}
+use borrow.Author.Tests.{not-true, not-false, eq-eqb, ne-eqb}
 use Rattle.standing.specs.Chains.{moreOf}
 use borrow.Author.Needs.{needs}
 use Rattle.standing.proofs.pairs.more.Statement.{statement}
 use Rattle.standing.proofs.pairs.more.Tie as tie
-use Rattle.standing.proofs.pairs.more.Reads as reads
-use Rattle.standing.proofs.pairs.more.Lts as lts
 
 -- src/pairs.rt:63:16
 add-result : tie.Need-add-result

@@ -1,19 +1,13 @@
 -- The loop of `put`: what holds at each turn, and so what it ends with.
 use borrow.Author.Needs.{needs}
-use Prim.Native.Nat.{ℕ, _-_, _≤_}
-use mathlib.Core.Path.{_≡_, refl, sym, ap, _∙_, subst}
-use native.Mathlib.Omega.{arith}
-use borrow.Author.Tests.{not-true, not-false}
+use Prim.Native.Nat.{ℕ}
+use mathlib.Core.Path.{_≡_, refl, _∙_, subst}
 use lib.ListN.{length}
-use Rattle.standing.specs.Chains.{Sound, Laid}
+use Rattle.standing.specs.Chains.{Laid}
 use Rattle.standing.proofs.Levels.{Stands, stands-head, laid-first}
 use Rattle.standing.proofs.Ways.{sized, goes-on, put-room, put-turn}
 use Rattle.standing.proofs.pairs.put.Statement.{statement}
 use Rattle.standing.proofs.pairs.put.Tie as tie
-use Rattle.standing.proofs.pairs.put.Reads as reads
-use Rattle.standing.proofs.pairs.put.Lts as lts
-use Rattle.record.proofs.look.Reads as look-reads
-use Rattle.standing.proofs.pairs.put_one.Reads as put-one-reads
 
 abbrev Inv-loop : tie.InvT-loop
 Inv-loop entries n a head next counts₀ p₀ counts p =

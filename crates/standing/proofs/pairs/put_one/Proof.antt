@@ -1,16 +1,8 @@
 -- The words of the entry, and the count where they lead.
 use Rattle.standing.proofs.Ways.{put-is, put-less}
-use mathlib.Core.Path.{sym, ap, _∙_}
-use native.Mathlib.Omega.{arith}
 use borrow.Author.Needs.{needs}
 use Rattle.standing.proofs.pairs.put_one.Statement.{statement}
 use Rattle.standing.proofs.pairs.put_one.Tie as tie
-use Rattle.standing.proofs.pairs.put_one.Reads as reads
-use Rattle.standing.proofs.pairs.put_one.Lts as lts
-use Rattle.record.proofs.look.Reads as look-reads
-use Rattle.record.proofs.poke.Reads as poke-reads
-use Rattle.standing.proofs.pairs.is_own.Reads as is-own-reads
-use Rattle.standing.proofs.pairs.more.Reads as more-reads
 
 -- src/pairs.rt:76:14
 mul-at : tie.Need-mul-at

@@ -1,19 +1,14 @@
 -- The loop of `take`: what holds at each turn, and so what it ends with.
 use borrow.Author.Needs.{needs}
-use Prim.Native.Nat.{ℕ, _-_, _≤_}
-use mathlib.Core.Path.{_≡_, refl, sym, ap, _∙_, subst}
-use native.Mathlib.Omega.{arith}
+use Prim.Native.Nat.{ℕ}
+use mathlib.Core.Path.{_≡_, refl, sym, _∙_, subst}
 use borrow.Author.Tests.{not-true, not-false}
 use lib.ListN.{length}
-use Rattle.standing.specs.Chains.{Sound, Taken}
+use Rattle.standing.specs.Chains.{Taken}
 use Rattle.standing.proofs.Levels.{Stands, stands-head, taken-first}
 use Rattle.standing.proofs.Ways.{sized, says-yes, goes-on, entry-below, take-turn, take-stops}
 use Rattle.standing.proofs.pairs.take.Statement.{statement}
 use Rattle.standing.proofs.pairs.take.Tie as tie
-use Rattle.standing.proofs.pairs.take.Reads as reads
-use Rattle.standing.proofs.pairs.take.Lts as lts
-use Rattle.record.proofs.look.Reads as look-reads
-use Rattle.standing.proofs.pairs.take_one.Reads as take-one-reads
 
 abbrev Inv-loop : tie.InvT-loop
 Inv-loop entries n a head next counts₀ p₀ counts p =

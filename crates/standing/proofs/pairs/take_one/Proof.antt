@@ -1,15 +1,8 @@
 -- A bond that is its own reverse, one with no reverse left, and any other.
-use borrow.Author.Tests.{not-true, not-false}
 use Rattle.standing.proofs.Ways.{take-own, take-none, take-goes}
 use borrow.Author.Needs.{needs}
 use Rattle.standing.proofs.pairs.take_one.Statement.{statement}
 use Rattle.standing.proofs.pairs.take_one.Tie as tie
-use Rattle.standing.proofs.pairs.take_one.Reads as reads
-use Rattle.standing.proofs.pairs.take_one.Lts as lts
-use Rattle.record.proofs.look.Reads as look-reads
-use Rattle.record.proofs.poke.Reads as poke-reads
-use Rattle.standing.proofs.pairs.is_own.Reads as is-own-reads
-use Rattle.standing.proofs.pairs.turned.Reads as turned-reads
 
 -- src/pairs.rt:104:14
 mul-at : tie.Need-mul-at

@@ -3,11 +3,6 @@ use Rattle.standing.specs.Standing.{turnedOf}
 use borrow.Author.Needs.{needs}
 use Rattle.standing.proofs.pairs.turned.Statement.{statement}
 use Rattle.standing.proofs.pairs.turned.Tie as tie
-use Rattle.standing.proofs.pairs.turned.Reads as reads
-use Rattle.standing.proofs.pairs.turned.Lts as lts
-use Rattle.feature.proofs.bond_kind.code.Reads as code-reads
-use Rattle.feature.proofs.bond_kind.decode.Reads as decode-reads
-use Rattle.feature.proofs.bond_kind.reverse.Reads as reverse-reads
 
 -- src/pairs.rt:56:11
 decode-requires : tie.Need-decode-requires

@@ -1,13 +1,9 @@
 -- Each way out of `counts_stand`, from the tests passed and what the calls on the way ensure.
-use mathlib.Core.Path.{refl}
-use borrow.Author.Tests.{lt-ltb, le-ltb, lt-leb, le-leb, eq-eqb, ne-eqb}
+use borrow.Author.Tests.{lt-leb, le-leb, eq-eqb, ne-eqb}
 use Rattle.standing.specs.Standing.{countsStand}
 use borrow.Author.Needs.{needs}
 use Rattle.standing.proofs.state.counts_stand.Statement.{statement}
 use Rattle.standing.proofs.state.counts_stand.Tie as tie
-use Rattle.standing.proofs.state.counts_stand.Reads as reads
-use Rattle.standing.proofs.state.counts_stand.Lts as lts
-use Rattle.graph.proofs.limits.lesser.Reads as lesser-reads
 
 -- src/state.rt:152:20
 lesser-requires : tie.Need-lesser-requires

@@ -1,13 +1,9 @@
 -- Each way out of `failure_stands`, from the tests passed and what the calls on the way ensure.
-use mathlib.Core.Path.{refl}
 use borrow.Author.Tests.{not-true, not-false}
 use Rattle.standing.specs.Standing.{failureStands}
 use borrow.Author.Needs.{needs}
 use Rattle.standing.proofs.state.failure_stands.Statement.{statement}
 use Rattle.standing.proofs.state.failure_stands.Tie as tie
-use Rattle.standing.proofs.state.failure_stands.Reads as reads
-use Rattle.standing.proofs.state.failure_stands.Lts as lts
-use Rattle.standing.proofs.state.is_below.Reads as is-below-reads
 
 -- src/state.rt:195:9
 returns : tie.Need-returns

@@ -3,8 +3,6 @@ use mathlib.Core.Path.{sym}
 use borrow.Author.Tests.{lt-ltb, le-ltb}
 use Rattle.standing.proofs.state.is_below.Statement.{statement}
 use Rattle.standing.proofs.state.is_below.Tie as tie
-use Rattle.standing.proofs.state.is_below.Reads as reads
-use Rattle.standing.proofs.state.is_below.Lts as lts
 
 -- src/state.rt:68:9
 returns : tie.Need-returns

@@ -1,16 +1,9 @@
 -- Each way out of `is_entry`, from the tests passed and what the calls on the way ensure.
-use mathlib.Core.Path.{refl}
 use borrow.Author.Tests.{not-true, not-false}
 use Rattle.standing.specs.Standing.{isEntry}
 use borrow.Author.Needs.{needs}
 use Rattle.standing.proofs.state.is_entry.Statement.{statement}
 use Rattle.standing.proofs.state.is_entry.Tie as tie
-use Rattle.standing.proofs.state.is_entry.Reads as reads
-use Rattle.standing.proofs.state.is_entry.Lts as lts
-use Rattle.standing.proofs.state.is_below.Reads as is-below-reads
-use Rattle.standing.proofs.state.is_kind.Reads as is-kind-reads
-use Rattle.standing.proofs.state.is_target.Reads as is-target-reads
-use Rattle.record.proofs.look.Reads as look-reads
 
 -- src/state.rt:86:14
 mul-at : tie.Need-mul-at

@@ -1,13 +1,8 @@
 -- Each way out of `is_kind`, from the tests passed and what the calls on the way ensure.
-use mathlib.Core.Path.{refl}
-use borrow.Author.Tests.{lt-ltb, le-ltb, lt-leb, le-leb, eq-eqb, ne-eqb}
 use Rattle.standing.specs.Standing.{isKind}
 use borrow.Author.Needs.{needs}
 use Rattle.standing.proofs.state.is_kind.Statement.{statement}
 use Rattle.standing.proofs.state.is_kind.Tie as tie
-use Rattle.standing.proofs.state.is_kind.Reads as reads
-use Rattle.standing.proofs.state.is_kind.Lts as lts
-use Rattle.feature.proofs.bond_kind.decode.Reads as decode-reads
 
 -- src/state.rt:58:11
 decode-requires : tie.Need-decode-requires

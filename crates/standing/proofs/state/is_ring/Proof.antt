@@ -1,13 +1,9 @@
 -- Each way out of `is_ring`, from the tests passed and what the calls on the way ensure.
-use mathlib.Core.Path.{refl}
-use borrow.Author.Tests.{lt-ltb, le-ltb, lt-leb, le-leb, eq-eqb, ne-eqb}
+use borrow.Author.Tests.{lt-leb, le-leb, eq-eqb, ne-eqb}
 use Rattle.standing.specs.Standing.{isRing}
 use borrow.Author.Needs.{needs}
 use Rattle.standing.proofs.state.is_ring.Statement.{statement}
 use Rattle.standing.proofs.state.is_ring.Tie as tie
-use Rattle.standing.proofs.state.is_ring.Reads as reads
-use Rattle.standing.proofs.state.is_ring.Lts as lts
-use Rattle.record.proofs.look.Reads as look-reads
 
 -- src/state.rt:127:16
 look-requires : tie.Need-look-requires

@@ -1,13 +1,9 @@
 -- Each way out of `is_target`, from the tests passed and what the calls on the way ensure.
-use mathlib.Core.Path.{refl}
-use borrow.Author.Tests.{lt-ltb, le-ltb, lt-leb, le-leb, eq-eqb, ne-eqb}
+use borrow.Author.Tests.{lt-ltb, le-ltb}
 use Rattle.standing.specs.Standing.{isTarget}
 use borrow.Author.Needs.{needs}
 use Rattle.standing.proofs.state.is_target.Statement.{statement}
 use Rattle.standing.proofs.state.is_target.Tie as tie
-use Rattle.standing.proofs.state.is_target.Reads as reads
-use Rattle.standing.proofs.state.is_target.Lts as lts
-use Rattle.standing.proofs.state.is_below.Reads as is-below-reads
 
 -- src/state.rt:77:9
 is-below-requires : tie.Need-is-below-requires

@@ -2,10 +2,6 @@
 use borrow.Author.Needs.{needs}
 use Rattle.walk.proofs.turns.walk_afresh.Statement.{statement}
 use Rattle.walk.proofs.turns.walk_afresh.Tie as tie
-use Rattle.walk.proofs.turns.walk_afresh.Reads as reads
-use Rattle.walk.proofs.turns.walk_afresh.Lts as lts
-use Rattle.pool.proofs.clear.Reads as clear-reads
-use Rattle.walk.proofs.turns.walk.Reads as walk-reads
 
 clear-requires : tie.Need-clear-requires
 clear-requires c κs = search needs

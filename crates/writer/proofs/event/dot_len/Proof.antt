@@ -4,8 +4,6 @@ use Rattle.writer.specs.Line.{dotText}
 use borrow.Author.Tests.{eq-eqb, ne-eqb}
 use Rattle.writer.proofs.event.dot_len.Statement.{statement}
 use Rattle.writer.proofs.event.dot_len.Tie as tie
-use Rattle.writer.proofs.event.dot_len.Reads as reads
-use Rattle.writer.proofs.event.dot_len.Lts as lts
 
 -- src/event.rt:47:9
 returns : tie.Need-returns

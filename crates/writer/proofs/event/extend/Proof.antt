@@ -4,12 +4,6 @@ use Rattle.writer.specs.Tables.{spoken, eventOf}
 use borrow.Author.Needs.{needs}
 use Rattle.writer.proofs.event.extend.Statement.{statement}
 use Rattle.writer.proofs.event.extend.Tie as tie
-use Rattle.writer.proofs.event.extend.Reads as reads
-use Rattle.writer.proofs.event.extend.Lts as lts
-use Rattle.writer.proofs.event.atom_len.Reads as atom-len-reads
-use Rattle.writer.proofs.event.bond_len.Reads as bond-len-reads
-use Rattle.writer.proofs.say.piece_room.Reads as piece-room-reads
-use Rattle.writer.proofs.say.say_extend.Reads as say-extend-reads
 
 -- src/event.rt:72:8
 piece-room-requires : tie.Need-piece-room-requires

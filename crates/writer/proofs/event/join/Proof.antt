@@ -5,11 +5,6 @@ use borrow.Author.Tests.{eq-eqb}
 use borrow.Author.Needs.{needs}
 use Rattle.writer.proofs.event.join.Statement.{statement}
 use Rattle.writer.proofs.event.join.Tie as tie
-use Rattle.writer.proofs.event.join.Reads as reads
-use Rattle.writer.proofs.event.join.Lts as lts
-use Rattle.writer.proofs.event.bond_len.Reads as bond-len-reads
-use Rattle.writer.proofs.event.rnum_len.Reads as rnum-len-reads
-use Rattle.writer.proofs.say.say_join.Reads as say-join-reads
 
 -- src/event.rt:87:9
 returns : tie.Need-returns

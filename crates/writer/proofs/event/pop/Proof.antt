@@ -5,9 +5,6 @@ use borrow.Author.Tests.{le-leb}
 use borrow.Author.Needs.{needs}
 use Rattle.writer.proofs.event.pop.Statement.{statement}
 use Rattle.writer.proofs.event.pop.Tie as tie
-use Rattle.writer.proofs.event.pop.Reads as reads
-use Rattle.writer.proofs.event.pop.Lts as lts
-use Rattle.writer.proofs.say.say_pop.Reads as say-pop-reads
 
 -- src/event.rt:101:9
 returns : tie.Need-returns

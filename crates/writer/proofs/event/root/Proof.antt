@@ -4,12 +4,6 @@ use Rattle.writer.specs.Tables.{spoken, eventOf}
 use borrow.Author.Needs.{needs}
 use Rattle.writer.proofs.event.root.Statement.{statement}
 use Rattle.writer.proofs.event.root.Tie as tie
-use Rattle.writer.proofs.event.root.Reads as reads
-use Rattle.writer.proofs.event.root.Lts as lts
-use Rattle.writer.proofs.event.atom_len.Reads as atom-len-reads
-use Rattle.writer.proofs.event.dot_len.Reads as dot-len-reads
-use Rattle.writer.proofs.say.piece_room.Reads as piece-room-reads
-use Rattle.writer.proofs.say.say_root.Reads as say-root-reads
 
 -- src/event.rt:57:8
 piece-room-requires : tie.Need-piece-room-requires

@@ -9,9 +9,6 @@ use Prim.Native.Nat.{_+_, _-_, _≤_}
 use mathlib.Core.Path.{_≡_, refl, _∙_}
 use Rattle.writer.proofs.lay.insert.Statement.{statement}
 use Rattle.writer.proofs.lay.insert.Tie as tie
-use Rattle.writer.proofs.lay.insert.Reads as reads
-use Rattle.writer.proofs.lay.insert.Lts as lts
-use Rattle.graph.proofs.limits.lesser.Reads as lesser-reads
 
 abbrev Inv-loop : tie.InvT-loop
 Inv-loop out₀ at end b stop carry₀ i₀ out carry i = (at ≤ i) × (i ≤ stop + (at - stop)) × (length out ≡ length out₀) × (out ≡ sets out₀ at (take (i - at) (moved out₀ at b))) × (carry ≡ getD (moved out₀ at b) (i - at) 0)

@@ -3,10 +3,6 @@ use Rattle.writer.proofs.Laws.{lay-part}
 use borrow.Author.Needs.{needs}
 use Rattle.writer.proofs.lay.lay_atom.Statement.{statement}
 use Rattle.writer.proofs.lay.lay_atom.Tie as tie
-use Rattle.writer.proofs.lay.lay_atom.Reads as reads
-use Rattle.writer.proofs.lay.lay_atom.Lts as lts
-use Rattle.graph.proofs.limits.lesser.Reads as lesser-reads
-use Rattle.spell.proofs.spell_atom.Reads as spell-atom-reads
 
 -- src/lay.rt:32:9
 lesser-requires : tie.Need-lesser-requires

@@ -3,10 +3,6 @@ use Rattle.writer.proofs.Laws.{lay-part}
 use borrow.Author.Needs.{needs}
 use Rattle.writer.proofs.lay.lay_bond.Statement.{statement}
 use Rattle.writer.proofs.lay.lay_bond.Tie as tie
-use Rattle.writer.proofs.lay.lay_bond.Reads as reads
-use Rattle.writer.proofs.lay.lay_bond.Lts as lts
-use Rattle.graph.proofs.limits.lesser.Reads as lesser-reads
-use Rattle.spell.proofs.spell_bond.Reads as spell-bond-reads
 
 -- src/lay.rt:40:9
 lesser-requires : tie.Need-lesser-requires

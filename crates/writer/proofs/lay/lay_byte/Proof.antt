@@ -3,8 +3,6 @@ use Rattle.writer.proofs.Laws.{laid-out}
 use borrow.Author.Needs.{needs}
 use Rattle.writer.proofs.lay.lay_byte.Statement.{statement}
 use Rattle.writer.proofs.lay.lay_byte.Tie as tie
-use Rattle.writer.proofs.lay.lay_byte.Reads as reads
-use Rattle.writer.proofs.lay.lay_byte.Lts as lts
 
 -- src/lay.rt:22:9
 slice-write-out : tie.Need-slice-write-out

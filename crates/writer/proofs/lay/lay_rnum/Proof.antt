@@ -3,10 +3,6 @@ use Rattle.writer.proofs.Laws.{lay-part}
 use borrow.Author.Needs.{needs}
 use Rattle.writer.proofs.lay.lay_rnum.Statement.{statement}
 use Rattle.writer.proofs.lay.lay_rnum.Tie as tie
-use Rattle.writer.proofs.lay.lay_rnum.Reads as reads
-use Rattle.writer.proofs.lay.lay_rnum.Lts as lts
-use Rattle.graph.proofs.limits.lesser.Reads as lesser-reads
-use Rattle.spell.proofs.spell_rnum.Reads as spell-rnum-reads
 
 -- src/lay.rt:48:9
 lesser-requires : tie.Need-lesser-requires

@@ -3,10 +3,6 @@ use Rattle.writer.proofs.Laws.{wrap-both}
 use borrow.Author.Needs.{needs}
 use Rattle.writer.proofs.lay.wrap.Statement.{statement}
 use Rattle.writer.proofs.lay.wrap.Tie as tie
-use Rattle.writer.proofs.lay.wrap.Reads as reads
-use Rattle.writer.proofs.lay.wrap.Lts as lts
-use Rattle.writer.proofs.lay.insert.Reads as insert-reads
-use Rattle.writer.proofs.lay.lay_byte.Reads as lay-byte-reads
 
 -- src/lay.rt:73:5
 insert-requires : tie.Need-insert-requires

@@ -5,9 +5,6 @@ use borrow.Author.Tests.{eq-eqb, ne-eqb}
 use borrow.Author.Needs.{needs}
 use Rattle.writer.proofs.say.lay_dot.Statement.{statement}
 use Rattle.writer.proofs.say.lay_dot.Tie as tie
-use Rattle.writer.proofs.say.lay_dot.Reads as reads
-use Rattle.writer.proofs.say.lay_dot.Lts as lts
-use Rattle.writer.proofs.lay.lay_byte.Reads as lay-byte-reads
 
 -- src/say.rt:33:9
 returns : tie.Need-returns

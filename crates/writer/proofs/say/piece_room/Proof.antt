@@ -3,9 +3,6 @@ use Rattle.writer.specs.Tables.{pieceRoom}
 use borrow.Author.Needs.{needs}
 use Rattle.writer.proofs.say.piece_room.Statement.{statement}
 use Rattle.writer.proofs.say.piece_room.Tie as tie
-use Rattle.writer.proofs.say.piece_room.Reads as reads
-use Rattle.writer.proofs.say.piece_room.Lts as lts
-use Rattle.graph.proofs.limits.lesser.Reads as lesser-reads
 
 -- src/say.rt:24:5
 lesser-requires : tie.Need-lesser-requires

@@ -6,10 +6,6 @@ use native.Mathlib.Omega.{arith}
 use borrow.Author.Needs.{needs}
 use Rattle.writer.proofs.say.say_join.Statement.{statement}
 use Rattle.writer.proofs.say.say_join.Tie as tie
-use Rattle.writer.proofs.say.say_join.Reads as reads
-use Rattle.writer.proofs.say.say_join.Lts as lts
-use Rattle.writer.proofs.lay.lay_bond.Reads as lay-bond-reads
-use Rattle.writer.proofs.lay.lay_rnum.Reads as lay-rnum-reads
 
 -- src/say.rt:89:9
 returns : tie.Need-returns

@@ -5,10 +5,6 @@ use native.Mathlib.Omega.{arith}
 use borrow.Author.Needs.{needs}
 use Rattle.writer.proofs.say.say_pop.Statement.{statement}
 use Rattle.writer.proofs.say.say_pop.Tie as tie
-use Rattle.writer.proofs.say.say_pop.Reads as reads
-use Rattle.writer.proofs.say.say_pop.Lts as lts
-use Rattle.writer.proofs.lay.wrap.Reads as wrap-reads
-use Rattle.writer.proofs.say.start_of.Reads as start-of-reads
 
 -- src/say.rt:115:9
 returns : tie.Need-returns

@@ -7,12 +7,6 @@ use mathlib.Core.Path.{refl}
 use borrow.Author.Needs.{needs}
 use Rattle.writer.proofs.say.say_root.Statement.{statement}
 use Rattle.writer.proofs.say.say_root.Tie as tie
-use Rattle.writer.proofs.say.say_root.Reads as reads
-use Rattle.writer.proofs.say.say_root.Lts as lts
-use Rattle.record.proofs.poke.Reads as poke-reads
-use Rattle.writer.proofs.lay.lay_atom.Reads as lay-atom-reads
-use Rattle.writer.proofs.say.lay_dot.Reads as lay-dot-reads
-use Rattle.writer.proofs.say.piece_room.Reads as piece-room-reads
 
 -- src/say.rt:45:8
 piece-room-requires : tie.Need-piece-room-requires

@@ -7,10 +7,6 @@ use mathlib.Core.Path.{ap, _∙_}
 use borrow.Author.Needs.{needs}
 use Rattle.writer.proofs.say.start_of.Statement.{statement}
 use Rattle.writer.proofs.say.start_of.Tie as tie
-use Rattle.writer.proofs.say.start_of.Reads as reads
-use Rattle.writer.proofs.say.start_of.Lts as lts
-use Rattle.graph.proofs.limits.lesser.Reads as lesser-reads
-use Rattle.record.proofs.look.Reads as look-reads
 
 -- src/say.rt:102:9
 returns : tie.Need-returns

@@ -2,8 +2,6 @@ use Rattle.graph.proofs.Joins.{again-failed, first-failed}
 use borrow.Author.Needs.{needs}
 use Rattle.graph.proofs.builder.Builder.fail.Statement.{statement}
 use Rattle.graph.proofs.builder.Builder.fail.Tie as tie
-use Rattle.graph.proofs.builder.Builder.fail.Reads as reads
-use Rattle.graph.proofs.builder.Builder.fail.Lts as lts
 
 -- src/builder.rt:101:22
 add-self : tie.Need-add-self
