@@ -8,7 +8,7 @@
  * What is lent to be written holds values already, whichever. A call keeps no pointer.
  *
  * report: three words, as far as there is room: the desk's number, and the two values that it carries, 0 where it carries
- * fewer: crates/report/specs/Report.antt has them for each answer. Words after the third are untouched. So are words of a
+ * fewer: crates/desk_report/specs/Report.antt has them for each answer. Words after the third are untouched. So are words of a
  * state after its own. docs/PACKING.md says how atoms, bonds and states stand in words.
  *
  * What is left: after 0 of a read, a write, an order, a build, a reading of an atom or a spelling, what is lent to be written
@@ -155,7 +155,7 @@ void mavisdrok_builder_build(uint32_t *atoms, size_t atoms_len,
  *
  * An event that is answered 0 where no piece was held leaves zeros after the line, whatever was there. A later one writes
  * nothing after the line that it makes and never makes it shorter, so the zeros stay, as long as nobody else writes there
- * (crates/desk_lines/specs/OnPieces.antt, Onward). They are not laid again with each event: a line would then cost its
+ * (crates/desk_writer/specs/OnPieces.antt, Onward). They are not laid again with each event: a line would then cost its
  * length times the output's. */
 
 /* A first atom of a component. */

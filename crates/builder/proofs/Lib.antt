@@ -1,8 +1,10 @@
--- Laws that the proofs and the claims cite.
-pub mod Ways
-pub mod Start
-pub mod Builds
-pub mod Held
-pub mod Answers
-pub mod Bench
-pub mod Again
+-- Laws that several proofs cite.
+pub mod Rings
+pub mod Sums
+pub mod Joins
+pub mod Passes
+pub mod Whole
+pub mod Degrees
+pub mod Order
+pub mod FirstOpens
+pub mod Laws

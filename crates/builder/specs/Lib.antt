@@ -1,4 +1,4 @@
--- Definitions that the contracts cite.
-pub mod Events
+pub mod Limits
+pub mod Rings
+pub mod State
 pub mod Build
-pub mod Runs

@@ -1,2 +1,10 @@
-// The builder's single calls and its build: any tables and any numbers may be handed in, and are judged first.
-pub mod calls;
+// A graph in the making: what each event makes of a builder's state. purr's graph/builder.rs.
+//
+// limits: how large a job may be.
+// opens: the open ring numbers.
+// builder: the events.
+// build: the end of a build, the entries gathered atom after atom.
+pub mod build;
+pub mod builder;
+pub mod limits;
+pub mod opens;

@@ -12,12 +12,12 @@ use Rattle.feature.specs.Pick.{pick}
 use Rattle.desk_numbers.specs.Numbers.{Told, told, done, endOfLine, character, outRoom, badTable}
 use Rattle.feature.specs.Kinds.{inRange}
 use Rattle.feature.specs.declared.atom_kind.AtomKind.{AtomKind}
-use Rattle.graph.specs.Rings.{numbers}
-use Rattle.scan.specs.declared.scanner.Missing.{Missing}
-use Rattle.scan.specs.declared.scanner.Missing.the-variants as missing
-use Rattle.scan.specs.declared.scanner.Found.{Found}
-use Rattle.scan.specs.declared.scanner.Found.the-variants as found
-use Rattle.scan.specs.Scan.{missingAt, atomAt}
+use Rattle.builder.specs.Rings.{numbers}
+use Rattle.read_token.specs.declared.scanner.Missing.{Missing}
+use Rattle.read_token.specs.declared.scanner.Missing.the-variants as missing
+use Rattle.read_token.specs.declared.scanner.Found.{Found}
+use Rattle.read_token.specs.declared.scanner.Found.the-variants as found
+use Rattle.read_token.specs.Scan.{missingAt, atomAt}
 use Rattle.spell.specs.Spell.{atomText, rnumText}
 use Rattle.desk_atom.specs.declared.Begins.{Begins}
 use Rattle.desk_atom.specs.declared.Begins.the-variants as begins

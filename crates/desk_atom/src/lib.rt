@@ -4,13 +4,13 @@ ghost use mathlib.Core.Path.{_≡_};
 ghost use lib.ListN.{length, replicate};
 ghost use Rattle.spell.specs.Spell.{bondText};
 ghost use Rattle.desk_atom.specs.Texts.{lackedOf, reads, firstAtom, spelt, settled, texted, atomD, rnumD};
+use builder::opens::NUMBERS;
 use feature::atom_kind::AtomKind;
 use feature::atom_kind::in_range;
 use feature::bond_kind::BondKind;
-use graph::opens::NUMBERS;
-use scan::scanner::Found;
-use scan::scanner::Missing;
-use scan::scanner::missing_character;
+use read_token::scanner::Found;
+use read_token::scanner::Missing;
+use read_token::scanner::missing_character;
 
 pub enum Begins {
     // The kind, and the place after it.
@@ -41,7 +41,7 @@ fn lacked(m: Missing) -> Begins
 pub fn read_atom(text: &[u8]) -> Begins
     ensures { λ r. ⌜ reads r ≡ firstAtom (now (text .entry)) ⌝ }
 {
-    match held::read_atom::read_atom(text, 0) {
+    match read_atom::read_atom::read_atom(text, 0) {
         Found::Atom(k, next) => Begins::Atom(k, next),
         Found::Nothing => lacked(missing_character(text, 0)),
         Found::Lacks(m) => lacked(m),

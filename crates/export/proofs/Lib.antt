@@ -1,3 +1,4 @@
 -- Laws that the proofs cite.
 pub mod Reports
 pub mod One
+pub mod Stood

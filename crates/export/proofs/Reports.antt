@@ -10,37 +10,37 @@ use Rattle.read.specs.Read.{Said, said}
 use Rattle.write.specs.declared.answer.Written.{Written}
 use Rattle.write.specs.Write as write
 use Rattle.write.specs.Order.{Order, order}
-use Rattle.graph.specs.declared.builder.Builder.{Builder}
-use Rattle.builder.specs.Build.{Left, leftBy}
-use Rattle.builder.specs.declared.calls.Answer as calls
-use Rattle.builder.specs.declared.calls.Answer.the-variants as built
-use Rattle.record.specs.Words.{listed}
-use Rattle.record.specs.declared.Pair.{Pair}
+use Rattle.builder.specs.declared.builder.Builder.{Builder}
+use Rattle.desk_builder.specs.Build.{Left, leftBy}
+use Rattle.desk_builder.specs.declared.calls.Answer as calls
+use Rattle.desk_builder.specs.declared.calls.Answer.the-variants as built
+use Rattle.packing.specs.Words.{listed}
+use Rattle.packing.specs.declared.Pair.{Pair}
 use Rattle.desk_atom.specs.declared.Begins.{Begins}
 use Rattle.desk_atom.specs.Texts.{zeros, kindsIn, reads, firstAtom}
-use Rattle.desk_lines.specs.declared.Said as lines
-use Rattle.desk_lines.specs.declared.Said.the-variants as said
-use Rattle.desk_lines.specs.Pieces.{stateIn}
-use Rattle.desk_rings.specs.declared.Handed.{Handed}
-use Rattle.desk_rings.specs.declared.Handed.the-variants as handed
-use Rattle.desk_rings.specs.Slots as slots
-use Rattle.report.specs.declared.answer.Report.{Report}
+use Rattle.desk_writer.specs.declared.Said as lines
+use Rattle.desk_writer.specs.declared.Said.the-variants as said
+use Rattle.desk_writer.specs.Pieces.{stateIn}
+use Rattle.desk_pool.specs.declared.Handed.{Handed}
+use Rattle.desk_pool.specs.declared.Handed.the-variants as handed
+use Rattle.desk_pool.specs.Slots as slots
+use Rattle.desk_report.specs.declared.answer.Report.{Report}
 use Rattle.writer.specs.declared.Writer.{Writer}
-use Rattle.pool.specs.declared.Pool.{Pool}
-use Rattle.report.specs.declared.state.AsWriter.{AsWriter}
-use Rattle.report.specs.declared.state.AsWriter.the-variants as writer
-use Rattle.report.specs.declared.state.AsPool.{AsPool}
-use Rattle.report.specs.declared.state.AsPool.the-variants as pool
-use Rattle.report.specs.declared.state.AsBuilder.{AsBuilder}
-use Rattle.report.specs.declared.state.AsBuilder.the-variants as state
+use Rattle.join_pool.specs.declared.Pool.{Pool}
+use Rattle.desk_report.specs.declared.state.AsWriter.{AsWriter}
+use Rattle.desk_report.specs.declared.state.AsWriter.the-variants as writer
+use Rattle.desk_report.specs.declared.state.AsPool.{AsPool}
+use Rattle.desk_report.specs.declared.state.AsPool.the-variants as pool
+use Rattle.desk_report.specs.declared.state.AsBuilder.{AsBuilder}
+use Rattle.desk_report.specs.declared.state.AsBuilder.the-variants as state
 use Rattle.export.specs.Atom.{kindSize, kindIn, reading, taken, readX}
 use Rattle.export.specs.Calls.{readCells, readBy, writeCells, writtenBy, orderCells, orderedBy}
 use Rattle.export.specs.Given.{onBuilder, onWriter, onPool}
 use Rattle.export.specs.Lines as Lines
 use Rattle.export.specs.Rings as Rings
 use Rattle.export.specs.Events.{Made, made, told}
-use Rattle.report.specs.Report.{bad, ofRead, ofWritten, ofBuilt, ofBegins, laidInto}
-use Rattle.report.specs.State.{writerList, poolList}
+use Rattle.desk_report.specs.Report.{bad, ofRead, ofWritten, ofBuilt, ofBegins, laidInto}
+use Rattle.desk_report.specs.State.{writerList, poolList}
 
 -- the read call, the write call and the walk order
 pub read-parts : (s : Said) (r : Answer) (atoms bonds lent left : List ℕ) (p : Report) → said r atoms bonds ≡ s → p ≡ ofRead r → left ≡ laidInto lent p → readCells atoms bonds left ≡ readBy lent s

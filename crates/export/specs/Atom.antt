@@ -10,12 +10,12 @@ use lib.Dec.{ltb}
 use Rattle.feature.specs.Pick.{pick}
 use Rattle.feature.specs.declared.atom_kind.AtomKind.{AtomKind}
 use Rattle.feature.specs.Bonds.{kindOf}
-use Rattle.record.specs.Words.{pair, listed, wordsOf, loadOf}
-use Rattle.record.specs.declared.Pair.{Pair}
+use Rattle.packing.specs.Words.{pair, listed, wordsOf, loadOf}
+use Rattle.packing.specs.declared.Pair.{Pair}
 use Rattle.spell.specs.Spell.{bondText}
 use Rattle.desk_atom.specs.Texts.{Reads, Spells, zeros, firstAtom, texted, atomD}
 use Rattle.export.specs.Given.{onAtom, onBond}
-use Rattle.report.specs.Report.{bad, telling, laidInto}
+use Rattle.desk_report.specs.Report.{bad, telling, laidInto}
 
 -- ---- reading
 -- a kind's words and a report

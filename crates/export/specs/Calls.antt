@@ -7,7 +7,7 @@ use Rattle.read.specs.Line.{lineOf}
 use Rattle.write.specs.Write as write
 use Rattle.write.specs.Order as order
 use Rattle.write.specs.Plain.{writePlain, orderPlain}
-use Rattle.report.specs.Report.{ofRead, ofWritten, laidInto}
+use Rattle.desk_report.specs.Report.{ofRead, ofWritten, laidInto}
 
 -- ---- the read call
 pub record ReadCells : Type 0 where

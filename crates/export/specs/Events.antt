@@ -8,15 +8,15 @@ use lib.Seq.{sets}
 use lib.Dec.{ltb, eqb}
 use Rattle.feature.specs.Pick.{pick}
 use Rattle.feature.specs.Bonds.{kindOf}
-use Rattle.record.specs.Words.{loadOf}
-use Rattle.graph.specs.State.{Bld, bld}
-use Rattle.graph.specs.declared.builder.Builder.{Builder}
-use Rattle.build.specs.Build.{zeros}
-use Rattle.builder.specs.Events.{startD, rootD, extendD, joinD, popD}
-use Rattle.builder.specs.Build.{Left, buildD}
+use Rattle.packing.specs.Words.{loadOf}
+use Rattle.builder.specs.State.{Bld, bld}
+use Rattle.builder.specs.declared.builder.Builder.{Builder}
+use Rattle.builder.specs.Build.{zeros}
+use Rattle.desk_builder.specs.Events.{startD, rootD, extendD, joinD, popD}
+use Rattle.desk_builder.specs.Build.{Left, buildD}
 use Rattle.export.specs.Given.{onAtom, onBond, onBuilder}
-use Rattle.report.specs.Report.{bad, ofEvent, ofLeft, laidInto}
-use Rattle.report.specs.State.{builderSize, builderIn, wordsOf}
+use Rattle.desk_report.specs.Report.{bad, ofEvent, ofLeft, laidInto}
+use Rattle.desk_report.specs.State.{builderSize, builderIn, wordsOf}
 
 -- every cell that is lent to an event
 pub record Cells : Type 0 where

@@ -3,17 +3,17 @@ use Rattle.feature.specs.declared.atom_kind.AtomKind.{AtomKind}
 use Rattle.feature.specs.declared.bond_kind.BondKind.{BondKind}
 use Rattle.feature.specs.declared.bond_kind.Coded.{Coded}
 use Rattle.feature.specs.declared.bond_kind.Coded.the-variants as coded
-use Rattle.record.specs.declared.Loaded.{Loaded}
-use Rattle.record.specs.declared.Loaded.the-variants as loaded
-use Rattle.graph.specs.declared.builder.Builder.{Builder}
+use Rattle.packing.specs.declared.Loaded.{Loaded}
+use Rattle.packing.specs.declared.Loaded.the-variants as loaded
+use Rattle.builder.specs.declared.builder.Builder.{Builder}
 use Rattle.writer.specs.declared.Writer.{Writer}
-use Rattle.pool.specs.declared.Pool.{Pool}
-use Rattle.report.specs.declared.state.AsBuilder.{AsBuilder}
-use Rattle.report.specs.declared.state.AsBuilder.the-variants as builder
-use Rattle.report.specs.declared.state.AsWriter.{AsWriter}
-use Rattle.report.specs.declared.state.AsWriter.the-variants as writer
-use Rattle.report.specs.declared.state.AsPool.{AsPool}
-use Rattle.report.specs.declared.state.AsPool.the-variants as pool
+use Rattle.join_pool.specs.declared.Pool.{Pool}
+use Rattle.desk_report.specs.declared.state.AsBuilder.{AsBuilder}
+use Rattle.desk_report.specs.declared.state.AsBuilder.the-variants as builder
+use Rattle.desk_report.specs.declared.state.AsWriter.{AsWriter}
+use Rattle.desk_report.specs.declared.state.AsWriter.the-variants as writer
+use Rattle.desk_report.specs.declared.state.AsPool.{AsPool}
+use Rattle.desk_report.specs.declared.state.AsPool.the-variants as pool
 
 unfoldable pub onAtom : {A : Type 0} → Loaded → A → (AtomKind → A) → A
 onAtom (loaded.Held k) none some = some k

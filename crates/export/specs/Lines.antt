@@ -8,18 +8,18 @@ use lib.Seq.{sets}
 use lib.Dec.{ltb}
 use Rattle.feature.specs.Kinds.{inRange}
 use Rattle.feature.specs.Bonds.{kindOf}
-use Rattle.record.specs.Words.{loadOf}
-use Rattle.graph.specs.Rings.{numbers}
+use Rattle.packing.specs.Words.{loadOf}
+use Rattle.builder.specs.Rings.{numbers}
 use Rattle.writer.specs.Line.{Event}
 use Rattle.writer.specs.Tables.{spoken}
-use Rattle.desk_lines.specs.Pieces.{stateIn, Left, eventD}
-use Rattle.desk_lines.specs.declared.Said.{Said}
-use Rattle.desk_lines.specs.declared.Said.the-variants.{Held, AtomRoom, OutRoom, NoPiece, Overpop, BadTable}
-use Rattle.report.specs.declared.state.AsWriter.{AsWriter}
-use Rattle.report.specs.declared.state.AsWriter.the-variants as writer
+use Rattle.desk_writer.specs.Pieces.{stateIn, Left, eventD}
+use Rattle.desk_writer.specs.declared.Said.{Said}
+use Rattle.desk_writer.specs.declared.Said.the-variants.{Held, AtomRoom, OutRoom, NoPiece, Overpop, BadTable}
+use Rattle.desk_report.specs.declared.state.AsWriter.{AsWriter}
+use Rattle.desk_report.specs.declared.state.AsWriter.the-variants as writer
 use Rattle.export.specs.Given.{onAtom, onBond, onWriter}
-use Rattle.report.specs.Report.{bad, telling, laidInto}
-use Rattle.report.specs.State.{writerIn}
+use Rattle.desk_report.specs.Report.{bad, telling, laidInto}
+use Rattle.desk_report.specs.State.{writerIn}
 
 -- every cell that is lent to an event
 pub record Cells : Type 0 where

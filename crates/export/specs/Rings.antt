@@ -3,14 +3,14 @@
 use Prim.Native.Nat.{ℕ}
 use mathlib.Core.List.{List}
 use lib.Seq.{sets}
-use Rattle.desk_rings.specs.Slots.{stateIn, Gives, hitD}
-use Rattle.desk_rings.specs.declared.Handed.{Handed}
-use Rattle.desk_rings.specs.declared.Handed.the-variants.{Number, RingNumbers, BadTable}
-use Rattle.report.specs.declared.state.AsPool.{AsPool}
-use Rattle.report.specs.declared.state.AsPool.the-variants as pool
+use Rattle.desk_pool.specs.Slots.{stateIn, Gives, hitD}
+use Rattle.desk_pool.specs.declared.Handed.{Handed}
+use Rattle.desk_pool.specs.declared.Handed.the-variants.{Number, RingNumbers, BadTable}
+use Rattle.desk_report.specs.declared.state.AsPool.{AsPool}
+use Rattle.desk_report.specs.declared.state.AsPool.the-variants as pool
 use Rattle.export.specs.Given.{onPool}
-use Rattle.report.specs.Report.{bad, telling, laidInto}
-use Rattle.report.specs.State.{poolIn}
+use Rattle.desk_report.specs.Report.{bad, telling, laidInto}
+use Rattle.desk_report.specs.State.{poolIn}
 
 -- every cell that is lent to a call
 pub record Cells : Type 0 where

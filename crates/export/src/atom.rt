@@ -4,23 +4,23 @@
 ghost use mathlib.Core.Path.{_≡_};
 ghost use lib.ListN.{length};
 ghost use lib.Seq.{sets};
-ghost use Rattle.record.specs.Words.{listed};
+ghost use Rattle.packing.specs.Words.{listed};
 ghost use Rattle.desk_atom.specs.Texts.{zeros, kindsIn, rnumD};
 ghost use Rattle.export.specs.Atom.{reading, kindIn, readX, spelling, told, atomX, bondX};
-use build::clear;
+use builder::build::clear;
 use desk_atom::Begins;
 use desk_atom::wipe;
+use desk_report::answer::lay;
+use desk_report::answer::of_begins;
+use desk_report::answer::of_spelt;
+use desk_report::answer::refuse;
 use feature::bond_kind::Coded;
 use feature::bond_kind::decode;
-use record::Loaded;
-use record::Pair;
-use record::kind;
-use record::poke;
-use record::words;
-use report::answer::lay;
-use report::answer::of_begins;
-use report::answer::of_spelt;
-use report::answer::refuse;
+use packing::Loaded;
+use packing::Pair;
+use packing::kind;
+use packing::poke;
+use packing::words;
 
 // The words of a kind.
 const KIND_WORDS: usize = 2;

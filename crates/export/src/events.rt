@@ -1,23 +1,23 @@
 // The builder's start, its events and its build, over tables, the words of a state and a report. Words that stand for no
 // state, no atom or no bond are answered 17. An event that is refused changes nothing but the report.
 ghost use mathlib.Core.Path.{_≡_};
-ghost use Rattle.report.specs.Report.{ofEvent, laidInto};
+ghost use Rattle.desk_report.specs.Report.{ofEvent, laidInto};
 ghost use Rattle.export.specs.Events.{cells, keptIn, startX, rootX, extendX, joinX, popX, made, buildX};
-use build::clear;
-use builder::calls;
+use builder::build::clear;
+use builder::builder::Builder;
+use desk_builder::calls;
+use desk_report::answer::lay;
+use desk_report::answer::of_built;
+use desk_report::answer::of_event;
+use desk_report::answer::refuse;
+use desk_report::state::AsBuilder;
+use desk_report::state::BUILDER_WORDS;
+use desk_report::state::builder_in;
+use desk_report::state::lay_builder;
 use feature::bond_kind::Coded;
 use feature::bond_kind::decode;
-use graph::builder::Builder;
-use record::Loaded;
-use record::kind;
-use report::answer::lay;
-use report::answer::of_built;
-use report::answer::of_event;
-use report::answer::refuse;
-use report::state::AsBuilder;
-use report::state::BUILDER_WORDS;
-use report::state::builder_in;
-use report::state::lay_builder;
+use packing::Loaded;
+use packing::kind;
 
 // The new state, where an event was accepted.
 fn keep_state(state: &mut [u64], b: Builder)

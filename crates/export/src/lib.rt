@@ -12,9 +12,9 @@ pub mod rings;
 ghost use mathlib.Core.Path.{_≡_};
 ghost use lib.ListN.{length};
 ghost use Rattle.export.specs.Calls.{readCells, readX, writeCells, writeX, orderCells, orderX};
-use report::answer::lay;
-use report::answer::of_read;
-use report::answer::of_written;
+use desk_report::answer::lay;
+use desk_report::answer::of_read;
+use desk_report::answer::of_written;
 
 // Reads a line. The report: the desk's number, and the values that it carries.
 #[no_mangle]

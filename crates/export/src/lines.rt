@@ -1,19 +1,19 @@
 // The writer's events, over an output, a table of starts, the words of a state and a report. Words that stand for no state, no
 // atom or no bond are answered 17. An event that is refused changes nothing but the report.
 ghost use mathlib.Core.Path.{_≡_};
-ghost use Rattle.report.specs.Report.{ofSaid, laidInto};
+ghost use Rattle.desk_report.specs.Report.{ofSaid, laidInto};
 ghost use Rattle.export.specs.Lines.{cells, heldBy, keptIn, rootX, extendX, joinX, popX};
-use desk_lines::Said;
+use desk_report::answer::lay;
+use desk_report::answer::of_said;
+use desk_report::answer::refuse;
+use desk_report::state::AsWriter;
+use desk_report::state::lay_writer;
+use desk_report::state::writer_in;
+use desk_writer::Said;
 use feature::bond_kind::Coded;
 use feature::bond_kind::decode;
-use record::Loaded;
-use record::kind;
-use report::answer::lay;
-use report::answer::of_said;
-use report::answer::refuse;
-use report::state::AsWriter;
-use report::state::lay_writer;
-use report::state::writer_in;
+use packing::Loaded;
+use packing::kind;
 
 // The new state, where an event was accepted.
 fn held_by(said: Said) -> AsWriter
@@ -71,7 +71,7 @@ pub extern "C" fn mavisdrok_writer_root(
         refuse(report);
         return;
     };
-    keep(state, report, desk_lines::root(out, starts, w, k));
+    keep(state, report, desk_writer::root(out, starts, w, k));
 }
 
 // An atom bonded to the one before.
@@ -103,7 +103,7 @@ pub extern "C" fn mavisdrok_writer_extend(
         refuse(report);
         return;
     };
-    keep(state, report, desk_lines::extend(out, starts, w, k, t));
+    keep(state, report, desk_writer::extend(out, starts, w, k, t));
 }
 
 // A ring number at the last piece.
@@ -129,7 +129,7 @@ pub extern "C" fn mavisdrok_writer_join(
         refuse(report);
         return;
     };
-    keep(state, report, desk_lines::join(out, starts, w, k, number));
+    keep(state, report, desk_writer::join(out, starts, w, k, number));
 }
 
 // The last pieces, so many, put in brackets onto the piece before.
@@ -149,5 +149,5 @@ pub extern "C" fn mavisdrok_writer_pop(
         refuse(report);
         return;
     };
-    keep(state, report, desk_lines::pop(out, starts, w, n));
+    keep(state, report, desk_writer::pop(out, starts, w, n));
 }

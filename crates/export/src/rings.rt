@@ -2,13 +2,13 @@
 // 17. A call that is refused changes nothing but the report.
 ghost use mathlib.Core.Path.{_≡_};
 ghost use Rattle.export.specs.Rings.{cells, heldBy, keptIn, hitX};
-use desk_rings::Handed;
-use report::answer::lay;
-use report::answer::of_handed;
-use report::answer::refuse;
-use report::state::AsPool;
-use report::state::lay_pool;
-use report::state::pool_in;
+use desk_pool::Handed;
+use desk_report::answer::lay;
+use desk_report::answer::of_handed;
+use desk_report::answer::refuse;
+use desk_report::state::AsPool;
+use desk_report::state::lay_pool;
+use desk_report::state::pool_in;
 
 // The new state, where a number was handed out or closed.
 fn held_by(handed: Handed) -> AsPool
@@ -48,7 +48,7 @@ pub extern "C" fn mavisdrok_pool_hit(
         refuse(report);
         return;
     };
-    let handed = desk_rings::hit(pairs, p, a, b);
+    let handed = desk_pool::hit(pairs, p, a, b);
     keep_state(state, handed);
     lay(report, of_handed(handed, a, b));
 }

@@ -11,15 +11,15 @@ use Rattle.feature.specs.Pick.{pick, both}
 use Rattle.feature.specs.Text.{byte}
 use Rattle.feature.specs.Kinds.{noNumber, th1, th2}
 use Rattle.feature.specs.Kinds as kinds
-use Rattle.scan.specs.Scan.{part, peekAt, digitAt, digitStep, numberAt, missingAt, symbolAt, symbolOf, shortAt, lateAt, longAt, alleneAt, octahedralAt, squareAt, trigonalAt, configurationAt, hydrogensAt, fifteenAt, signedAt, chargeAt, mapAt, closeAt, afterMap, afterCharge, afterHydrogens, afterConfiguration, configured, afterSymbol}
-use Rattle.scan.specs.Scan as scan
-use Rattle.scan.specs.declared.scanner.Part as scanned
-use Rattle.scan.specs.declared.scanner.Step.{Step}
-use Rattle.scan.specs.declared.scanner.Step.the-variants.{Got, Stop}
-use Rattle.scan.specs.declared.scanner.Missing.{Missing}
-use Rattle.scan.specs.declared.scanner.Missing.the-variants.{EndOfLine, Character}
-use Rattle.scan.specs.declared.scanner.Found.{Found}
-use Rattle.scan.specs.declared.scanner.Found.the-variants.{Atom, Lacks}
+use Rattle.read_token.specs.Scan.{part, peekAt, digitAt, digitStep, numberAt, missingAt, symbolAt, symbolOf, shortAt, lateAt, longAt, alleneAt, octahedralAt, squareAt, trigonalAt, configurationAt, hydrogensAt, fifteenAt, signedAt, chargeAt, mapAt, closeAt, afterMap, afterCharge, afterHydrogens, afterConfiguration, configured, afterSymbol}
+use Rattle.read_token.specs.Scan as scan
+use Rattle.read_token.specs.declared.scanner.Part as scanned
+use Rattle.read_token.specs.declared.scanner.Step.{Step}
+use Rattle.read_token.specs.declared.scanner.Step.the-variants.{Got, Stop}
+use Rattle.read_token.specs.declared.scanner.Missing.{Missing}
+use Rattle.read_token.specs.declared.scanner.Missing.the-variants.{EndOfLine, Character}
+use Rattle.read_token.specs.declared.scanner.Found.{Found}
+use Rattle.read_token.specs.declared.scanner.Found.the-variants.{Atom, Lacks}
 use Rattle.grammar.specs.Names.{has1, has2}
 use Rattle.grammar.specs.Grammar.{Digit, d0, d1, d2, d3, d4, d5, d6, d7, d8, d9, value, digitS, worth, Symbol, short, long, names, symbolK, Isotope, isotopeK, Chiral, flat, at, atat, code1, code2, Class, TH, AL, SP, TB, OH, most, valid1, valid2, class1, base, chiralK, Hcount, bald, H, Hn, hcountK, Head, head, Sign, plus, minus, signS, okay1, okay2, Charge, neutral, sign, twice, num1, num2, signed, chargeK, Map, nomap, m1, m2, m3, mapK, bracketK, atomK}
 use Rattle.grammar.specs.Grammar as grammar

@@ -8,16 +8,16 @@ use mathlib.Core.Option.{none}
 use native.Mathlib.Omega.{arith}
 use lib.ListN.{length}
 use Rattle.feature.specs.Text.{byte, bytes}
-use Rattle.scan.specs.declared.scanner.Missing.the-variants.{EndOfLine, Character}
-use Rattle.reader.specs.Events.{Miss}
-use Rattle.reader.specs.Parse.{parse}
+use Rattle.read_token.specs.declared.scanner.Missing.the-variants.{EndOfLine, Character}
+use Rattle.read_line.specs.Events.{Miss}
+use Rattle.read_line.specs.Parse.{parse}
 use Rattle.grammar.specs.Names.{table, without, has1, has2}
 use Rattle.grammar.specs.Grammar.{link, meaning, tells, enter, atomK, bracketK, symbolK, Digit, d0, d1, d2, d3, d6, d9, value, digitS, organics, bare1, bare2, organicS, names, known, short, long, symbolS, iso0, isotopeS, flat, Class, TB, OH, most, class1, class2, valid2, chiralS, bald, H, hcountS, head, headS, Sign, plus, minus, signS, neutral, chargeS, okay1, okay2, nomap, mapS, organic, bracket, atomS, ring1, rnumS, bond?S, elided, linkS, Line, start, ring, branch, spell}
 use Rattle.grammar.proofs.Verdict.{read-tree}
 use Rattle.grammar.proofs.First.{after-line}
 use Rattle.grammar.proofs.Chains.{same-last}
 use Rattle.grammar.proofs.Late.{late, latePart, eaten-late}
-use Rattle.graph.specs.Limits.{branchLimit}
+use Rattle.builder.specs.Limits.{branchLimit}
 use Rattle.grammar.specs.Lines.{Fits, Eaten, Late, Ends, Bytes, Refused}
 use Rattle.grammar.specs.OpenSmiles.{arrangements, openOrganics, openNames, OpenOrganic, OpenSymbol, uncounted, flat′, pair′, chiralS′, paired, SmallChiral, bracket′, neutral′, digit′, digits′, no-rings, Chain, first, branched, no-branches, numberS, chargeS′, classS′, atomS′, ringsS, chainS, Small, SmallCharge, SmallAtom, Strict, StrictAtom, NoBranch, Terminator, space, tab, feed, return, terminatorS}
 use Rattle.grammar.proofs.Machine.{top, ending, digitOf, bondOf, begins, leads, bodyStep}

@@ -9,10 +9,10 @@ use native.Mathlib.Omega.{arith}
 use lib.ListN.{length}
 use lib.Dec.{leb}
 use borrow.Author.Tests.{leb-true, leb-false}
-use Rattle.scan.specs.declared.scanner.Missing.the-variants.{Character}
-use Rattle.graph.specs.Limits.{branchLimit}
-use Rattle.reader.specs.Events.{Miss}
-use Rattle.reader.specs.Parse.{parse}
+use Rattle.read_token.specs.declared.scanner.Missing.the-variants.{Character}
+use Rattle.builder.specs.Limits.{branchLimit}
+use Rattle.read_line.specs.Events.{Miss}
+use Rattle.read_line.specs.Parse.{parse}
 use Rattle.grammar.specs.Grammar.{Line, spell}
 use Rattle.grammar.specs.Lines.{Bytes, Fits, Viable, Refused, Late, TooDeep, Ends, Nests}
 use Rattle.grammar.proofs.Reading.{viable-cut}

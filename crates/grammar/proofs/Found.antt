@@ -11,10 +11,10 @@ use Rattle.feature.specs.Pick.{pick}
 use Rattle.feature.specs.Text.{byte}
 use Rattle.feature.specs.declared.atom_kind.AtomKind.{AtomKind}
 use Rattle.feature.specs.declared.atom_kind.AtomKind.the-variants.{Star, Aliphatic, Aromatic}
-use Rattle.scan.specs.Scan.{part, peekAt, digitStep, numberAt, missingAt, isotopeAt, afterIsotope, insideAt, bracketAt, organicAt, optionalAt, wantedAt, otherAt, orElse, atomAt, starAt, aromaticOf, aliphaticOf}
-use Rattle.scan.specs.declared.scanner.Missing.the-variants.{Character}
-use Rattle.scan.specs.declared.scanner.Found.{Found}
-use Rattle.scan.specs.declared.scanner.Found.the-variants.{Atom, Nothing, Lacks}
+use Rattle.read_token.specs.Scan.{part, peekAt, digitStep, numberAt, missingAt, isotopeAt, afterIsotope, insideAt, bracketAt, organicAt, optionalAt, wantedAt, otherAt, orElse, atomAt, starAt, aromaticOf, aliphaticOf}
+use Rattle.read_token.specs.declared.scanner.Missing.the-variants.{Character}
+use Rattle.read_token.specs.declared.scanner.Found.{Found}
+use Rattle.read_token.specs.declared.scanner.Found.the-variants.{Atom, Nothing, Lacks}
 use Rattle.grammar.specs.Names.{has1, has2, place1, place2}
 use Rattle.grammar.specs.Grammar.{Digit, worth, Organic, bare1, bare2, organics, aliphatics, aromatics, organicK, iso0, iso1, iso2, iso3, isotopeK, organic, atomK}
 use Rattle.grammar.proofs.Machine.{leads, on, digitOf, bare, whole, isotope, begins, grow, toSymbol, partStep, partEnd}

@@ -15,9 +15,9 @@ use Rattle.feature.specs.declared.bond_kind.BondKind.{BondKind}
 use Rattle.feature.specs.declared.bond_kind.BondKind.the-variants as kind
 use Rattle.feature.specs.declared.bond_kind.Coded.the-variants.{Kind}
 use Rattle.feature.proofs.Table.{at, every}
-use Rattle.scan.specs.Scan.{peekAt, missingAt}
-use Rattle.scan.specs.Scan as scan
-use Rattle.scan.specs.declared.scanner.Missing.the-variants.{EndOfLine, Character}
+use Rattle.read_token.specs.Scan.{peekAt, missingAt}
+use Rattle.read_token.specs.Scan as scan
+use Rattle.read_token.specs.declared.scanner.Missing.the-variants.{EndOfLine, Character}
 use Rattle.grammar.specs.Grammar.{Digit, value, bondK, bond?K}
 use Rattle.grammar.specs.Lines.{Bytes}
 use Rattle.grammar.proofs.Machine.{digitOf, bondOf}

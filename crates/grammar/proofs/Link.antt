@@ -14,19 +14,19 @@ use Rattle.feature.specs.Pick.{pick, both}
 use Rattle.feature.specs.Text.{byte}
 use Rattle.feature.specs.declared.bond_kind.BondKind.{BondKind}
 use Rattle.feature.specs.declared.bond_kind.BondKind.the-variants as kind
-use Rattle.scan.specs.Scan.{digitAt, missingAt, bondAt, markWidth, rnumAt, percentAt}
-use Rattle.scan.specs.Scan as scan
-use Rattle.scan.specs.declared.scanner.Missing.{Missing}
-use Rattle.scan.specs.declared.scanner.Missing.the-variants.{EndOfLine, Character}
-use Rattle.scan.specs.declared.scanner.Found.the-variants as found
-use Rattle.scan.specs.declared.read_rnum.Ring.{Ring}
-use Rattle.scan.specs.declared.read_rnum.Ring.the-variants as rnum
-use Rattle.graph.specs.Limits.{branchLimit}
-use Rattle.reader.specs.declared.lead.Lead.{Lead}
-use Rattle.reader.specs.declared.lead.Lead.the-variants as lead
-use Rattle.reader.specs.declared.lead.Led.{Led}
-use Rattle.reader.specs.Events.{Event, Enter, Join, Pop, Miss, Nest}
-use Rattle.reader.specs.Parse.{Rest, ledAt, bodyOf, bodyAt, missP, foundP, atomP, ringP, unionBy, unionP, unitBy, unitP, lineP, closeP, branchP, bodies, endP, parse}
+use Rattle.read_token.specs.Scan.{digitAt, missingAt, bondAt, markWidth, rnumAt, percentAt}
+use Rattle.read_token.specs.Scan as scan
+use Rattle.read_token.specs.declared.scanner.Missing.{Missing}
+use Rattle.read_token.specs.declared.scanner.Missing.the-variants.{EndOfLine, Character}
+use Rattle.read_token.specs.declared.scanner.Found.the-variants as found
+use Rattle.read_token.specs.declared.read_rnum.Ring.{Ring}
+use Rattle.read_token.specs.declared.read_rnum.Ring.the-variants as rnum
+use Rattle.builder.specs.Limits.{branchLimit}
+use Rattle.read_line.specs.declared.lead.Lead.{Lead}
+use Rattle.read_line.specs.declared.lead.Lead.the-variants as lead
+use Rattle.read_line.specs.declared.lead.Led.{Led}
+use Rattle.read_line.specs.Events.{Event, Enter, Join, Pop, Miss, Nest}
+use Rattle.read_line.specs.Parse.{Rest, ledAt, bodyOf, bodyAt, missP, foundP, atomP, ringP, unionBy, unionP, unitBy, unitP, lineP, closeP, branchP, bodies, endP, parse}
 use Rattle.grammar.specs.Names.{has1}
 use Rattle.grammar.specs.Grammar.{Digit, d0, d1, d2, d3, d4, d5, d6, d7, d8, d9, value, digitS, Bond, single, double, triple, quadruple, aromatic, up, down, bondS, bondK, bond?S, bond?K, organics, Atom, atomS, atomK, Rnum, ring1, ring2, rnumS, rnumK, Link, elided, bond, dot, linkS, linkK, Line, ring, branch, spell, enter, join, atoms, tells}
 use Rattle.grammar.proofs.Machine.{leads, on, digitOf, bondOf, Part, bare, whole, isotope, symbol, chiral1, chiral2, family, class, coded1, coded2, hcount, hcountN, signed, doubled, charge1, charge2, colon, map1, map2, map3, closed, begins, partStep, partEnd, Around, top, inside, Where, begin, after, around, put, State, want, inAtom, body, percent, percent1, fromPart, shut, bodyStep, wantStep, atomStep, step, topmost, atomEnd, ending}

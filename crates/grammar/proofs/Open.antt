@@ -5,9 +5,9 @@ use mathlib.Core.Path.{_≡_, refl, sym, ap, _∙_}
 use mathlib.Core.List.{List, [], _∷_, _++_, append-assoc, append-nil}
 use native.Mathlib.Omega.{arith}
 use lib.ListN.{length}
-use Rattle.graph.specs.Limits.{branchLimit}
-use Rattle.reader.specs.Events.{Event, Enter}
-use Rattle.reader.specs.Parse.{parse}
+use Rattle.builder.specs.Limits.{branchLimit}
+use Rattle.read_line.specs.Events.{Event, Enter}
+use Rattle.read_line.specs.Parse.{parse}
 use Rattle.grammar.specs.Grammar.{Digit, flat, code1, code2, valid1, valid2, chiralK, okay1, okay2, neutral, num1, num2, isotopeK, mapK, chargeK, bracketK, Atom, atomS, atomK, Link, linkS, linkK, dot, Line, start, link, spell, enter, atoms, tells, meaning}
 use Rattle.grammar.specs.Lines.{Fits, Clean, Refused}
 use Rattle.grammar.specs.OpenSmiles.{Chiral′, flat′, at′, atat′, code1′, code2′, pair′, chiralK′, SmallChiral, Charge′, neutral′, sign′, twice′, digit′, digits′, Atom′, organic′, bracket′, Rings, no-rings, and-ring, Chain, first, then, Branched, branched, Branches, no-branches, and-branch, chainS, numberK, chargeK′, atomK′, along, ringsE, chainE, branchedE, branchesE, says, SmallCharge, SmallAtom, Small, SmallBranched, SmallBranches, FitsChain, FitsBranched, FitsBranches, Strict}

@@ -13,7 +13,7 @@ use Rattle.feature.specs.Text.{byte, letter, oneLetter, twoLetters}
 use Rattle.feature.specs.Names.{symbols, placeOf, begins}
 use Rattle.feature.specs.Names as feature
 use Rattle.feature.proofs.Table.{both-left, both-right}
-use Rattle.scan.specs.Scan.{slip}
+use Rattle.read_token.specs.Scan.{slip}
 use Rattle.grammar.specs.Names.{Name, one, two, has1, has2}
 use Rattle.grammar.specs.Grammar.{names, known}
 use Rattle.grammar.proofs.Machine.{leads}

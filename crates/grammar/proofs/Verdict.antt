@@ -10,11 +10,11 @@ use lib.ListN.{length, length-append}
 use lib.Dec.{ltb}
 use borrow.Author.Tests.{ltb-true, lt-ltb}
 use Rattle.feature.specs.Pick.{pick, both}
-use Rattle.scan.specs.declared.scanner.Missing.{Missing}
-use Rattle.scan.specs.declared.scanner.Missing.the-variants.{EndOfLine, Character}
-use Rattle.graph.specs.Limits.{branchLimit}
-use Rattle.reader.specs.Events.{Event, Enter, Join, Pop, Miss, Nest}
-use Rattle.reader.specs.Parse.{parse}
+use Rattle.read_token.specs.declared.scanner.Missing.{Missing}
+use Rattle.read_token.specs.declared.scanner.Missing.the-variants.{EndOfLine, Character}
+use Rattle.builder.specs.Limits.{branchLimit}
+use Rattle.read_line.specs.Events.{Event, Enter, Join, Pop, Miss, Nest}
+use Rattle.read_line.specs.Parse.{parse}
 use Rattle.grammar.specs.Grammar.{Atom, Link, dot, Line, start, link, ring, branch, spell, enter, join, tells, meaning}
 use Rattle.grammar.specs.Lines.{Bytes, Fits, Spelled, Viable, Refused, Eaten, Late, lateMissing, TooDeep, Verdict, reads, ends, refuses, refusesLate, nests, Clean, Ends, Nests}
 use Rattle.grammar.proofs.Machine.{Around, top, inside, begin, around, put, State, want, inAtom, body, percent, percent1, step, topmost, atomEnd, ending, partEnd, character, finished}

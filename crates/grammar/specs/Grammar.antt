@@ -17,9 +17,9 @@ use Rattle.feature.specs.declared.atom_kind.AtomKind.{AtomKind}
 use Rattle.feature.specs.declared.atom_kind.AtomKind.the-variants.{Star, Aliphatic, Aromatic, Bracket}
 use Rattle.feature.specs.declared.bond_kind.BondKind.{BondKind}
 use Rattle.feature.specs.declared.bond_kind.BondKind.the-variants as kind
-use Rattle.reader.specs.declared.lead.Lead.{Lead}
-use Rattle.reader.specs.declared.lead.Lead.the-variants as lead
-use Rattle.reader.specs.Events.{Event, Enter, Join, Pop}
+use Rattle.read_line.specs.declared.lead.Lead.{Lead}
+use Rattle.read_line.specs.declared.lead.Lead.the-variants as lead
+use Rattle.read_line.specs.Events.{Event, Enter, Join, Pop}
 use Rattle.grammar.specs.Names.{Name, one, table, has1, has2, place1, place2}
 
 -- ---- SYNTAX

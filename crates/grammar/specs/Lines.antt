@@ -5,11 +5,11 @@ use mathlib.Core.Path.{_≡_}
 use mathlib.Core.List.{List, [], _∷_, _++_}
 use lib.ListN.{length}
 use Rattle.feature.specs.Text.{byte, bytes}
-use Rattle.scan.specs.declared.scanner.Missing.{Missing}
-use Rattle.scan.specs.declared.scanner.Missing.the-variants.{EndOfLine, Character}
-use Rattle.graph.specs.Limits.{branchLimit}
-use Rattle.reader.specs.Events.{Event, Enter, Join, Pop, Miss, Nest}
-use Rattle.reader.specs.Parse.{parse}
+use Rattle.read_token.specs.declared.scanner.Missing.{Missing}
+use Rattle.read_token.specs.declared.scanner.Missing.the-variants.{EndOfLine, Character}
+use Rattle.builder.specs.Limits.{branchLimit}
+use Rattle.read_line.specs.Events.{Event, Enter, Join, Pop, Miss, Nest}
+use Rattle.read_line.specs.Parse.{parse}
 use Rattle.grammar.specs.Grammar.{Line, start, link, ring, branch, spell, meaning}
 
 -- A text of bytes.

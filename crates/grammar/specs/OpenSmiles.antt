@@ -15,7 +15,7 @@ use Rattle.feature.specs.Kinds.{noNumber, noCharge, noConfiguration, th1, th2}
 use Rattle.feature.specs.Kinds as kinds
 use Rattle.feature.specs.declared.atom_kind.AtomKind.{AtomKind}
 use Rattle.feature.specs.declared.atom_kind.AtomKind.the-variants.{Bracket}
-use Rattle.reader.specs.Events.{Event, Enter, Pop}
+use Rattle.read_line.specs.Events.{Event, Enter, Pop}
 use Rattle.grammar.specs.Names.{Name, table, has1, has2}
 use Rattle.grammar.specs.Grammar.{Digit, value, digitS, worth, Bond, bond?S, Organic, bare1, bare2, organicS, organicK, Symbol, short, long, symbolS, symbolK, Class, TH, AL, SP, TB, OH, class1, class2, valid1, valid2, base, Hcount, bald, H, Hn, hcountS, hcountK, head, Sign, signS, signed, okay1, okay2, Atom, organic, bracket, Rnum, rnumS, Link, linkS, linkK, Line, start, link, ring, branch, join, dot}
 

@@ -12,14 +12,14 @@ use crate::answer::print_answer;
 use crate::command::Command;
 use crate::output::make_room;
 use crate::output::pass_on;
-use form::byte::NOWHERE;
-use form::byte::after;
-use form::byte::put;
-use form::byte::put_word;
-use form::number;
-use graph::limits::TEXT;
-use show::words::print_caret;
-use show::words::print_shown;
+use answer_text::words::print_caret;
+use answer_text::words::print_shown;
+use builder::limits::TEXT;
+use oracle_form::byte::NOWHERE;
+use oracle_form::byte::after;
+use oracle_form::byte::put;
+use oracle_form::byte::put_word;
+use oracle_form::number;
 
 const TAB: u8 = b'\t';
 

@@ -2,8 +2,8 @@
 ghost use mathlib.Core.Path.{_≡_};
 ghost use Prim.Native.Nat.{_≤_};
 ghost use lib.ListN.{length};
-use form::byte::put;
 use libc::STDOUT_FILENO;
+use oracle_form::byte::put;
 
 // Writes what has gathered up to a place, and answers the place from which it gathers anew.
 pub fn flush(out: &[u8], at: usize) -> usize

@@ -8,15 +8,15 @@ use crate::line::open;
 use crate::line::start;
 use crate::line::step;
 use crate::output::flush;
+use builder::limits::ATOMS;
+use builder::limits::BONDS;
+use builder::limits::TEXT;
 use check::same;
-use graph::limits::ATOMS;
-use graph::limits::BONDS;
-use graph::limits::TEXT;
 use io::print_decimal;
 use libc::STDERR_FILENO;
 use libc::STDIN_FILENO;
-use record::ATOM_WORDS;
-use record::BOND_WORDS;
+use packing::ATOM_WORDS;
+use packing::BOND_WORDS;
 
 // The words of tables for the largest graph.
 const ATOM_TABLE: usize = ATOMS * ATOM_WORDS;

@@ -10,11 +10,11 @@ use lib.Dec.{ltb}
 use lib.ListN.{length}
 use borrow.Author.Tests.{eq-eqb, ne-eqb, lt-ltb, le-ltb, ltb-true, ltb-false}
 use Rattle.feature.specs.Pick.{pick}
-use Rattle.graph.specs.Limits.{textLimit}
-use Rattle.scan.specs.declared.scanner.Missing.the-variants as missing
-use Rattle.reader.specs.Events.{Event, Enter, Join, Pop, Miss, Nest}
-use Rattle.reader.specs.Parse.{parse}
-use Rattle.sketch.specs.Sketch.{Node, Held, Failure, None, Failed, Sketch, numberOf, countOf, firstOpenS, ringsSay, saysS, finishS, sketchOf, atomTable, bondTable, padded, leftS}
+use Rattle.builder.specs.Limits.{textLimit}
+use Rattle.read_token.specs.declared.scanner.Missing.the-variants as missing
+use Rattle.read_line.specs.Events.{Event, Enter, Join, Pop, Miss, Nest}
+use Rattle.read_line.specs.Parse.{parse}
+use Rattle.builder_meaning.specs.Sketch.{Node, Held, Failure, None, Failed, Sketch, numberOf, countOf, firstOpenS, ringsSay, saysS, finishS, sketchOf, atomTable, bondTable, padded, leftS}
 use Rattle.read.specs.declared.Answer.{Answer}
 use Rattle.read.specs.declared.Answer.the-variants as answer
 use Rattle.read.specs.Read.{Said, said, refusalOf, builtAnswer}

@@ -10,10 +10,10 @@ use native.Mathlib.Omega.{arith}
 use lib.ListN.{length, length-append}
 use Rattle.feature.specs.Pick.{pick}
 use Rattle.feature.specs.Text.{byte}
-use Rattle.scan.specs.declared.scanner.Missing.{Missing}
-use Rattle.graph.specs.Limits.{branchLimit}
-use Rattle.reader.specs.Events.{Event, Enter, Join, Pop, Miss, Nest}
-use Rattle.reader.specs.Parse.{parse}
+use Rattle.read_token.specs.declared.scanner.Missing.{Missing}
+use Rattle.builder.specs.Limits.{branchLimit}
+use Rattle.read_line.specs.Events.{Event, Enter, Join, Pop, Miss, Nest}
+use Rattle.read_line.specs.Parse.{parse}
 use Rattle.grammar.specs.Names.{has1}
 use Rattle.grammar.specs.Grammar.{d0, organics, bare1, Atom, organic, Line, ring, ring2, branch, spell, atomS, rnumS, digitS}
 use Rattle.grammar.specs.Lines.{Bytes, Fits, TooDeep, Clean, Ends}

@@ -9,10 +9,10 @@ use lib.ListN.{length}
 use Rattle.feature.specs.declared.atom_kind.AtomKind.{AtomKind}
 use Rattle.feature.specs.declared.atom_kind.AtomKind.the-variants.{Star}
 use Rattle.feature.specs.declared.bond_kind.BondKind.{BondKind}
-use Rattle.reader.specs.declared.lead.Lead.{Lead}
-use Rattle.reader.specs.declared.lead.Lead.the-variants.{Dot, Bond}
-use Rattle.reader.specs.Events.{Event, Enter, Join, Pop, Miss, Nest}
-use Rattle.sketch.specs.Sketch.{Edge, Node, Held, node, upd, edgesAt, addEdge, fill, lookup, firstOpenS}
+use Rattle.read_line.specs.declared.lead.Lead.{Lead}
+use Rattle.read_line.specs.declared.lead.Lead.the-variants.{Dot, Bond}
+use Rattle.read_line.specs.Events.{Event, Enter, Join, Pop, Miss, Nest}
+use Rattle.builder_meaning.specs.Sketch.{Edge, Node, Held, node, upd, edgesAt, addEdge, fill, lookup, firstOpenS}
 use Rattle.grammar.specs.OpenSmiles.{Chain, says}
 use Rattle.opensmiles_laws.specs.Molecule.{Molecule, molecule, placed, closed, ringed, numbered, asWritten, asHeld, told, next, tellAll, moleculeOf, neighbours, kinds, kindTold, kindsTold, Allowed, Meant, HeldFor}
 

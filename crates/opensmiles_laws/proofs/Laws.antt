@@ -6,12 +6,12 @@ use mathlib.Core.Option.{Option}
 use mathlib.Core.Logic.{_⊎_, inl, inr}
 use native.Mathlib.Omega.{arith}
 use lib.ListN.{length}
-use Rattle.graph.specs.Limits.{textLimit}
-use Rattle.scan.specs.declared.scanner.Missing.{Missing}
-use Rattle.scan.specs.declared.scanner.Missing.the-variants as missing
-use Rattle.reader.specs.Events.{Event, Enter, Join, Pop, Miss, Nest}
-use Rattle.reader.specs.Parse.{parse}
-use Rattle.sketch.specs.Sketch.{Node, countOf}
+use Rattle.builder.specs.Limits.{textLimit}
+use Rattle.read_token.specs.declared.scanner.Missing.{Missing}
+use Rattle.read_token.specs.declared.scanner.Missing.the-variants as missing
+use Rattle.read_line.specs.Events.{Event, Enter, Join, Pop, Miss, Nest}
+use Rattle.read_line.specs.Parse.{parse}
+use Rattle.builder_meaning.specs.Sketch.{Node, countOf}
 use Rattle.read.specs.declared.Answer.{Answer}
 use Rattle.read.specs.declared.Answer.the-variants as answer
 use Rattle.read.specs.Read.{Said}

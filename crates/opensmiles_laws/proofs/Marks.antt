@@ -14,9 +14,9 @@ use Rattle.feature.specs.declared.atom_kind.AtomKind.the-variants.{Star, Alipha
 use Rattle.feature.specs.declared.atom_kind.Inverted.{Inverted}
 use Rattle.feature.specs.declared.atom_kind.Inverted.the-variants.{Turned, Refused}
 use Rattle.feature.specs.declared.bond_kind.BondKind.{BondKind}
-use Rattle.reader.specs.declared.lead.Lead.the-variants.{Dot, Bond}
-use Rattle.reader.specs.Events.{Event, Enter, Join, Pop, Miss, Nest}
-use Rattle.sketch.specs.Sketch.{countOf}
+use Rattle.read_line.specs.declared.lead.Lead.the-variants.{Dot, Bond}
+use Rattle.read_line.specs.Events.{Event, Enter, Join, Pop, Miss, Nest}
+use Rattle.builder_meaning.specs.Sketch.{countOf}
 use Rattle.read.specs.declared.Answer.{Answer}
 use Rattle.read.specs.declared.Answer.the-variants as answer
 use Rattle.opensmiles_laws.specs.Molecule.{Molecule, asHeld, told}

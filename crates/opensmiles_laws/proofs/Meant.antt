@@ -9,10 +9,10 @@ use native.Mathlib.Omega.{arith}
 use lib.Dec.{ltb}
 use lib.ListN.{length}
 use borrow.Author.Tests.{ltb-true, ltb-false}
-use Rattle.graph.specs.Limits.{textLimit, branchLimit}
-use Rattle.reader.specs.Events.{Event, Nest}
-use Rattle.reader.specs.Parse.{parse}
-use Rattle.sketch.specs.Sketch.{Edge, Node, countOf, firstOpenS, sketchOf}
+use Rattle.builder.specs.Limits.{textLimit, branchLimit}
+use Rattle.read_line.specs.Events.{Event, Nest}
+use Rattle.read_line.specs.Parse.{parse}
+use Rattle.builder_meaning.specs.Sketch.{Edge, Node, countOf, firstOpenS, sketchOf}
 use Rattle.read.specs.declared.Answer.{Answer}
 use Rattle.read.specs.declared.Answer.the-variants as answer
 use Rattle.read.specs.Line.{refusing, lineOf}

@@ -10,7 +10,7 @@ use native.Mathlib.Omega.{arith}
 use lib.Dec.{T, ltb, ltb→lt}
 use lib.ListN.{length, length-append}
 use Rattle.feature.specs.Text.{byte}
-use Rattle.reader.specs.Events.{Event, Pop}
+use Rattle.read_line.specs.Events.{Event, Pop}
 use Rattle.grammar.specs.Grammar.{Digit, d0, d1, d2, d3, d4, d5, d6, d7, d8, d9, digitS, Bond, single, double, triple, quadruple, aromatic, up, down, bondS, Organic, bare1, bare2, organics, organicS, Symbol, short, long, names, known, symbolS, Isotope, iso0, iso1, iso2, iso3, isotopeS, Chiral, flat, at, atat, code1, code2, Class, TH, AL, SP, TB, OH, class1, class2, chiralS, Hcount, bald, H, Hn, hcountS, Head, head, headS, Sign, plus, minus, signS, Charge, neutral, sign, twice, num1, num2, chargeS, Map, nomap, m1, m2, m3, mapS, Atom, organic, bracket, atomS, Rnum, ring1, ring2, rnumS, bond?S, Link, elided, bond, dot, linkS, Line, start, link, ring, branch, spell, enter, join, atoms, tells, meaning}
 use Rattle.grammar.specs.Lines.{opening}
 use Rattle.grammar.proofs.Spelling.{allOf, has1-all, has2-all}

@@ -12,12 +12,12 @@ use lib.ListN.{length, drop, length-append}
 use borrow.Author.Tests.{ltb-true, ltb-false, leb-true, leb-false}
 use Rattle.feature.specs.declared.atom_kind.AtomKind.{AtomKind}
 use Rattle.feature.specs.declared.bond_kind.BondKind.{BondKind}
-use Rattle.reader.specs.declared.lead.Lead.{Lead}
-use Rattle.reader.specs.declared.lead.Lead.the-variants.{Dot, Bond}
-use Rattle.reader.specs.Events.{Event, Enter, Join, Pop, Miss, Nest}
+use Rattle.read_line.specs.declared.lead.Lead.{Lead}
+use Rattle.read_line.specs.declared.lead.Lead.the-variants.{Dot, Bond}
+use Rattle.read_line.specs.Events.{Event, Enter, Join, Pop, Miss, Nest}
 use Rattle.feature.specs.Bonds.{reverseOf}
-use Rattle.sketch.specs.Sketch.{To, Node, Held, edge, node, countOf, upd, lookup, addEdge, fill}
-use Rattle.sketch.proofs.Rows.{upd-length, count-append, count-add, count-fill}
+use Rattle.builder_meaning.specs.Sketch.{To, Node, Held, edge, node, countOf, upd, lookup, addEdge, fill}
+use Rattle.builder_meaning.proofs.Rows.{upd-length, count-append, count-add, count-fill}
 use Rattle.read.specs.declared.Answer.{Answer}
 use Rattle.read.specs.declared.Answer.the-variants as answer
 use Rattle.opensmiles_laws.specs.Molecule.{Molecule, placed, closed, ringed, numbered, asHeld, told, next, tellAll, moleculeOf}

@@ -7,11 +7,11 @@ use mathlib.Core.Bool.{Bool, true, false}
 use mathlib.Core.Logic.{_⊎_, inl, inr}
 use native.Mathlib.Omega.{arith}
 use lib.ListN.{length}
-use Rattle.reader.specs.Events.{Event, Enter, Join, Pop, Miss, Nest}
-use Rattle.scan.specs.declared.scanner.Missing.the-variants as missing
-use Rattle.reader.specs.Parse.{parse}
+use Rattle.read_line.specs.Events.{Event, Enter, Join, Pop, Miss, Nest}
+use Rattle.read_token.specs.declared.scanner.Missing.the-variants as missing
+use Rattle.read_line.specs.Parse.{parse}
 use Rattle.grammar.specs.Grammar.{Line, spell}
-use Rattle.graph.specs.Limits.{branchLimit}
+use Rattle.builder.specs.Limits.{branchLimit}
 use Rattle.grammar.specs.Lines.{Bytes, Fits, Spelled, Viable, Refused, TooDeep, Ends}
 use Rattle.grammar.proofs.Machine.{top, begin, State, want, step, ending}
 use Rattle.grammar.proofs.Sound.{sofar, Told, ending-ok}

@@ -14,13 +14,13 @@ use Rattle.feature.specs.declared.atom_kind.AtomKind.{AtomKind}
 use Rattle.feature.specs.declared.atom_kind.Inverted.{Inverted}
 use Rattle.feature.specs.declared.atom_kind.Inverted.the-variants.{Turned, Refused}
 use Rattle.feature.specs.declared.bond_kind.BondKind.{BondKind}
-use Rattle.graph.specs.State.{inversion, atomRoom, bondRoom}
-use Rattle.scan.specs.declared.scanner.Missing.{Missing}
-use Rattle.scan.specs.declared.scanner.Missing.the-variants as missing
-use Rattle.reader.specs.declared.lead.Lead.the-variants.{Dot, Bond}
-use Rattle.reader.specs.Events.{Event, Enter, Join, Pop, Miss, Nest, nesting}
-use Rattle.sketch.specs.Sketch.{Node, Held, Failure, None, Failed, Sketch, node, refused, numberOf, countOf, upd, edgesAt, openKind, lookup, firstOf, rootS, bondedS, extendS, openedS, closedS, ringS, joinS, judgedS, enterS, numberS, missedS, stepS}
-use Rattle.sketch.proofs.Rows.{upd-length}
+use Rattle.builder.specs.State.{inversion, atomRoom, bondRoom}
+use Rattle.read_token.specs.declared.scanner.Missing.{Missing}
+use Rattle.read_token.specs.declared.scanner.Missing.the-variants as missing
+use Rattle.read_line.specs.declared.lead.Lead.the-variants.{Dot, Bond}
+use Rattle.read_line.specs.Events.{Event, Enter, Join, Pop, Miss, Nest, nesting}
+use Rattle.builder_meaning.specs.Sketch.{Node, Held, Failure, None, Failed, Sketch, node, refused, numberOf, countOf, upd, edgesAt, openKind, lookup, firstOf, rootS, bondedS, extendS, openedS, closedS, ringS, joinS, judgedS, enterS, numberS, missedS, stepS}
+use Rattle.builder_meaning.proofs.Rows.{upd-length}
 use Rattle.read.specs.declared.Answer.{Answer}
 use Rattle.read.specs.declared.Answer.the-variants as answer
 use Rattle.read.specs.Read.{refusalOf}

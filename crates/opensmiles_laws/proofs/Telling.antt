@@ -7,7 +7,7 @@ use mathlib.Core.Logic.{_⊎_, inl, inr}
 use native.Mathlib.Omega.{arith}
 use lib.ListN.{length, length-append}
 use Rattle.feature.specs.Text.{byte}
-use Rattle.reader.specs.Events.{Event}
+use Rattle.read_line.specs.Events.{Event}
 use Rattle.grammar.specs.Names.{has1, has2}
 use Rattle.grammar.specs.Grammar.{organics, bare1, bare2, Atom, organic, bracket, elided, bond, dot, linkS, Line, start, link, ring, branch, spell, bond?S, digitS, tells}
 use Rattle.grammar.proofs.Table.{test-yes}

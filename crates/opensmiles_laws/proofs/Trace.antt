@@ -9,10 +9,10 @@ use mathlib.Core.Logic.{_⊎_, inl, inr}
 use native.Mathlib.Omega.{arith}
 use borrow.Author.Tests.{eq-eqb, ne-eqb}
 use Rattle.feature.specs.Pick.{pick}
-use Rattle.reader.specs.declared.lead.Lead.the-variants.{Dot, Bond}
-use Rattle.reader.specs.Events.{Event, Enter, Join, Pop, Miss, Nest}
-use Rattle.reader.specs.Parse.{parse}
-use Rattle.sketch.specs.Sketch.{None, Failed, Sketch, startS, stepS, runS, sketchOf}
+use Rattle.read_line.specs.declared.lead.Lead.the-variants.{Dot, Bond}
+use Rattle.read_line.specs.Events.{Event, Enter, Join, Pop, Miss, Nest}
+use Rattle.read_line.specs.Parse.{parse}
+use Rattle.builder_meaning.specs.Sketch.{None, Failed, Sketch, startS, stepS, runS, sketchOf}
 use Rattle.read.specs.declared.Answer.{Answer}
 use Rattle.read.proofs.Never.{Sound, parse-sound}
 use Rattle.opensmiles_laws.specs.Molecule.{Molecule, asHeld, told, next, tellAll}

@@ -7,9 +7,9 @@ use mathlib.Core.Path.{_≡_}
 use mathlib.Core.List.{List}
 use mathlib.Core.Option.{none, some}
 use lib.ListN.{length}
-use Rattle.graph.specs.Limits.{textLimit, branchLimit}
-use Rattle.reader.specs.Events.{Event}
-use Rattle.sketch.specs.Sketch.{Node, countOf, firstOpenS, atomTable, bondTable, padded}
+use Rattle.builder.specs.Limits.{textLimit, branchLimit}
+use Rattle.read_line.specs.Events.{Event}
+use Rattle.builder_meaning.specs.Sketch.{Node, countOf, firstOpenS, atomTable, bondTable, padded}
 use Rattle.read.specs.declared.Answer.{Answer}
 use Rattle.read.specs.declared.Answer.the-variants as answer
 use Rattle.read.specs.Read.{Said, said}

@@ -8,7 +8,7 @@ use Rattle.feature.specs.Kinds.{noNumber, noConfiguration, noHydrogens, noCharg
 use Rattle.feature.specs.declared.atom_kind.AtomKind.{AtomKind}
 use Rattle.feature.specs.declared.atom_kind.AtomKind.the-variants.{Aliphatic, Bracket}
 use Rattle.feature.specs.declared.bond_kind.BondKind.the-variants.{Elided, Double}
-use Rattle.sketch.specs.Sketch.{To, Node, edge, node}
+use Rattle.builder_meaning.specs.Sketch.{To, Node, edge, node}
 use Rattle.read.specs.declared.Answer.{Answer}
 use Rattle.read.specs.declared.Answer.the-variants as answer
 use Rattle.read.specs.Read.{Said}

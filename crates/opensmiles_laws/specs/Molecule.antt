@@ -16,10 +16,10 @@ use Rattle.feature.specs.declared.atom_kind.Inverted.{Inverted}
 use Rattle.feature.specs.declared.atom_kind.Inverted.the-variants.{Turned, Refused}
 use Rattle.feature.specs.declared.bond_kind.BondKind.{BondKind}
 use Rattle.feature.specs.declared.bond_kind.BondKind.the-variants.{Elided, Double}
-use Rattle.reader.specs.declared.lead.Lead.{Lead}
-use Rattle.reader.specs.declared.lead.Lead.the-variants.{Dot, Bond}
-use Rattle.reader.specs.Events.{Event, Enter, Join, Pop, Miss, Nest}
-use Rattle.sketch.specs.Sketch.{To, Open, Edge, Node, Held, edge, node, held, upd, edgesAt, addEdge, openKind, fill, lookup, without, leads, firstOpenS}
+use Rattle.read_line.specs.declared.lead.Lead.{Lead}
+use Rattle.read_line.specs.declared.lead.Lead.the-variants.{Dot, Bond}
+use Rattle.read_line.specs.Events.{Event, Enter, Join, Pop, Miss, Nest}
+use Rattle.builder_meaning.specs.Sketch.{To, Open, Edge, Node, Held, edge, node, held, upd, edgesAt, addEdge, openKind, fill, lookup, without, leads, firstOpenS}
 use Rattle.grammar.specs.OpenSmiles.{Chain, says}
 
 -- ---- A MOLECULE IN THE MAKING

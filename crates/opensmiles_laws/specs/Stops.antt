@@ -9,13 +9,13 @@ use Rattle.feature.specs.declared.atom_kind.AtomKind.{AtomKind}
 use Rattle.feature.specs.declared.atom_kind.AtomKind.the-variants.{Bracket}
 use Rattle.feature.specs.declared.atom_kind.BracketAtom.{BracketAtom}
 use Rattle.feature.specs.declared.bond_kind.BondKind.{BondKind}
-use Rattle.record.specs.Words.{atomWords, bondWords}
-use Rattle.graph.specs.Limits.{atomLimit, bondLimit, lesserOf}
-use Rattle.scan.specs.declared.scanner.Missing.the-variants as missing
-use Rattle.reader.specs.declared.lead.Lead.{Lead}
-use Rattle.reader.specs.declared.lead.Lead.the-variants.{Bond}
-use Rattle.reader.specs.Events.{Event, Enter, Join, Pop, Miss, Nest}
-use Rattle.sketch.specs.Sketch.{Held, countOf, lookup, openKind, edgesAt}
+use Rattle.packing.specs.Words.{atomWords, bondWords}
+use Rattle.builder.specs.Limits.{atomLimit, bondLimit, lesserOf}
+use Rattle.read_token.specs.declared.scanner.Missing.the-variants as missing
+use Rattle.read_line.specs.declared.lead.Lead.{Lead}
+use Rattle.read_line.specs.declared.lead.Lead.the-variants.{Bond}
+use Rattle.read_line.specs.Events.{Event, Enter, Join, Pop, Miss, Nest}
+use Rattle.builder_meaning.specs.Sketch.{Held, countOf, lookup, openKind, edgesAt}
 use Rattle.read.specs.declared.Answer.{Answer}
 use Rattle.read.specs.declared.Answer.the-variants as answer
 use Rattle.opensmiles_laws.specs.Molecule.{Molecule, molecule, agreed, asHeld, told, next, tellAll}

@@ -4,9 +4,9 @@ use mathlib.Core.Path.{_≡_}
 use mathlib.Core.List.{List, [], _∷_, _++_}
 use lib.ListN.{length}
 use Rattle.feature.specs.Text.{byte}
-use Rattle.graph.specs.Limits.{branchLimit}
-use Rattle.scan.specs.declared.scanner.Missing.the-variants.{EndOfLine, Character}
-use Rattle.reader.specs.Events.{Event}
+use Rattle.builder.specs.Limits.{branchLimit}
+use Rattle.read_token.specs.declared.scanner.Missing.the-variants.{EndOfLine, Character}
+use Rattle.read_line.specs.Events.{Event}
 use Rattle.grammar.specs.Grammar.{Link, linkS, dot, Line, spell, tells, meaning}
 use Rattle.grammar.specs.Lines.{Fits, Spelled, Viable, Refused, Late, lateMissing, TooDeep}
 

@@ -6,17 +6,17 @@ use native.Mathlib.Omega.{arith}
 use lib.ListN.{length, getD, replicate, length-replicate}
 use lib.Dec.{ltb, eqb}
 use Rattle.feature.specs.Pick.{pick}
-use Rattle.graph.specs.Limits.{textLimit, atomLimit, bondLimit, fewAtoms, lesserOf}
-use Rattle.record.specs.Words.{atomWords, bondWords}
-use Rattle.graph.specs.Rings.{numbers}
-use Rattle.graph.specs.State.{Bld, entryWords, inversion, atomRoom, bondRoom}
-use Rattle.reader.specs.Events.{endOfLine, character, nesting}
-use Rattle.reader.proofs.Counts.{by-test}
-use Rattle.build.specs.declared.Built.{Built}
-use Rattle.build.specs.declared.Built.the-variants as built
-use Rattle.sketch.specs.Sketch.{Sketch, BothEnds, sketchOf, finishS, atomTable, bondTable, padded, leftS}
-use Rattle.build.proofs.Laws.{zero-at}
-use Rattle.sketch.proofs.Text.{Reads, text-reads, lesser-most, lesser-held}
+use Rattle.builder.specs.Limits.{textLimit, atomLimit, bondLimit, fewAtoms, lesserOf}
+use Rattle.packing.specs.Words.{atomWords, bondWords}
+use Rattle.builder.specs.Rings.{numbers}
+use Rattle.builder.specs.State.{Bld, entryWords, inversion, atomRoom, bondRoom}
+use Rattle.read_line.specs.Events.{endOfLine, character, nesting}
+use Rattle.read_line.proofs.Counts.{by-test}
+use Rattle.builder.specs.declared.build.Built.{Built}
+use Rattle.builder.specs.declared.build.Built.the-variants as built
+use Rattle.builder_meaning.specs.Sketch.{Sketch, BothEnds, sketchOf, finishS, atomTable, bondTable, padded, leftS}
+use Rattle.builder.proofs.Laws.{zero-at}
+use Rattle.builder_meaning.proofs.Text.{Reads, text-reads, lesser-most, lesser-held}
 use Rattle.read.specs.declared.Answer.{Answer}
 use Rattle.read.specs.declared.Answer.the-variants.{Done, TextTooLong}
 use Rattle.read.specs.Read.{Said, said, refusalOf, builtAnswer, builtSaid, stateOf, saidOf, within, readOf}

@@ -17,28 +17,28 @@ use Rattle.feature.specs.declared.atom_kind.Inverted.the-variants.{Turned, Refu
 use Rattle.feature.specs.declared.bond_kind.BondKind.{BondKind}
 use Rattle.feature.specs.declared.bond_kind.Reconciled.{Reconciled}
 use Rattle.feature.specs.declared.bond_kind.Reconciled.the-variants.{Both, Fails}
-use Rattle.scan.specs.Scan.{peekAt, atomAt, rnumAt}
-use Rattle.scan.specs.declared.scanner.Found.{Found}
-use Rattle.scan.specs.declared.scanner.Found.the-variants.{Atom, Nothing, Lacks}
-use Rattle.scan.specs.declared.scanner.Missing.{Missing}
-use Rattle.scan.specs.declared.scanner.Missing.the-variants.{EndOfLine, Character}
-use Rattle.scan.specs.declared.read_rnum.Ring.{Ring}
-use Rattle.scan.specs.declared.read_rnum.Ring.the-variants as ring
-use Rattle.graph.specs.Limits.{textLimit, branchLimit}
-use Rattle.graph.specs.State.{Bld, bld, state, refusedSt, refuse, inversion, atomRoom, bondRoom, entered, bonded, rootOf, extendedBy, extendOf, openedOf, lastOf, openingOf, openingKind, failedSt, closedBy, joinOf, popOf}
-use Rattle.graph.specs.declared.builder.Builder.{Builder}
-use Rattle.reader.specs.declared.lead.Lead.{Lead}
-use Rattle.reader.specs.declared.lead.Lead.the-variants.{Dot, Bond}
-use Rattle.reader.specs.Events.{Event, on, Enter, Join, Pop, Miss, Nest, endOfLine, character, nesting, countedSt, judged, numbOf, ledOf, enterOf, ringOf, missingSt, step, run}
-use Rattle.reader.specs.Parse.{Rest, oneOf, ledAt, bodyAt, missP, foundP, atomP, ringP, unionBy, unionP, unitBy, unitP, lineP, closeP, branchP, bodies, endP, parse}
-use Rattle.build.specs.declared.Built.{Built}
-use Rattle.build.specs.declared.Built.the-variants as built
+use Rattle.read_token.specs.Scan.{peekAt, atomAt, rnumAt}
+use Rattle.read_token.specs.declared.scanner.Found.{Found}
+use Rattle.read_token.specs.declared.scanner.Found.the-variants.{Atom, Nothing, Lacks}
+use Rattle.read_token.specs.declared.scanner.Missing.{Missing}
+use Rattle.read_token.specs.declared.scanner.Missing.the-variants.{EndOfLine, Character}
+use Rattle.read_token.specs.declared.read_rnum.Ring.{Ring}
+use Rattle.read_token.specs.declared.read_rnum.Ring.the-variants as ring
+use Rattle.builder.specs.Limits.{textLimit, branchLimit}
+use Rattle.builder.specs.State.{Bld, bld, state, refusedSt, refuse, inversion, atomRoom, bondRoom, entered, bonded, rootOf, extendedBy, extendOf, openedOf, lastOf, openingOf, openingKind, failedSt, closedBy, joinOf, popOf}
+use Rattle.builder.specs.declared.builder.Builder.{Builder}
+use Rattle.read_line.specs.declared.lead.Lead.{Lead}
+use Rattle.read_line.specs.declared.lead.Lead.the-variants.{Dot, Bond}
+use Rattle.read_line.specs.Events.{Event, on, Enter, Join, Pop, Miss, Nest, endOfLine, character, nesting, countedSt, judged, numbOf, ledOf, enterOf, ringOf, missingSt, step, run}
+use Rattle.read_line.specs.Parse.{Rest, oneOf, ledAt, bodyAt, missP, foundP, atomP, ringP, unionBy, unionP, unitBy, unitP, lineP, closeP, branchP, bodies, endP, parse}
+use Rattle.builder.specs.declared.build.Built.{Built}
+use Rattle.builder.specs.declared.build.Built.the-variants as built
 use Rattle.read.specs.declared.Answer.{Answer}
 use Rattle.read.specs.declared.Answer.the-variants.{NoAtom}
 use Rattle.read.specs.Read.{Said, refusalOf, builtAnswer, builtSaid, stateOf, saidOf, within, readOf}
 use Rattle.read.specs.Line.{lineOf}
-use Rattle.reader.proofs.Counts.{by-test, missing-not}
-use Rattle.reader.proofs.Turn.{run-stuck}
+use Rattle.read_line.proofs.Counts.{by-test, missing-not}
+use Rattle.read_line.proofs.Turn.{run-stuck}
 use Rattle.read.proofs.Lines.{read-line}
 
 -- ---- events that keep an atom standing, from so many on the path

@@ -8,18 +8,18 @@ use lib.ListN.{length, replicate}
 use lib.Dec.{ltb, eqb}
 use borrow.Author.Tests.{eq-eqb, ne-eqb, eqb-true, eqb-false}
 use Rattle.feature.specs.Pick.{pick}
-use Rattle.record.specs.Words.{atomWords, bondWords}
-use Rattle.graph.specs.Limits.{textLimit, branchLimit, atomLimit, bondLimit, lesserOf}
-use Rattle.graph.specs.State.{Bld, bld, startOf, refusedSt}
-use Rattle.graph.specs.declared.builder.Builder.{Builder}
-use Rattle.build.specs.Build.{Outcome, outcome, Tables, tables, buildOf}
-use Rattle.build.specs.declared.Built.{Built}
-use Rattle.scan.specs.declared.scanner.Missing.the-variants.{Character}
-use Rattle.reader.specs.declared.lead.Lead.the-variants.{Dot}
-use Rattle.reader.specs.Events.{Miss, on, character, missingSt, run}
-use Rattle.reader.specs.Parse.{parse, endP}
-use Rattle.reader.specs.Post.{came, LineRead, Ready}
-use Rattle.reader.proofs.Turn.{run-stuck, run-miss}
+use Rattle.packing.specs.Words.{atomWords, bondWords}
+use Rattle.builder.specs.Limits.{textLimit, branchLimit, atomLimit, bondLimit, lesserOf}
+use Rattle.builder.specs.State.{Bld, bld, startOf, refusedSt}
+use Rattle.builder.specs.declared.builder.Builder.{Builder}
+use Rattle.builder.specs.Build.{Outcome, outcome, Tables, tables, buildOf}
+use Rattle.builder.specs.declared.build.Built.{Built}
+use Rattle.read_token.specs.declared.scanner.Missing.the-variants.{Character}
+use Rattle.read_line.specs.declared.lead.Lead.the-variants.{Dot}
+use Rattle.read_line.specs.Events.{Miss, on, character, missingSt, run}
+use Rattle.read_line.specs.Parse.{parse, endP}
+use Rattle.read_line.specs.Post.{came, LineRead, Ready}
+use Rattle.read_line.proofs.Turn.{run-stuck, run-miss}
 use Rattle.read.specs.declared.Answer.{Answer}
 use Rattle.read.specs.Read.{said, endedSt, refusalOf, builtAnswer, builtSaid, stateOf, saidOf, within}
 

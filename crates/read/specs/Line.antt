@@ -9,8 +9,8 @@ use mathlib.Core.List.{List}
 use lib.ListN.{length, replicate}
 use lib.Dec.{ltb, eqb}
 use Rattle.feature.specs.Pick.{pick}
-use Rattle.graph.specs.Limits.{textLimit}
-use Rattle.sketch.specs.Sketch.{Sketch, numberOf, countOf, sketchOf, finishS, atomTable, bondTable, leftS}
+use Rattle.builder.specs.Limits.{textLimit}
+use Rattle.builder_meaning.specs.Sketch.{Sketch, numberOf, countOf, sketchOf, finishS, atomTable, bondTable, leftS}
 use Rattle.read.specs.declared.Answer.{Answer}
 use Rattle.read.specs.declared.Answer.the-variants.{TextTooLong}
 use Rattle.read.specs.Read.{Said, said, refusalOf, builtAnswer}

@@ -6,17 +6,17 @@ use mathlib.Core.List.{List}
 use lib.ListN.{length, replicate}
 use lib.Dec.{ltb, eqb}
 use Rattle.feature.specs.Pick.{pick}
-use Rattle.record.specs.Words.{atomWords, bondWords}
-use Rattle.graph.specs.Limits.{textLimit, atomLimit, bondLimit, lesserOf}
-use Rattle.graph.specs.Rings.{numbers}
-use Rattle.graph.specs.State.{Bld, bld, startOf, refusedSt, entryWords, inversion, atomRoom, bondRoom}
-use Rattle.graph.specs.declared.builder.Builder.{Builder}
-use Rattle.build.specs.Build.{Outcome, tables, buildOf}
-use Rattle.build.specs.declared.Built.{Built}
-use Rattle.build.specs.declared.Built.the-variants as built
-use Rattle.reader.specs.Events.{run, endOfLine, character, nesting}
-use Rattle.reader.specs.Parse.{parse}
-use Rattle.reader.specs.declared.line.Came.{Came}
+use Rattle.packing.specs.Words.{atomWords, bondWords}
+use Rattle.builder.specs.Limits.{textLimit, atomLimit, bondLimit, lesserOf}
+use Rattle.builder.specs.Rings.{numbers}
+use Rattle.builder.specs.State.{Bld, bld, startOf, refusedSt, entryWords, inversion, atomRoom, bondRoom}
+use Rattle.builder.specs.declared.builder.Builder.{Builder}
+use Rattle.builder.specs.Build.{Outcome, tables, buildOf}
+use Rattle.builder.specs.declared.build.Built.{Built}
+use Rattle.builder.specs.declared.build.Built.the-variants as built
+use Rattle.read_line.specs.Events.{run, endOfLine, character, nesting}
+use Rattle.read_line.specs.Parse.{parse}
+use Rattle.read_line.specs.declared.line.Came.{Came}
 use Rattle.read.specs.declared.Answer.{Answer}
 use Rattle.read.specs.declared.Answer.the-variants.{Done, EndOfLine, Character, Join, Rnum, Inversion, TextTooLong, AtomRoom, BondRoom, Nesting, NoAtom}
 

@@ -14,9 +14,9 @@ pub fn answer(request: &[u8], out: &mut [u8], text: &mut [u8]) -> usize
     }
     let operation = &request[0..end];
     let arguments = &request[end + 1..];
-    let n = ask_read::answer(operation, arguments, out, text);
+    let n = replay_read::answer(operation, arguments, out, text);
     if n > 0 {
         return n;
     }
-    ask_write::answer(operation, arguments, out, text)
+    replay_write::answer(operation, arguments, out, text)
 }

@@ -3,7 +3,7 @@
 //
 // slices: what is asked of a slice of bytes.
 // tally: what came of the lines so far.
-// answer: our answer to a request, which ask_read or ask_write has.
+// answer: our answer to a request, which replay_read or replay_write has.
 // line: a list's line judged.
 // list: a list read block by block.
 mod answer;

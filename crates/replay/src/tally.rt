@@ -1,8 +1,8 @@
 // What came of the lines of a list: how many were compared, answered as a listed difference, and answered otherwise.
 ghost use Prim.Native.Nat.{_≤_};
 ghost use lib.ListN.{length};
-use form::byte::put_word;
-use form::number;
+use oracle_form::byte::put_word;
+use oracle_form::number;
 
 pub struct Tally {
     pub lines: usize,

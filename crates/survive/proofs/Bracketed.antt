@@ -9,10 +9,10 @@ use Rattle.feature.specs.Text.{byte}
 use Rattle.feature.specs.Kinds.{Within}
 use Rattle.feature.specs.declared.atom_kind.BracketAtom.{BracketAtom}
 use Rattle.feature.specs.declared.atom_kind.AtomKind.the-variants.{Bracket}
-use Rattle.scan.specs.declared.scanner.Part.{Part}
-use Rattle.scan.specs.declared.scanner.Step.the-variants.{Got}
-use Rattle.scan.specs.declared.scanner.Found.the-variants.{Atom}
-use Rattle.scan.specs.Scan.{part, peekAt, isotopeAt, symbolAt, configurationAt, hydrogensAt, chargeAt, mapAt, closeAt, afterMap, afterCharge, afterHydrogens, afterConfiguration, configured, afterSymbol, afterIsotope, insideAt}
+use Rattle.read_token.specs.declared.scanner.Part.{Part}
+use Rattle.read_token.specs.declared.scanner.Step.the-variants.{Got}
+use Rattle.read_token.specs.declared.scanner.Found.the-variants.{Atom}
+use Rattle.read_token.specs.Scan.{part, peekAt, isotopeAt, symbolAt, configurationAt, hydrogensAt, chargeAt, mapAt, closeAt, afterMap, afterCharge, afterHydrogens, afterConfiguration, configured, afterSymbol, afterIsotope, insideAt}
 use Rattle.spell.specs.Spell.{numberText, symbolText, configurationText, hydrogensText, chargeText, mapText}
 use Rattle.survive.specs.Survive.{fieldsSurvive}
 use Rattle.survive.proofs.Checked.{both-true}

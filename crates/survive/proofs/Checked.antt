@@ -9,8 +9,8 @@ use lib.ListN.{replicate, length-replicate}
 use lib.Dec.{T, eqb, eqb→eq}
 use Rattle.feature.specs.Pick.{pick, both, neither}
 use Rattle.feature.proofs.Table.{at, every, both-left, both-right}
-use Rattle.scan.specs.declared.scanner.Step.{Step}
-use Rattle.scan.specs.declared.scanner.Step.the-variants.{Got, Stop}
+use Rattle.read_token.specs.declared.scanner.Step.{Step}
+use Rattle.read_token.specs.declared.scanner.Step.the-variants.{Got, Stop}
 
 -- a byte is one of a list's
 abbrev pub mem : List ℕ → ℕ → Bool

@@ -10,9 +10,9 @@ use Rattle.feature.proofs.Ranges.{good}
 use Rattle.feature.specs.declared.atom_kind.BracketAtom.{BracketAtom}
 use Rattle.feature.specs.declared.atom_kind.AtomKind.{AtomKind}
 use Rattle.feature.specs.declared.atom_kind.AtomKind.the-variants.{Star, Aliphatic, Aromatic, Bracket}
-use Rattle.scan.specs.declared.scanner.Found.{Found}
-use Rattle.scan.specs.declared.scanner.Found.the-variants.{Atom, Nothing, Lacks}
-use Rattle.scan.specs.Scan.{peekAt, insideAt, bracketAt, aromaticOf, aliphaticOf, organicAt, starAt, orElse, otherAt, atomAt}
+use Rattle.read_token.specs.declared.scanner.Found.{Found}
+use Rattle.read_token.specs.declared.scanner.Found.the-variants.{Atom, Nothing, Lacks}
+use Rattle.read_token.specs.Scan.{peekAt, insideAt, bracketAt, aromaticOf, aliphaticOf, organicAt, starAt, orElse, otherAt, atomAt}
 use Rattle.spell.specs.Spell.{bracketText, kindText}
 use Rattle.survive.specs.Survive.{fieldsSurvive, survives, Survives}
 use Rattle.survive.proofs.Field.{only}

@@ -11,9 +11,9 @@ use lib.Dec.{T, eqb, eqb→eq}
 use borrow.Author.Tests.{eq-eqb}
 use Rattle.feature.specs.Pick.{neither}
 use Rattle.feature.proofs.Table.{every, both-left, both-right}
-use Rattle.scan.specs.declared.scanner.Part.{Part}
-use Rattle.scan.specs.declared.scanner.Step.{Step}
-use Rattle.scan.specs.declared.scanner.Step.the-variants.{Got, Stop}
+use Rattle.read_token.specs.declared.scanner.Part.{Part}
+use Rattle.read_token.specs.declared.scanner.Step.{Step}
+use Rattle.read_token.specs.declared.scanner.Step.the-variants.{Got, Stop}
 use Rattle.survive.proofs.Checked.{mem, all, all-mem, below, agrees}
 use Rattle.survive.proofs.Shift.{onward, onward-got}
 

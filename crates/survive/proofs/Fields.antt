@@ -9,8 +9,8 @@ use lib.Dec.{T, eqb, eqb→eq}
 use Rattle.feature.specs.Text.{byte, bytes}
 use Rattle.feature.specs.Names.{symbols, names, placeOf, begins}
 use Rattle.feature.specs.Kinds.{configurations}
-use Rattle.scan.specs.declared.scanner.Part.{Part}
-use Rattle.scan.specs.Scan.{peekAt, digitOf, digitAt, digitStep, numberAt, isotopeAt, slip, symbolAt, symbolOf, shortAt, lateAt, longAt, alleneAt, octahedralAt, squareAt, trigonalAt, configurationAt, hydrogensAt, fifteenAt, signedAt, chargeAt, mapAt}
+use Rattle.read_token.specs.declared.scanner.Part.{Part}
+use Rattle.read_token.specs.Scan.{peekAt, digitOf, digitAt, digitStep, numberAt, isotopeAt, slip, symbolAt, symbolOf, shortAt, lateAt, longAt, alleneAt, octahedralAt, squareAt, trigonalAt, configurationAt, hydrogensAt, fifteenAt, signedAt, chargeAt, mapAt}
 use Rattle.spell.specs.Spell.{digits, numberText, nameText, symbolText, templateText, markedText, configurationText, hydrogensText, chargeText, mapText}
 use Rattle.survive.specs.Survive.{symbolSurvives, configurationSurvives, hydrogensSurvive, chargeSurvives}
 use Rattle.survive.proofs.Checked.{mem, all-mem, checked, agrees}

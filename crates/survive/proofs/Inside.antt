@@ -12,12 +12,12 @@ use Rattle.feature.specs.Kinds.{bracket}
 use Rattle.feature.specs.declared.atom_kind.BracketAtom.{BracketAtom}
 use Rattle.feature.specs.declared.atom_kind.AtomKind.{AtomKind}
 use Rattle.feature.specs.declared.atom_kind.AtomKind.the-variants.{Bracket}
-use Rattle.scan.specs.declared.scanner.Missing.{Missing}
-use Rattle.scan.specs.declared.scanner.Step.{Step}
-use Rattle.scan.specs.declared.scanner.Step.the-variants.{Got, Stop}
-use Rattle.scan.specs.declared.scanner.Found.{Found}
-use Rattle.scan.specs.declared.scanner.Found.the-variants.{Atom, Lacks}
-use Rattle.scan.specs.Scan.{peekAt, missingAt, isotopeAt, symbolAt, configurationAt, hydrogensAt, chargeAt, mapAt, closeAt, afterMap, afterCharge, afterHydrogens, afterConfiguration, configured, afterSymbol, afterIsotope, insideAt}
+use Rattle.read_token.specs.declared.scanner.Missing.{Missing}
+use Rattle.read_token.specs.declared.scanner.Step.{Step}
+use Rattle.read_token.specs.declared.scanner.Step.the-variants.{Got, Stop}
+use Rattle.read_token.specs.declared.scanner.Found.{Found}
+use Rattle.read_token.specs.declared.scanner.Found.the-variants.{Atom, Lacks}
+use Rattle.read_token.specs.Scan.{peekAt, missingAt, isotopeAt, symbolAt, configurationAt, hydrogensAt, chargeAt, mapAt, closeAt, afterMap, afterCharge, afterHydrogens, afterConfiguration, configured, afterSymbol, afterIsotope, insideAt}
 use Rattle.survive.proofs.Field.{got}
 
 -- a bracket atom read from the place after its "[" on, with the place where each field ends

@@ -12,9 +12,9 @@ use Rattle.feature.specs.Pick.{pick}
 use Rattle.feature.specs.Text.{byte}
 use Rattle.feature.specs.declared.bond_kind.BondKind.{BondKind}
 use Rattle.feature.specs.declared.bond_kind.BondKind.the-variants.{Elided, Single, Double, Triple, Quadruple, Aromatic, Up, Down}
-use Rattle.scan.specs.declared.read_bond.Bond.{Bond}
-use Rattle.scan.specs.declared.read_rnum.Ring.the-variants.{Number}
-use Rattle.scan.specs.Scan.{peekAt, digitOf, digitAt, percentAt, rnumAt, bondOf, markWidth, bondAt}
+use Rattle.read_token.specs.declared.read_bond.Bond.{Bond}
+use Rattle.read_token.specs.declared.read_rnum.Ring.the-variants.{Number}
+use Rattle.read_token.specs.Scan.{peekAt, digitOf, digitAt, percentAt, rnumAt, bondOf, markWidth, bondAt}
 use Rattle.spell.specs.Spell.{figure, digits, rnumText, bondText}
 use Rattle.survive.proofs.Checked.{below}
 use Rattle.survive.proofs.Shift.{byte-at, front}

@@ -14,11 +14,11 @@ use Rattle.feature.specs.Names.{names}
 use Rattle.feature.specs.Kinds.{aliphatics, aromatics}
 use Rattle.feature.specs.declared.atom_kind.AtomKind.{AtomKind}
 use Rattle.feature.specs.declared.atom_kind.AtomKind.the-variants.{Aliphatic, Aromatic}
-use Rattle.scan.specs.declared.scanner.Missing.{Missing}
-use Rattle.scan.specs.declared.scanner.Missing.the-variants.{EndOfLine, Character}
-use Rattle.scan.specs.declared.scanner.Found.{Found}
-use Rattle.scan.specs.declared.scanner.Found.the-variants.{Atom, Nothing, Lacks}
-use Rattle.scan.specs.Scan.{peekAt, missingAt, aromaticOf, aliphaticOf, wantedAt, optionalAt, organicAt}
+use Rattle.read_token.specs.declared.scanner.Missing.{Missing}
+use Rattle.read_token.specs.declared.scanner.Missing.the-variants.{EndOfLine, Character}
+use Rattle.read_token.specs.declared.scanner.Found.{Found}
+use Rattle.read_token.specs.declared.scanner.Found.the-variants.{Atom, Nothing, Lacks}
+use Rattle.read_token.specs.Scan.{peekAt, missingAt, aromaticOf, aliphaticOf, wantedAt, optionalAt, organicAt}
 use Rattle.spell.specs.Spell.{nameText, organic, kindText}
 use Rattle.survive.specs.Survive.{canFollow}
 use Rattle.survive.proofs.Shift.{through, peek-shift}

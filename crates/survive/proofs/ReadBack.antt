@@ -12,8 +12,8 @@ use Rattle.feature.proofs.Ranges.{good}
 use Rattle.feature.specs.declared.atom_kind.BracketAtom.{BracketAtom}
 use Rattle.feature.specs.declared.atom_kind.AtomKind.{AtomKind}
 use Rattle.feature.specs.declared.atom_kind.AtomKind.the-variants.{Star, Aliphatic, Aromatic, Bracket}
-use Rattle.scan.specs.declared.scanner.Found.the-variants.{Atom}
-use Rattle.scan.specs.Scan.{peekAt, bracketAt, aromaticOf, aliphaticOf, organicAt, starAt, orElse, otherAt, atomAt}
+use Rattle.read_token.specs.declared.scanner.Found.the-variants.{Atom}
+use Rattle.read_token.specs.Scan.{peekAt, bracketAt, aromaticOf, aliphaticOf, organicAt, starAt, orElse, otherAt, atomAt}
 use Rattle.spell.specs.Spell.{bracketText, kindText, atomText}
 use Rattle.survive.specs.Survive.{fieldsSurvive, survives, canFollow, Survives}
 use Rattle.survive.proofs.Checked.{both-true}

@@ -15,15 +15,15 @@ use Rattle.feature.specs.Kinds.{aliphatics, aromatics, noConfiguration, al, sp,
 use Rattle.feature.proofs.Ranges.{ranged}
 use Rattle.feature.specs.declared.atom_kind.BracketAtom.{BracketAtom}
 use Rattle.feature.specs.declared.atom_kind.AtomKind.{AtomKind}
-use Rattle.scan.specs.declared.scanner.Part.{Part}
-use Rattle.scan.specs.declared.scanner.Step.{Step}
-use Rattle.scan.specs.declared.scanner.Step.the-variants.{Got, Stop}
-use Rattle.scan.specs.declared.scanner.Found.{Found}
-use Rattle.scan.specs.declared.scanner.Found.the-variants.{Atom, Nothing, Lacks}
-use Rattle.scan.specs.Scan.{ended, part, peekAt, digitAt, digitStep, numberAt, isotopeAt, slip, symbolAt, symbolOf, shortAt, longAt, alleneAt, octahedralAt, squareAt, trigonalAt, configurationAt, hydrogensAt, fifteenAt, signedAt, chargeAt, mapAt, insideAt, bracketAt, aromaticOf, aliphaticOf, wantedAt, optionalAt, organicAt, starAt, orElse, otherAt, atomAt}
+use Rattle.read_token.specs.declared.scanner.Part.{Part}
+use Rattle.read_token.specs.declared.scanner.Step.{Step}
+use Rattle.read_token.specs.declared.scanner.Step.the-variants.{Got, Stop}
+use Rattle.read_token.specs.declared.scanner.Found.{Found}
+use Rattle.read_token.specs.declared.scanner.Found.the-variants.{Atom, Nothing, Lacks}
+use Rattle.read_token.specs.Scan.{ended, part, peekAt, digitAt, digitStep, numberAt, isotopeAt, slip, symbolAt, symbolOf, shortAt, longAt, alleneAt, octahedralAt, squareAt, trigonalAt, configurationAt, hydrogensAt, fifteenAt, signedAt, chargeAt, mapAt, insideAt, bracketAt, aromaticOf, aliphaticOf, wantedAt, optionalAt, organicAt, starAt, orElse, otherAt, atomAt}
 use Rattle.spell.specs.Spell.{atomText}
 use Rattle.survive.specs.Survive.{survives, Survives}
-use Rattle.scan.proofs.Within.{digit-most, atom-in}
+use Rattle.read_token.proofs.Within.{digit-most, atom-in}
 use Rattle.survive.proofs.ReadBack.{alone}
 use Rattle.survive.proofs.Exactly.{exactly}
 use Rattle.survive.proofs.Inside.{Inside, inside-read}

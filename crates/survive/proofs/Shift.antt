@@ -11,10 +11,10 @@ use lib.Seq.{getD-drop, drop-drop, drop-append-seam}
 use lib.Dec.{eqb}
 use borrow.Author.Tests.{eq-eqb, ne-eqb, eqb-true, eqb-false}
 use Rattle.feature.specs.Pick.{pick}
-use Rattle.scan.specs.declared.scanner.Part.{Part}
-use Rattle.scan.specs.declared.scanner.Step.{Step}
-use Rattle.scan.specs.declared.scanner.Step.the-variants.{Got, Stop}
-use Rattle.scan.specs.Scan.{part, peekAt, digitAt, digitStep, numberAt, isotopeAt, symbolAt, symbolOf, shortAt, lateAt, longAt, alleneAt, octahedralAt, squareAt, trigonalAt, configurationAt, hydrogensAt, fifteenAt, signedAt, chargeAt, mapAt}
+use Rattle.read_token.specs.declared.scanner.Part.{Part}
+use Rattle.read_token.specs.declared.scanner.Step.{Step}
+use Rattle.read_token.specs.declared.scanner.Step.the-variants.{Got, Stop}
+use Rattle.read_token.specs.Scan.{part, peekAt, digitAt, digitStep, numberAt, isotopeAt, symbolAt, symbolOf, shortAt, lateAt, longAt, alleneAt, octahedralAt, squareAt, trigonalAt, configurationAt, hydrogensAt, fifteenAt, signedAt, chargeAt, mapAt}
 
 -- a function of what is picked picks among its values
 pub through : {A B : Type 0} (f : A → B) (t : Bool) (a b : A) → f (pick t a b) ≡ pick t (f a) (f b)

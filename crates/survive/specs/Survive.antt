@@ -14,8 +14,8 @@ use Rattle.feature.specs.declared.atom_kind.BracketAtom.{BracketAtom}
 use Rattle.feature.specs.declared.atom_kind.AtomKind.{AtomKind}
 use Rattle.feature.specs.declared.atom_kind.AtomKind.the-variants.{Star, Aliphatic, Aromatic, Bracket}
 use Rattle.spell.specs.Spell.{atomText}
-use Rattle.scan.specs.Scan.{atomAt}
-use Rattle.scan.specs.declared.scanner.Found.the-variants.{Atom}
+use Rattle.read_token.specs.Scan.{atomAt}
+use Rattle.read_token.specs.declared.scanner.Found.the-variants.{Atom}
 
 -- caesium is written as actinium
 unfoldable pub symbolSurvives : ℕ → Bool

@@ -7,9 +7,9 @@ use native.Mathlib.Omega.{arith}
 use borrow.Author.Tests.{eq-eqb, ne-eqb}
 use Rattle.writer.specs.Line.{Event}
 use Rattle.writer.specs.Tables.{Spoken, spoken, writer, sayAll}
-use Rattle.ways.specs.Graph.{Graph}
+use Rattle.walk_entry.specs.Graph.{Graph}
 use Rattle.walk.specs.declared.walker.Walker.{Walker}
-use Rattle.pool.specs.declared.Pool.{Pool}
+use Rattle.join_pool.specs.declared.Pool.{Pool}
 use Rattle.walk.specs.Walk.{Walk, walk, startOf, Turn, turnOf, stepOf, walkTo, eventsOf, turnsOf, Did, Near, Grows}
 use Rattle.walk.proofs.Moves.{say-append}
 

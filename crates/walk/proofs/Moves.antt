@@ -7,19 +7,19 @@ use native.Mathlib.Omega.{arith}
 use lib.ListN.{getD}
 use borrow.Author.Tests.{eq-eqb, ne-eqb}
 use Rattle.feature.specs.declared.bond_kind.BondKind.{BondKind}
-use Rattle.pool.specs.declared.Pool.{Pool}
-use Rattle.pool.specs.declared.Given.{Given}
-use Rattle.pool.specs.declared.Given.the-variants.{Number, Full}
-use Rattle.pool.specs.Pairs.{hitOf}
-use Rattle.pool.specs.declared.lent.Stroke.{Stroke}
+use Rattle.join_pool.specs.declared.Pool.{Pool}
+use Rattle.join_pool.specs.declared.Given.{Given}
+use Rattle.join_pool.specs.declared.Given.the-variants.{Number, Full}
+use Rattle.join_pool.specs.Pairs.{hitOf}
+use Rattle.join_pool.specs.declared.lent.Stroke.{Stroke}
 use Rattle.writer.specs.declared.Writer.{Writer}
 use Rattle.writer.specs.Line.{Event, Join, Pop}
 use Rattle.writer.specs.Tables as writer
 use Rattle.writer.specs.Tables.{Spoken, sayT, sayAll}
-use Rattle.ways.specs.Graph.{bondIn}
+use Rattle.walk_entry.specs.Graph.{bondIn}
 use Rattle.walk.specs.declared.walker.Walker.{Walker}
-use Rattle.pool.specs.Strokes.{strokeOf}
-use Rattle.pool.specs.declared.lent.Told.the-variants as told
+use Rattle.join_pool.specs.Strokes.{strokeOf}
+use Rattle.join_pool.specs.declared.lent.Told.the-variants as told
 use Rattle.walk.specs.declared.walker.Numbered.{Numbered}
 use Rattle.walk.specs.Walk.{Walk, walk, Turn, quiet, numberedIn, refusedAs, passed, standingAt, backAt, atEnd, ringed, popsOf, popsThen, leftIn, numberedOf, ringOf, ringNumbers, far, Did, Onward, Grows}
 

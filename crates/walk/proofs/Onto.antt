@@ -10,10 +10,10 @@ use Rattle.feature.specs.declared.atom_kind.AtomKind.{AtomKind}
 use Rattle.feature.specs.declared.bond_kind.BondKind.{BondKind}
 use Rattle.writer.specs.Line.{Root, Extend}
 use Rattle.writer.specs.Tables.{Spoken, sayT, sayAll}
-use Rattle.ways.specs.declared.entry.Way.{Way}
-use Rattle.ways.specs.declared.entry.Way.the-variants.{Enters, Refuses}
-use Rattle.ways.specs.Graph.{Bond, Graph, kindAt, degreeAt, bondOf}
-use Rattle.ways.specs.Ways.{saidAs, wayOf}
+use Rattle.walk_entry.specs.declared.entry.Way.{Way}
+use Rattle.walk_entry.specs.declared.entry.Way.the-variants.{Enters, Refuses}
+use Rattle.walk_entry.specs.Graph.{Bond, Graph, kindAt, degreeAt, bondOf}
+use Rattle.walk_entry.specs.Ways.{saidAs, wayOf}
 use Rattle.walk.specs.declared.walker.Walker.{Walker}
 use Rattle.walk.specs.Walk.{Walk, walk, refusedAs, passed, standingAt, metAt, tookAt, popsOf, leftIn, rootOf, ringOf, enteredOf, enterOf, bondTurn, entryOf, atomOf, turnOf, unknownTarget, loop, Did}
 use Rattle.walk.proofs.Moves.{did-as, did-quiet, say-one, say-then}

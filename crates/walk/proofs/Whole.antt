@@ -18,10 +18,10 @@ use denote.Memory.{partAt, partOf, cellAt}
 use denote.Steps.{owned, peeks, heard}
 use denote.Struct.Laws as LL
 use denote.Triple.Walked.{says}
-use Rattle.pool.specs.declared.Pool.{Pool}
-use Rattle.pool.proofs.Pool as T
-use Rattle.pool.proofs.Pool.Laws as T′
-use Rattle.ways.specs.Graph.{graph}
+use Rattle.join_pool.specs.declared.Pool.{Pool}
+use Rattle.join_pool.proofs.Pool as T
+use Rattle.join_pool.proofs.Pool.Laws as T′
+use Rattle.walk_entry.specs.Graph.{graph}
 use Rattle.writer.specs.Tables.{spoken, sayAll, writer}
 use Rattle.walk.specs.Walk.{walk, startOf, walkTo, eventsOf, turnsOf}
 use Rattle.walk.specs.declared.turn.Turned.{Turned}

@@ -12,16 +12,16 @@ use lib.ListN.{getD, set}
 use lib.Dec.{leb, eqb}
 use Rattle.feature.specs.Pick.{pick}
 use Rattle.feature.specs.declared.bond_kind.BondKind.{BondKind}
-use Rattle.pool.specs.declared.Pool.{Pool}
-use Rattle.pool.specs.declared.Given.{Given}
-use Rattle.pool.specs.declared.Given.the-variants.{Number, Full}
-use Rattle.pool.specs.Pairs.{hitOf, emptyOf}
-use Rattle.pool.specs.declared.lent.Stroke.{Stroke}
+use Rattle.join_pool.specs.declared.Pool.{Pool}
+use Rattle.join_pool.specs.declared.Given.{Given}
+use Rattle.join_pool.specs.declared.Given.the-variants.{Number, Full}
+use Rattle.join_pool.specs.Pairs.{hitOf, emptyOf}
+use Rattle.join_pool.specs.declared.lent.Stroke.{Stroke}
 use Rattle.writer.specs.Line.{Event, Root, Extend, Join, Pop}
-use Rattle.ways.specs.declared.entry.Way.{Way}
-use Rattle.ways.specs.declared.entry.Way.the-variants.{Enters, Refuses}
-use Rattle.ways.specs.Graph.{Bond, Graph, kindAt, degreeAt, bondIn, bondOf}
-use Rattle.ways.specs.Ways.{saidAs, wayOf}
+use Rattle.walk_entry.specs.declared.entry.Way.{Way}
+use Rattle.walk_entry.specs.declared.entry.Way.the-variants.{Enters, Refuses}
+use Rattle.walk_entry.specs.Graph.{Bond, Graph, kindAt, degreeAt, bondIn, bondOf}
+use Rattle.walk_entry.specs.Ways.{saidAs, wayOf}
 use Rattle.walk.specs.declared.walker.Walker.{Walker}
 use Rattle.walk.specs.declared.walker.Numbered.{Numbered}
 use Rattle.writer.specs.declared.Writer.{Writer}

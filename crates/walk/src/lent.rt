@@ -7,11 +7,11 @@ ghost use mathlib.Core.Path.{_≡_};
 ghost use Prim.Native.Nat.{_<_};
 ghost use lib.ListN.{length, replicate};
 ghost use Rattle.writer.specs.Tables.{spoken, sayAll, writer};
-ghost use Rattle.ways.specs.Graph.{graph};
+ghost use Rattle.walk_entry.specs.Graph.{graph};
 ghost use Rattle.walk.specs.Walk.{walk, startWalker, walkTo, eventsOf, turnsOf};
 use crate::turn::Turned;
 use crate::turns;
-use pool::Pool;
+use join_pool::Pool;
 
 pub fn walk_in(
     pool: &mut Pool,

@@ -3,13 +3,13 @@ ghost use mathlib.Core.Path.{_≡_};
 ghost use Prim.Native.Nat.{_<_};
 ghost use lib.ListN.{length, replicate};
 ghost use Rattle.writer.specs.Tables.{spoken, sayAll, writer};
-ghost use Rattle.ways.specs.Graph.{graph};
+ghost use Rattle.walk_entry.specs.Graph.{graph};
 ghost use Rattle.walk.specs.Walk.{walk, startOf, walkTo, eventsOf, turnsOf};
 use crate::turn::Turned;
 use crate::turn::turn;
 use crate::walker::Walker;
-use pool::Pool;
-use pool::clear;
+use join_pool::Pool;
+use join_pool::clear;
 use writer::Writer;
 
 // Each atom is tried as a root and left once, and each entry is taken once: so many turns are a whole walk.

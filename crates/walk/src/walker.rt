@@ -1,12 +1,12 @@
 // What a walk knows beside its tables, and how it changes.
 ghost use mathlib.Core.Path.{_≡_};
 ghost use Prim.Native.Nat.{_<_};
-ghost use Rattle.pool.specs.Pairs.{hitOf};
-ghost use Rattle.pool.specs.Strokes.{strokeOf};
+ghost use Rattle.join_pool.specs.Pairs.{hitOf};
+ghost use Rattle.join_pool.specs.Strokes.{strokeOf};
 ghost use Rattle.walk.specs.Walk.{numberedIn, startOf, refusedAs, passed, standingAt, backAt, atEnd, ringed, far};
-use pool::Pool;
-use pool::lent;
-use pool::lent::Told;
+use join_pool::Pool;
+use join_pool::lent;
+use join_pool::lent::Told;
 
 // The desk's numbers of the walk's refusals.
 pub const UNKNOWN_TARGET: u32 = 5;

@@ -3,9 +3,9 @@ use Prim.Native.Nat.{ℕ, _+_, _/_, _≤_, _<_}
 use mathlib.Core.Path.{_≡_, _∙_, ap}
 use mathlib.Core.List.{List}
 use lib.ListN.{length, length-replicate}
-use Rattle.record.specs.Words.{atomWords, bondWords}
-use Rattle.graph.specs.Limits.{RoomOf, atomLimit, bondLimit}
-use Rattle.judge.specs.Judge.{badRecord}
+use Rattle.packing.specs.Words.{atomWords, bondWords}
+use Rattle.builder.specs.Limits.{RoomOf, atomLimit, bondLimit}
+use Rattle.table_check.specs.Judge.{badRecord}
 use Rattle.write.specs.declared.answer.Written.the-variants.{AtomRoom, BondRoom, BadTable}
 use Rattle.write.specs.Write.{zeros, atomRoom, Left, left, refusing, graphWritten, writeOf}
 use Rattle.write.specs.Order as made

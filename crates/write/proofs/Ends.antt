@@ -12,17 +12,17 @@ use lib.Dec.{ltb, eqb}
 use borrow.Author.Tests.{lt-ltb, le-ltb, eq-eqb, ne-eqb, ltb-false}
 use Rattle.feature.proofs.Lists.{drop-zeros}
 use Rattle.feature.specs.Pick.{pick}
-use Rattle.graph.specs.Limits.{atomLimit, bondLimit, lesserOf}
-use Rattle.build.specs.Build.{startsOf}
+use Rattle.builder.specs.Limits.{atomLimit, bondLimit, lesserOf}
+use Rattle.builder.specs.Build.{startsOf}
 use Rattle.writer.specs.declared.Writer.{Writer}
 use Rattle.writer.specs.Line.{Event, lineOf, writeEvents}
 use Rattle.writer.specs.Tables.{Spoken, spoken, writer, sayAll, pieceRoom}
 use Rattle.writer.specs.Pieces.{Holds}
 use Rattle.writer.proofs.Pieces.{holds-all, holds-none}
-use Rattle.ways.specs.Graph.{Graph, graph}
+use Rattle.walk_entry.specs.Graph.{Graph, graph}
 use Rattle.walk.specs.declared.walker.Walker.{Walker}
 use Rattle.walk.specs.Walk.{Walk, walk, startWalker, walkTo, eventsOf, turnsOf}
-use Rattle.trek.specs.Trek.{fresh}
+use Rattle.walk_laws.specs.Trek.{fresh}
 use Rattle.feature.proofs.Cases.{by-test}
 use Rattle.write.specs.declared.answer.Written.{Written}
 use Rattle.write.specs.declared.answer.Written.the-variants.{Done, OutRoom}

@@ -5,9 +5,9 @@ use mathlib.Core.List.{List}
 use native.Mathlib.Omega.{arith}
 use lib.ListN.{length}
 use borrow.Author.Tests.{lt-ltb, le-ltb}
-use Rattle.record.specs.Words.{atomWords, bondWords}
-use Rattle.graph.specs.Limits.{RoomOf, atomLimit, bondLimit, lesserOf}
-use Rattle.judge.specs.Judge.{badRecord}
+use Rattle.packing.specs.Words.{atomWords, bondWords}
+use Rattle.builder.specs.Limits.{RoomOf, atomLimit, bondLimit, lesserOf}
+use Rattle.table_check.specs.Judge.{badRecord}
 use Rattle.write.specs.declared.answer.Written.{Written}
 use Rattle.write.specs.declared.answer.Written.the-variants.{AtomRoom, BondRoom, BadTable}
 use Rattle.write.specs.Write.{atomRoom, bondRoom, admitted}

@@ -9,20 +9,20 @@ use lib.Seq.{take-at}
 use lib.Dec.{ltb, eqb}
 use borrow.Author.Tests.{le-ltb, ltb-true, ltb-false}
 use Rattle.feature.specs.Pick.{pick}
-use Rattle.record.specs.Words.{atomWords}
-use Rattle.graph.specs.Limits.{atomLimit, lesserOf}
-use Rattle.build.specs.Build.{startsOf, sumOf}
-use Rattle.judge.specs.Judge.{badRecord}
+use Rattle.packing.specs.Words.{atomWords}
+use Rattle.builder.specs.Limits.{atomLimit, lesserOf}
+use Rattle.builder.specs.Build.{startsOf, sumOf}
+use Rattle.table_check.specs.Judge.{badRecord}
 use Rattle.writer.specs.Line.{Event, lineOf, writeEvents}
-use Rattle.ways.specs.Graph.{Graph, graph}
-use Rattle.ways.specs.Ways.{halfBond, duplicateBond, incompatibleBond, inversion}
+use Rattle.walk_entry.specs.Graph.{Graph, graph}
+use Rattle.walk_entry.specs.Ways.{halfBond, duplicateBond, incompatibleBond, inversion}
 use Rattle.walk.specs.declared.walker.Walker.{Walker}
 use Rattle.walk.specs.Walk.{Walk, walkTo, eventsOf, turnsOf, unknownTarget, loop}
-use Rattle.trek.specs.Trek.{Room, fresh}
-use Rattle.trek.specs.Longer.{longer, longerGraph, longerWalk, Lengths, leastWalk, leastSaid, ExactWalk}
+use Rattle.walk_laws.specs.Trek.{Room, fresh}
+use Rattle.walk_laws.specs.Longer.{longer, longerGraph, longerWalk, Lengths, leastWalk, leastSaid, ExactWalk}
 use Rattle.feature.proofs.Cases.{by-test}
-use Rattle.trek.proofs.Accepted.{accepted}
-use Rattle.trek.proofs.Longer.{getD-longer, set-longer, longer-zeros, least-exact, any-length, pieces-alike}
+use Rattle.walk_laws.proofs.Accepted.{accepted}
+use Rattle.walk_laws.proofs.Longer.{getD-longer, set-longer, longer-zeros, least-exact, any-length, pieces-alike}
 use Rattle.write.specs.declared.answer.Written.{Written}
 use Rattle.write.specs.declared.answer.Written.the-variants.{Done}
 use Rattle.write.specs.Write.{zeros, pairWords, graphOf, walkIn, walkOf, saidIn, saidOf, lineSaid, refusalOf, atomRoom, bondRoom, Left, putLine, concluded, graphWritten, writeOf}

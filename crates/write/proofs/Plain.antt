@@ -9,21 +9,21 @@ use lib.Seq.{ext-getD}
 use lib.Dec.{ltb}
 use borrow.Author.Tests.{ltb-false, eq-eqb, ne-eqb}
 use Rattle.feature.specs.Pick.{pick}
-use Rattle.record.specs.Words.{atomWords}
-use Rattle.graph.specs.Limits.{atomLimit}
-use Rattle.build.specs.Build.{startsOf}
-use Rattle.judge.specs.Judge.{badRecord}
+use Rattle.packing.specs.Words.{atomWords}
+use Rattle.builder.specs.Limits.{atomLimit}
+use Rattle.builder.specs.Build.{startsOf}
+use Rattle.table_check.specs.Judge.{badRecord}
 use Rattle.writer.specs.Line.{Event}
-use Rattle.ways.specs.Graph.{Graph, graph}
+use Rattle.walk_entry.specs.Graph.{Graph, graph}
 use Rattle.walk.specs.declared.walker.Walker.{Walker}
 use Rattle.walk.specs.Walk.{Walk, walkTo, eventsOf, turnsOf}
-use Rattle.trek.specs.Trek.{fresh, degrees}
-use Rattle.trek.specs.Longer.{longer, longerGraph, longerWalk, Lengths, leastWalk, leastSaid, ExactWalk}
-use Rattle.trek.specs.Plain.{Outcome, Goes, Refused, numberIn}
-use Rattle.trek.specs.OneWalk.{trailOf, refusalIn, firstIn, secondIn, Numbered, OneWalk}
-use Rattle.trek.proofs.Judged.{judged-few}
-use Rattle.trek.proofs.Longer.{least-exact, any-length}
-use Rattle.trek.proofs.Plain.{one-walk, all-met}
+use Rattle.walk_laws.specs.Trek.{fresh, degrees}
+use Rattle.walk_laws.specs.Longer.{longer, longerGraph, longerWalk, Lengths, leastWalk, leastSaid, ExactWalk}
+use Rattle.walk_laws.specs.Plain.{Outcome, Goes, Refused, numberIn}
+use Rattle.walk_laws.specs.OneWalk.{trailOf, refusalIn, firstIn, secondIn, Numbered, OneWalk}
+use Rattle.walk_laws.proofs.Judged.{judged-few}
+use Rattle.walk_laws.proofs.Longer.{least-exact, any-length}
+use Rattle.walk_laws.proofs.Plain.{one-walk, all-met}
 use Rattle.write.specs.declared.answer.Written.the-variants.{Done}
 use Rattle.write.specs.Write.{zeros, pairWords, graphOf, walkIn, saidIn, lineSaid, refusalOf, atomRoom, bondRoom, refusing, putLine, concluded, graphWritten, writeOf}
 use Rattle.write.specs.Order as made

@@ -8,21 +8,21 @@ use native.Mathlib.Omega.{arith}
 use lib.ListN.{length}
 use lib.Dec.{ltb, leb, eqb}
 use borrow.Author.Tests.{ltb-true, ltb-false}
-use Rattle.record.specs.Words.{atomWords, isAtom}
-use Rattle.graph.specs.Limits.{atomLimit, lesserOf}
-use Rattle.build.specs.Build.{startsOf}
-use Rattle.judge.specs.declared.Judged.{Judged}
-use Rattle.judge.specs.declared.Judged.the-variants.{Bad, Holds}
-use Rattle.judge.specs.Judge.{degreeOf, bondStands, atomsFrom, bondsFrom, afterAtoms, badRecord}
+use Rattle.packing.specs.Words.{atomWords, isAtom}
+use Rattle.builder.specs.Limits.{atomLimit, lesserOf}
+use Rattle.builder.specs.Build.{startsOf}
+use Rattle.table_check.specs.declared.Judged.{Judged}
+use Rattle.table_check.specs.declared.Judged.the-variants.{Bad, Holds}
+use Rattle.table_check.specs.Judge.{degreeOf, bondStands, atomsFrom, bondsFrom, afterAtoms, badRecord}
 use Rattle.walk.specs.declared.walker.Walker.{Walker}
-use Rattle.ways.specs.Ways.{halfBond, duplicateBond, incompatibleBond, inversion}
+use Rattle.walk_entry.specs.Ways.{halfBond, duplicateBond, incompatibleBond, inversion}
 use Rattle.walk.specs.Walk.{turnsOf, unknownTarget, loop}
-use Rattle.trek.specs.Trek.{Room, AllAccepted, degrees, Finished}
+use Rattle.walk_laws.specs.Trek.{Room, AllAccepted, degrees, Finished}
 use Rattle.feature.proofs.Cases.{by-test}
-use Rattle.trek.proofs.Accepted.{accepted}
-use Rattle.trek.proofs.Bound.{line-bound}
-use Rattle.trek.proofs.Ended as trek
-use Rattle.trek.proofs.Judged.{judged-degrees}
+use Rattle.walk_laws.proofs.Accepted.{accepted}
+use Rattle.walk_laws.proofs.Bound.{line-bound}
+use Rattle.walk_laws.proofs.Ended as walk-laws
+use Rattle.walk_laws.proofs.Judged.{judged-degrees}
 use Rattle.write.specs.declared.answer.Written.{Written}
 use Rattle.write.specs.declared.answer.Written.the-variants.{UnknownTarget, Loop, HalfBond, DuplicateBond, IncompatibleBond, Inversion, RingNumbers, AtomRoom, BondRoom, BadTable}
 use Rattle.write.specs.Bound.{lineBound, bytesOf, Short}
@@ -86,7 +86,7 @@ module _ (atoms bonds : List ℕ) (n m : ℕ) (few : n ≤ atomLimit) where
 
     pub all-walked : walkOf atoms n bonds m .at .refusal ≡ 0 → Finished (graphOf n atoms bonds) (walkOf atoms n bonds m)
     unfolding walkIn
-    all-walked e = trek.ended (graphOf n atoms bonds) atomLimit atomLimit atomLimit atomLimit (zeros pairWords) room m whole e
+    all-walked e = walk-laws.ended (graphOf n atoms bonds) atomLimit atomLimit atomLimit atomLimit (zeros pairWords) room m whole e
 
 -- ---- every write
 no-bytes : (most : ℕ) (r : Written) → bytesOf r ≡ 0 → Short most r

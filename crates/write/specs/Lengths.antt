@@ -4,11 +4,11 @@ use Prim.Native.Nat.{ℕ, _-_}
 use mathlib.Core.Path.{_≡_}
 use mathlib.Core.List.{List, [], _++_}
 use lib.ListN.{getD, take}
-use Rattle.build.specs.Build.{startsOf}
+use Rattle.builder.specs.Build.{startsOf}
 use Rattle.writer.specs.Line.{Event, lineOf, writeEvents}
-use Rattle.ways.specs.Graph.{Graph, graph}
+use Rattle.walk_entry.specs.Graph.{Graph, graph}
 use Rattle.walk.specs.Walk.{Walk, walkTo, eventsOf, turnsOf}
-use Rattle.trek.specs.Trek.{fresh}
+use Rattle.walk_laws.specs.Trek.{fresh}
 use Rattle.write.specs.declared.answer.Written.{Written}
 use Rattle.write.specs.declared.answer.Written.the-variants.{Done, UnknownTarget, Loop, HalfBond, DuplicateBond, IncompatibleBond, Inversion, RingNumbers, AtomRoom, BondRoom, OutRoom, BadTable}
 use Rattle.write.specs.Write.{zeros, pairWords, Left, concluded}

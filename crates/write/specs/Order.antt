@@ -6,7 +6,7 @@ use mathlib.Core.List.{List, [], _∷_}
 use lib.ListN.{length}
 use lib.Dec.{eqb}
 use Rattle.feature.specs.Pick.{pick}
-use Rattle.graph.specs.Limits.{lesserOf}
+use Rattle.builder.specs.Limits.{lesserOf}
 use Rattle.walk.specs.declared.walker.Walker.{Walker}
 use Rattle.walk.specs.Walk.{Walk}
 use Rattle.write.specs.declared.answer.Written.{Written}

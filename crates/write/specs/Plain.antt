@@ -1,8 +1,8 @@
--- The write call and the walk order by the plain walk of crates/trek. proofs/Plain says that they are `writeOf` and `orderOf`.
+-- The write call and the walk order by the plain walk of crates/walk_laws. proofs/Plain says that they are `writeOf` and `orderOf`.
 use Prim.Native.Nat.{ℕ, zero, suc, _+_, _-_}
 use mathlib.Core.List.{List, [], _∷_, _++_}
 use Rattle.walk.specs.Walk.{startWalker, refusedAs}
-use Rattle.trek.specs.Plain.{Outcome, Goes, Refused, numberIn, plainWalk}
+use Rattle.walk_laws.specs.Plain.{Outcome, Goes, Refused, numberIn, plainWalk}
 use Rattle.write.specs.declared.answer.Written.{Written}
 use Rattle.write.specs.declared.answer.Written.the-variants.{Done}
 use Rattle.write.specs.Write.{zeros, pairWords, graphOf, lineSaid, refusalOf, admitted, atomRoom, Left, refusing, putLine}

@@ -4,7 +4,7 @@ use Prim.Native.Nat.{ℕ, _≤_}
 use mathlib.Core.Path.{_≡_}
 use mathlib.Core.List.{List}
 use lib.ListN.{length}
-use Rattle.graph.specs.Limits.{atomLimit, bondLimit}
+use Rattle.builder.specs.Limits.{atomLimit, bondLimit}
 use Rattle.write.specs.Write.{zeros, pairWords}
 
 -- counts within the limits, and an output of zeros

@@ -6,16 +6,16 @@ use mathlib.Core.List.{List, [], _++_}
 use lib.ListN.{length, replicate}
 use lib.Dec.{ltb, eqb}
 use Rattle.feature.specs.Pick.{pick}
-use Rattle.record.specs.Words.{atomWords, bondWords}
-use Rattle.graph.specs.Limits.{atomLimit, bondLimit, lesserOf}
-use Rattle.build.specs.Build.{startsOf}
+use Rattle.packing.specs.Words.{atomWords, bondWords}
+use Rattle.builder.specs.Limits.{atomLimit, bondLimit, lesserOf}
+use Rattle.builder.specs.Build.{startsOf}
 use Rattle.writer.specs.declared.Writer.{Writer}
 use Rattle.writer.specs.Line.{Event, lineOf, writeEvents}
-use Rattle.ways.specs.Graph.{Graph, graph}
-use Rattle.ways.specs.Ways.{halfBond, duplicateBond, incompatibleBond, inversion}
+use Rattle.walk_entry.specs.Graph.{Graph, graph}
+use Rattle.walk_entry.specs.Ways.{halfBond, duplicateBond, incompatibleBond, inversion}
 use Rattle.walk.specs.declared.walker.Walker.{Walker}
 use Rattle.walk.specs.Walk.{Walk, walk, startWalker, walkTo, eventsOf, turnsOf, unknownTarget, loop}
-use Rattle.judge.specs.Judge.{badRecord}
+use Rattle.table_check.specs.Judge.{badRecord}
 use Rattle.write.specs.declared.answer.Written.{Written}
 use Rattle.write.specs.declared.answer.Written.the-variants.{Done, UnknownTarget, Loop, HalfBond, DuplicateBond, IncompatibleBond, Inversion, RingNumbers, AtomRoom, BondRoom, OutRoom, BadTable}
 

@@ -4,10 +4,10 @@ ghost use Rattle.write.specs.Write.{refusalOf};
 use walk::walker::LOOP;
 use walk::walker::UNKNOWN_TARGET;
 use walk::walker::Walker;
-use ways::entry::DUPLICATE_BOND;
-use ways::entry::HALF_BOND;
-use ways::entry::INCOMPATIBLE_BOND;
-use ways::entry::INVERSION;
+use walk_entry::entry::DUPLICATE_BOND;
+use walk_entry::entry::HALF_BOND;
+use walk_entry::entry::INCOMPATIBLE_BOND;
+use walk_entry::entry::INVERSION;
 
 pub enum Written {
     // Bytes written; of the walk order, atoms walked.

@@ -5,20 +5,20 @@
 ghost use mathlib.Core.Path.{_≡_};
 ghost use Prim.Native.Nat.{_≤_};
 ghost use lib.ListN.{length, replicate};
-ghost use Rattle.graph.specs.Limits.{fewAtoms};
+ghost use Rattle.builder.specs.Limits.{fewAtoms};
 ghost use Rattle.write.specs.Write.{left, ended, graphWritten};
 ghost use Rattle.write.specs.Plain.{writePlain};
 ghost use Rattle.write.specs.Numbers.{inNumbers};
 ghost use Rattle.write.specs.Rooms.{Writable, Blank};
 use answer::Written;
 use answer::refusal;
-use build::lay_starts;
-use graph::limits::ATOMS;
-use graph::limits::FEW_ATOMS;
-use graph::limits::atom_room;
-use graph::limits::bond_room;
-use judge::judge;
-use pool::PAIRS;
+use builder::build::lay_starts;
+use builder::limits::ATOMS;
+use builder::limits::FEW_ATOMS;
+use builder::limits::atom_room;
+use builder::limits::bond_room;
+use join_pool::PAIRS;
+use table_check::judge;
 use walk::lent::walk;
 use walk::turn::Turned;
 

@@ -14,7 +14,7 @@ use Rattle.feature.specs.Text.{byte, bytes}
 use Rattle.feature.specs.declared.atom_kind.AtomKind.{AtomKind}
 use Rattle.feature.specs.declared.bond_kind.BondKind.{BondKind}
 use Rattle.feature.proofs.Lists.{sets-append}
-use Rattle.graph.specs.Limits.{lesserOf, RoomOf}
+use Rattle.builder.specs.Limits.{lesserOf, RoomOf}
 use Rattle.spell.specs.Spell.{Laid, atomText, bondText, rnumText}
 use Rattle.writer.specs.declared.Writer.{Writer}
 use Rattle.writer.specs.declared.Wrote.the-variants.{Held, AtomRoom, OutRoom}

@@ -12,7 +12,7 @@ use borrow.Author.Tests.{eq-eqb, ne-eqb, leb-false}
 use Rattle.feature.specs.Pick.{pick}
 use Rattle.feature.specs.Text.{byte, bytes}
 use Rattle.feature.proofs.Lists.{sets-append}
-use Rattle.graph.specs.Limits.{atomLimit, lesserOf}
+use Rattle.builder.specs.Limits.{atomLimit, lesserOf}
 use Rattle.spell.specs.Spell.{atomText, bondText, rnumText}
 use Rattle.writer.specs.Line.{Event, Root, Extend, Join, Pop, lineOf, dotText, addPiece, onLast, wrapped, popPieces, writeEvent, writeEvents}
 use Rattle.writer.specs.Tables.{Spoken, spoken, writer, pieceRoom, added, pieceT, longer, joinT, startOf, part, wrapT, popT, sayT, sayAll}

@@ -6,10 +6,10 @@ use mathlib.Core.List.{List}
 use lib.ListN.{length}
 use lib.Dec.{leb}
 use borrow.Author.Tests.{lt-ltb, le-ltb, leb-true, leb-false, eq-eqb, ne-eqb}
-use Rattle.graph.specs.State.{refusedSt}
-use Rattle.graph.specs.declared.builder.Builder.{Builder}
-use Rattle.reader.specs.Events.{character}
-use Rattle.reader.specs.declared.line.Came.{Came}
+use Rattle.builder.specs.State.{refusedSt}
+use Rattle.builder.specs.declared.builder.Builder.{Builder}
+use Rattle.read_line.specs.Events.{character}
+use Rattle.read_line.specs.declared.line.Came.{Came}
 use Rattle.read.specs.Read.{endedSt}
 use borrow.Author.Needs.{needs}
 use Rattle.read.proofs.end_line.Statement.{statement}

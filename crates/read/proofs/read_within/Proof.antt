@@ -1,9 +1,9 @@
 use Prim.Native.Nat.{ℕ, _/_}
 use mathlib.Core.Path.{ap, _∙_}
 use lib.ListN.{length}
-use Rattle.record.specs.Words.{atomWords}
-use Rattle.graph.specs.Limits.{atomLimit, lesserOf}
-use Rattle.graph.specs.State.{startOf}
+use Rattle.packing.specs.Words.{atomWords}
+use Rattle.builder.specs.Limits.{atomLimit, lesserOf}
+use Rattle.builder.specs.State.{startOf}
 use Rattle.read.proofs.Whole.{start-ready, said-refused, said-built}
 use borrow.Author.Needs.{needs}
 use Rattle.read.proofs.read_within.Statement.{statement}

@@ -4,7 +4,7 @@ use mathlib.Core.Path.{_≡_, refl, _∙_, ap}
 use mathlib.Core.List.{List, _++_}
 use lib.ListN.{length, set, drop, replicate, length-set}
 use borrow.Author.Needs.{needs}
-use Rattle.build.proofs.Passes.{clear-step, clear-end}
+use Rattle.builder.proofs.Passes.{clear-step, clear-end}
 use Rattle.write.proofs.clear_bytes.Statement.{statement}
 use Rattle.write.proofs.clear_bytes.Tie as tie
 

@@ -1,7 +1,7 @@
 -- A refused event keeps the words, an accepted one lays its state.
 use mathlib.Core.Path.{_≡_, _∙_}
 use lib.Seq.{sets}
-use Rattle.report.specs.State.{writerList}
+use Rattle.desk_report.specs.State.{writerList}
 use Rattle.export.specs.Lines.{heldBy}
 use Rattle.export.proofs.Reports.{writer-kept, writer-laid}
 use Rattle.export.specs.Given.{onWriter}

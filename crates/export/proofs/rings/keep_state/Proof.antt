@@ -1,7 +1,7 @@
 -- A refused call keeps the words, another lays its state.
 use mathlib.Core.Path.{_≡_, _∙_}
 use lib.Seq.{sets}
-use Rattle.report.specs.State.{poolList}
+use Rattle.desk_report.specs.State.{poolList}
 use Rattle.export.specs.Rings.{heldBy}
 use Rattle.export.proofs.Reports.{pool-kept, pool-laid}
 use Rattle.export.specs.Given.{onPool}

@@ -42,17 +42,17 @@ use denote.Triple.Table.{entered, cited}
 use denote.Triple.Walked.{says, needs, Stays, gave-slice, stay-none-slice, stay-none, walkOf, AllGo, goes-none, goes-none-slice, goes-gave-slice, Walks, ends-at, walked, walk-meets}
 use denote.Triple.Clauses.{ensured, lasts}
 use denote.Exit.{yes}
-use Rattle.pool.specs.Pairs.{emptyOf}
-use Rattle.pool.specs.declared.Pool.{Pool}
-use Rattle.pool.proofs.Pool as T
-use Rattle.pool.proofs.Pool.Laws as T′
-use Rattle.pool.proofs.Pool.empty as e
-use Rattle.pool.proofs.Pool.empty.Symbol as e-def
-use Rattle.pool.proofs.Pool.empty.Symbol.{name as #empty}
-use Rattle.pool.proofs.Pool.empty.Met as e-thm
+use Rattle.join_pool.specs.Pairs.{emptyOf}
+use Rattle.join_pool.specs.declared.Pool.{Pool}
+use Rattle.join_pool.proofs.Pool as T
+use Rattle.join_pool.proofs.Pool.Laws as T′
+use Rattle.join_pool.proofs.Pool.empty as e
+use Rattle.join_pool.proofs.Pool.empty.Symbol as e-def
+use Rattle.join_pool.proofs.Pool.empty.Symbol.{name as #empty}
+use Rattle.join_pool.proofs.Pool.empty.Met as e-thm
 use Rattle.walk.specs.Walk.{turnsOf}
 use Rattle.walk.specs.Walk as made
-use Rattle.ways.specs.Graph.{graph}
+use Rattle.walk_entry.specs.Graph.{graph}
 use Rattle.writer.specs.Tables.{spoken, sayAll, writer}
 use Rattle.walk.specs.declared.turn.Turned.{Turned}
 use Rattle.walk.proofs.turn.Turned as S
@@ -264,5 +264,5 @@ walk-spec 𝓤 H 𝓜 𝓖 𝓡 =
     entered 𝓤 H (tripleOf 𝓤 H (𝓖 .A) f.signature (f.spec 𝓤 H (𝓖 .A) (𝓜 .mem) (𝓡 .run)))
     (tables 𝓤 H 𝓜 𝓡 code.env .C) (tables 𝓤 H 𝓜 𝓡 code.env .Λ) #self code.function (code.unfolded 𝓤 H 𝓜 𝓡)
     (meets 𝓤 H (𝓖 .A) (givenOf 𝓤 H 𝓜 𝓖) (𝓜 .mem) (𝓡 .run) (tablesOf 𝓤 H 𝓜 (tables 𝓤 H 𝓜 𝓡 code.env))
-    (cited 𝓤 H (Empty 𝓤 H (𝓖 .A) (𝓜 .mem) (𝓡 .run)) 𝓜 𝓡 code.env #empty e-def.routine code.calls-pool·Pool·empty (e-thm.met 𝓤 H 𝓜 𝓖 𝓡))
+    (cited 𝓤 H (Empty 𝓤 H (𝓖 .A) (𝓜 .mem) (𝓡 .run)) 𝓜 𝓡 code.env #empty e-def.routine code.calls-join-pool·Pool·empty (e-thm.met 𝓤 H 𝓜 𝓖 𝓡))
     (cited 𝓤 H (Core 𝓤 H (𝓖 .A) (𝓜 .mem) (𝓡 .run)) 𝓜 𝓡 code.env #core g-def.routine code.calls-walk·lent·walk-in (g-thm.met 𝓤 H 𝓜 𝓖 𝓡)))

@@ -1,5 +1,5 @@
 -- No entry left, the entry back, or a bond.
-use Rattle.ways.proofs.Told.{entry-told}
+use Rattle.walk_entry.proofs.Told.{entry-told}
 use Rattle.walk.proofs.Moves.{grows-quiet, onward-same}
 use Rattle.walk.proofs.Onto.{atom-left, atom-past, atom-bond}
 use borrow.Author.Needs.{needs}

@@ -4,7 +4,7 @@ use native.Mathlib.Omega.{arith}
 use lib.ListN.{length}
 use borrow.Author.Needs.{needs}
 use Rattle.writer.specs.Tables.{spoken, writer}
-use Rattle.ways.specs.Graph.{graph}
+use Rattle.walk_entry.specs.Graph.{graph}
 use Rattle.walk.specs.Walk.{walk, turnsOf}
 use Rattle.walk.proofs.Going.{Going, going-start, from-start, going-near, going-on, going-off, going-end, turns-are, few-turns}
 use Rattle.walk.proofs.turns.walk.Statement.{statement}

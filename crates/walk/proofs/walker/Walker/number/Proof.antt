@@ -1,4 +1,4 @@
--- `walk::walker::Walker::number` meets its contract: a walk of its MIR, by hand. The pool's part of the walker's local is lent by `&mut` to `pool::lent::hit` for a lifetime that the walk makes, beside the pool's words, which go to the callee for good; it comes back at what the callee left, in its own place, and the walker is handed back with the answer.
+-- `walk::walker::Walker::number` meets its contract: a walk of its MIR, by hand. The pool's part of the walker's local is lent by `&mut` to `join_pool::lent::hit` for a lifetime that the walk makes, beside the pool's words, which go to the callee for good; it comes back at what the callee left, in its own place, and the walker is handed back with the answer.
 -- Assumes nothing.
 use mathlib.Core.Path.{_≡_, refl, ap}
 use Prim.Native.Nat.{ℕ, _<_, _^_}
@@ -43,18 +43,18 @@ use denote.Triple.Table.{entered, cited}
 use denote.Triple.Walked.{says, Stays, gave-slice, stay-none, walkOf, AllGo, goes-none, goes-gave-slice, Walks, ends-at, walked, walk-meets}
 use denote.Triple.Clauses.{ensured, lasts}
 use denote.Exit.{yes}
-use Rattle.pool.specs.Pairs.{hitOf}
-use Rattle.pool.specs.Strokes.{stroke, strokeOf}
-use Rattle.pool.specs.declared.Pool.{Pool}
-use Rattle.pool.specs.declared.lent.Told.{Told}
-use Rattle.pool.proofs.Pool as T
-use Rattle.pool.proofs.Pool.Laws as T′
-use Rattle.pool.proofs.lent.Told as E
-use Rattle.pool.proofs.lent.Told.Laws as E′
-use Rattle.pool.proofs.lent.hit as g
-use Rattle.pool.proofs.lent.hit.Symbol as g-def
-use Rattle.pool.proofs.lent.hit.Symbol.{name as #core}
-use Rattle.pool.proofs.lent.hit.Met as g-thm
+use Rattle.join_pool.specs.Pairs.{hitOf}
+use Rattle.join_pool.specs.Strokes.{stroke, strokeOf}
+use Rattle.join_pool.specs.declared.Pool.{Pool}
+use Rattle.join_pool.specs.declared.lent.Told.{Told}
+use Rattle.join_pool.proofs.Pool as T
+use Rattle.join_pool.proofs.Pool.Laws as T′
+use Rattle.join_pool.proofs.lent.Told as E
+use Rattle.join_pool.proofs.lent.Told.Laws as E′
+use Rattle.join_pool.proofs.lent.hit as g
+use Rattle.join_pool.proofs.lent.hit.Symbol as g-def
+use Rattle.join_pool.proofs.lent.hit.Symbol.{name as #core}
+use Rattle.join_pool.proofs.lent.hit.Met as g-thm
 use Rattle.walk.specs.Walk.{numberedIn}
 use Rattle.walk.specs.declared.walker.Walker.{Walker}
 use Rattle.walk.specs.declared.walker.Numbered.{Numbered}
@@ -185,4 +185,4 @@ number-spec 𝓤 H 𝓜 𝓖 𝓡 =
     entered 𝓤 H (tripleOf 𝓤 H (𝓖 .A) f.signature (f.spec 𝓤 H (𝓖 .A) (𝓜 .mem) (𝓡 .run)))
     (tables 𝓤 H 𝓜 𝓡 code.env .C) (tables 𝓤 H 𝓜 𝓡 code.env .Λ) #self code.function (code.unfolded 𝓤 H 𝓜 𝓡)
     (number-meets 𝓤 H (𝓖 .A) (givenOf 𝓤 H 𝓜 𝓖) (𝓜 .mem) (𝓡 .run) (tablesOf 𝓤 H 𝓜 (tables 𝓤 H 𝓜 𝓡 code.env))
-    (cited 𝓤 H (Core 𝓤 H (𝓖 .A) (𝓜 .mem) (𝓡 .run)) 𝓜 𝓡 code.env #core g-def.routine code.calls-pool·lent·hit (g-thm.met 𝓤 H 𝓜 𝓖 𝓡)))
+    (cited 𝓤 H (Core 𝓤 H (𝓖 .A) (𝓜 .mem) (𝓡 .run)) 𝓜 𝓡 code.env #core g-def.routine code.calls-join-pool·lent·hit (g-thm.met 𝓤 H 𝓜 𝓖 𝓡)))

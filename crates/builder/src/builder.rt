@@ -1,0 +1,351 @@
+// The events of a builder, on lent tables and a few numbers beside them. A refused event changes nothing but the refusal.
+//
+// atoms: an atom's record each. entries: three words each, in the order of the events: source, kind, target. path: the
+// atoms from the first to the one that stands. rings: the open ring numbers, at rest.
+ghost use mathlib.Core.Path.{_≡_};
+ghost use mathlib.Core.List.{List, [], _∷_};
+ghost use Prim.Native.Nat.{ℕ, _+_, _*_, _-_, _^_, _<_, _≤_};
+ghost use lib.ListN.{getD};
+ghost use lib.Seq.{sets};
+ghost use Rattle.feature.specs.Bonds.{codeOf, reconcileOf};
+ghost use Rattle.builder.specs.Rings.{numbers};
+ghost use Rattle.builder.specs.State.{bld, Small, startOf, refusedSt, poppedSt, failedSt, joinedSt, entryWords, entryList, entered, rootOf, bonded, extendOf, openedOf, openingKind, closedBy, joinOf};
+use crate::opens::rejoin;
+use feature::atom_kind::AtomKind;
+use feature::atom_kind::Inverted;
+use feature::atom_kind::invert;
+use feature::bond_kind::BondKind;
+use feature::bond_kind::Reconciled;
+use feature::bond_kind::code;
+use feature::bond_kind::reconcile;
+use feature::bond_kind::reverse;
+use feature::bond_kind::sure_kind;
+use packing::ATOM_WORDS;
+use packing::look;
+use packing::poke;
+use packing::store;
+
+// The words of an entry while a line is read.
+pub const ENTRY_WORDS: usize = 3;
+// The target of an entry whose ring number is open: this and the number of the join.
+pub const OPEN: u32 = 0x8000_0000;
+
+// The desk's numbers of the events' refusals.
+pub const INVERSION: u32 = 10;
+
+pub const ATOM_ROOM: u32 = 13;
+
+pub const BOND_ROOM: u32 = 14;
+
+pub const NO_ATOM: u32 = 18;
+
+// What a builder knows beside its tables. A refusal is its number and what it carries; 0 is none.
+pub struct Builder {
+    pub refusal: u32,
+    pub carried: usize,
+    // How many atoms and entries there is room for.
+    pub places: usize,
+    pub slots: usize,
+    pub atoms: usize,
+    pub entries: usize,
+    pub top: usize,
+    pub joins: usize,
+    // The first join that failed: its closing and its opening atom.
+    pub failed: bool,
+    pub closing: u32,
+    pub opening: u32,
+}
+
+impl Builder {
+    pub fn start(places: usize, slots: usize) -> Builder
+        ensures { λ r. ⌜ r ≡ startOf places slots ⌝ }
+    {
+        Builder {
+            refusal: 0,
+            carried: 0,
+            places,
+            slots,
+            atoms: 0,
+            entries: 0,
+            top: 0,
+            joins: 0,
+            failed: false,
+            closing: 0,
+            opening: 0,
+        }
+    }
+
+    // The same, field by field: a copy of the whole carries the bytes between the fields along too, and through memory.
+    pub fn afresh(self) -> Builder
+        ensures { λ r. ⌜ r ≡ self ⌝ }
+    {
+        Builder {
+            refusal: self.refusal,
+            carried: self.carried,
+            places: self.places,
+            slots: self.slots,
+            atoms: self.atoms,
+            entries: self.entries,
+            top: self.top,
+            joins: self.joins,
+            failed: self.failed,
+            closing: self.closing,
+            opening: self.opening,
+        }
+    }
+
+    pub fn refused(mut self, number: u32, carried: usize) -> Builder
+        ensures { λ r. ⌜ r ≡ refusedSt self number carried ⌝ }
+    {
+        self.refusal = number;
+        self.carried = carried;
+        self
+    }
+
+    // A pop beyond the path empties it.
+    pub fn pop(mut self, n: usize) -> Builder
+        ensures { λ r. ⌜ r ≡ poppedSt self n ⌝ }
+    {
+        let top = self.top;
+        if n <= top {
+            self.top = top - n;
+            return self.afresh();
+        }
+        self.top = 0;
+        self.afresh()
+    }
+
+    // One join more, and one entry.
+    pub fn joined(mut self) -> Builder
+        requires { ⌜ Small self ⌝ }
+        ensures { λ r. ⌜ r ≡ joinedSt self ⌝ }
+    {
+        self.joins = self.joins + 1;
+        self.entries = self.entries + 1;
+        self
+    }
+
+    // A join whose kinds do not agree: the first such is remembered.
+    pub fn fail(mut self, closing: u32, opening: u32) -> Builder
+        requires { ⌜ Small self ⌝ }
+        ensures { λ r. ⌜ r ≡ failedSt self closing opening ⌝ }
+    {
+        self.joins = self.joins + 1;
+        if self.failed {
+            return self;
+        }
+        self.failed = true;
+        self.closing = closing;
+        self.opening = opening;
+        self
+    }
+}
+
+fn put_entry(entries: &mut [u32], e: usize, source: u32, kind: u32, target: u32)
+    requires { ⌜ e ≤ 2 ^ 32 ⌝ }
+    ensures { λ r. ⌜ now (entries .exit) ≡ sets (now (entries .entry)) (e * entryWords) (entryList source kind target) ⌝ }
+{
+    let at = e * ENTRY_WORDS;
+    poke(entries, at, source);
+    poke(entries, at + 1, kind);
+    poke(entries, at + 2, target);
+}
+
+// The two entries of a bond, one after the other. Where there is room for both, one test does.
+fn put_bond(entries: &mut [u32], e: usize, source: u32, kind: u32, target: u32, reversed: u32)
+    requires { ⌜ e < 2 ^ 32 ⌝ }
+    ensures { λ r. ⌜ now (entries .exit) ≡ sets (sets (now (entries .entry)) (e * entryWords) (entryList source kind target)) ((e + 1) * entryWords) (entryList target reversed source) ⌝ }
+{
+    let at = e * ENTRY_WORDS;
+    if at + 5 < entries.len() {
+        entries[at] = source;
+        entries[at + 1] = kind;
+        entries[at + 2] = target;
+        entries[at + 3] = target;
+        entries[at + 4] = reversed;
+        entries[at + 5] = source;
+    } else {
+        put_entry(entries, e, source, kind, target);
+        put_entry(entries, e + 1, target, reversed, source);
+    }
+}
+
+// A new atom on the path; `held` is how many entries there are then.
+fn enter(atoms: &mut [u32], path: &mut [u32], b: Builder, k: AtomKind, held: usize) -> Builder
+    requires { ⌜ Small b ⌝ }
+    ensures { λ r. ⌜ ((e s : List ℕ) → bld (now (atoms .exit)) e (now (path .exit)) s r ≡ entered (bld (now (atoms .entry)) e (now (path .entry)) s b) k held) ⌝ }
+{
+    let mut b = b;
+    let n = b.atoms;
+    let top = b.top;
+    store(atoms, n * ATOM_WORDS, k);
+    poke(path, top, n as u32);
+    b.atoms = n + 1;
+    b.top = top + 1;
+    b.entries = held;
+    b
+}
+
+// A first atom of a component.
+pub fn root(atoms: &mut [u32], path: &mut [u32], b: Builder, k: AtomKind, place: usize) -> Builder
+    requires { ⌜ Small b ⌝ }
+    ensures { λ r. ⌜ ((e s : List ℕ) → bld (now (atoms .exit)) e (now (path .exit)) s r ≡ rootOf (bld (now (atoms .entry)) e (now (path .entry)) s b) k place) ⌝ }
+{
+    if b.places <= b.atoms {
+        return b.refused(ATOM_ROOM, place);
+    }
+    let held = b.entries;
+    enter(atoms, path, b, k, held)
+}
+
+// A new atom and the two entries of its bond.
+fn attach(
+    atoms: &mut [u32],
+    entries: &mut [u32],
+    path: &mut [u32],
+    b: Builder,
+    k: BondKind,
+    t: AtomKind,
+) -> Builder
+    requires { ⌜ Small b × (0 < b .top) ⌝ }
+    ensures { λ r. ⌜ ((s : List ℕ) → bld (now (atoms .exit)) (now (entries .exit)) (now (path .exit)) s r
+        ≡ entered (bonded (bld (now (atoms .entry)) (now (entries .entry)) (now (path .entry)) s b) k) t (b .entries + 2)) ⌝ }
+{
+    let e = b.entries;
+    let n = b.atoms as u32;
+    let source = look(path, b.top - 1);
+    put_bond(entries, e, source, code(k), n, code(reverse(k)));
+    enter(atoms, path, b, t, e + 2)
+}
+
+// A new atom, its mark turned, bonded to the one that stands.
+pub fn extend(
+    atoms: &mut [u32],
+    entries: &mut [u32],
+    path: &mut [u32],
+    b: Builder,
+    k: BondKind,
+    t: AtomKind,
+    place: usize,
+) -> Builder
+    requires { ⌜ Small b ⌝ }
+    ensures { λ r. ⌜ ((s : List ℕ) → bld (now (atoms .exit)) (now (entries .exit)) (now (path .exit)) s r
+        ≡ extendOf (bld (now (atoms .entry)) (now (entries .entry)) (now (path .entry)) s b) k t place) ⌝ }
+{
+    if b.top == 0 {
+        return b.refused(NO_ATOM, 0);
+    }
+    if b.places <= b.atoms {
+        return b.refused(ATOM_ROOM, place);
+    }
+    if b.slots < b.entries + 2 {
+        return b.refused(BOND_ROOM, place);
+    }
+    let n = b.atoms;
+    match invert(t) {
+        Inverted::Refused => b.refused(INVERSION, n),
+        Inverted::Turned(turned) => attach(atoms, entries, path, b, k, turned),
+    }
+}
+
+// A free ring number opens an entry.
+fn open_ring(
+    entries: &mut [u32],
+    path: &[u32],
+    rings: &mut [u32],
+    b: Builder,
+    k: BondKind,
+    number: usize,
+) -> Builder
+    requires { ⌜ Small b × (0 < b .top) × (number < numbers) ⌝ }
+    ensures { λ r. ⌜ ((a : List ℕ) → bld a (now (entries .exit)) (now (path .entry)) (now (rings .exit)) r
+        ≡ openedOf (bld a (now (entries .entry)) (now (path .entry)) (now (rings .entry)) b) k number) ⌝ }
+{
+    let e = b.entries;
+    let source = look(path, b.top - 1);
+    put_entry(entries, e, source, code(k), OPEN + b.joins as u32);
+    rejoin(rings, number, (e + 1) as u32);
+    b.joined()
+}
+
+// The entries of a closed ring bond: the opening one filled, and one at the closing atom.
+fn settle(
+    entries: &mut [u32],
+    w: usize,
+    e: usize,
+    left: BondKind,
+    closing: u32,
+    right: BondKind,
+    opening: u32,
+)
+    requires { ⌜ (w ≤ 2 ^ 40) × (e ≤ 2 ^ 32) ⌝ }
+    ensures { λ r. ⌜ now (entries .exit) ≡ sets (sets (now (entries .entry)) (w + 1) (codeOf left ∷ closing ∷ [])) (e * entryWords) (entryList closing (codeOf right) opening) ⌝ }
+{
+    poke(entries, w + 1, code(left));
+    poke(entries, w + 2, closing);
+    put_entry(entries, e, closing, code(right), opening);
+}
+
+// The second use of a ring number: held is what stands for it, one more than its entry.
+fn close_ring(
+    entries: &mut [u32],
+    path: &[u32],
+    rings: &mut [u32],
+    b: Builder,
+    k: BondKind,
+    number: usize,
+    held: u32,
+    place: usize,
+) -> Builder
+    requires { ⌜ Small b × (0 < b .top) × (number < numbers) × (0 < held) × (held ≡ getD (now rings) number 0) ⌝ }
+    ensures { λ r. ⌜ ((a : List ℕ) → bld a (now (entries .exit)) (now (path .entry)) (now (rings .exit)) r
+        ≡ closedBy (bld a (now (entries .entry)) (now (path .entry)) (now (rings .entry)) b) number place
+        (reconcileOf (openingKind (bld a (now (entries .entry)) (now (path .entry)) (now (rings .entry)) b) number) k)) ⌝ }
+{
+    let w = (held as usize - 1) * ENTRY_WORDS;
+    let opening = look(entries, w);
+    let left = sure_kind(look(entries, w + 1));
+    let closing = look(path, b.top - 1);
+    match reconcile(left, k) {
+        Reconciled::Fails => {
+            rejoin(rings, number, 0);
+            b.fail(closing, opening)
+        }
+        Reconciled::Both(l, r) => {
+            let e = b.entries;
+            if b.slots < e + 1 {
+                return b.refused(BOND_ROOM, place);
+            }
+            settle(entries, w, e, l, closing, r, opening);
+            rejoin(rings, number, 0);
+            b.joined()
+        }
+    }
+}
+
+// A ring number at the atom that stands.
+pub fn join(
+    entries: &mut [u32],
+    path: &[u32],
+    rings: &mut [u32],
+    b: Builder,
+    k: BondKind,
+    number: usize,
+    place: usize,
+) -> Builder
+    requires { ⌜ Small b × (number < numbers) ⌝ }
+    ensures { λ r. ⌜ ((a : List ℕ) → bld a (now (entries .exit)) (now (path .entry)) (now (rings .exit)) r
+        ≡ joinOf (bld a (now (entries .entry)) (now (path .entry)) (now (rings .entry)) b) k number place) ⌝ }
+{
+    if b.top == 0 {
+        return b.refused(NO_ATOM, 0);
+    }
+    let held = look(rings, number);
+    if held == 0 {
+        if b.slots < b.entries + 1 {
+            return b.refused(BOND_ROOM, place);
+        }
+        return open_ring(entries, path, rings, b, k, number);
+    }
+    close_ring(entries, path, rings, b, k, number, held, place)
+}

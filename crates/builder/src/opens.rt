@@ -1,0 +1,66 @@
+// The open ring numbers: for each number 0, or one more than the place of the entry that it opened.
+ghost use mathlib.Core.Path.{_≡_};
+ghost use Prim.Native.Nat.{_<_, _≤_};
+ghost use lib.ListN.{length, set};
+ghost use lib.Seq.{sets};
+ghost use Rattle.builder.specs.Rings.{numbers, opensOf, joinedAt};
+
+pub const NUMBERS: usize = 100;
+
+pub struct Opens {
+    pub at: [u32; NUMBERS],
+}
+
+impl Opens {
+    // The list goes in whole and comes back whole, with another value for one number.
+    pub fn join(mut self, number: usize, value: u32) -> Opens
+        requires { ⌜ number < numbers ⌝ }
+        ensures { λ r. ⌜ r ≡ joinedAt self number value ⌝ }
+    {
+        self.at[number] = value;
+        self
+    }
+}
+
+// The list out of the room in which it rests between joins.
+fn taken(rings: &[u32]) -> Opens
+    requires { ⌜ numbers ≤ length (now rings) ⌝ }
+    ensures { λ r. ⌜ r ≡ opensOf (now (rings .entry)) ⌝ }
+{
+    let mut o = Opens {
+        at: [0u32; NUMBERS],
+    };
+    let mut i: usize = 0;
+    while i < NUMBERS {
+        o.at[i] = rings[i];
+        i += 1;
+    }
+    o
+}
+
+// The list back into that room.
+fn put_back(rings: &mut [u32], o: Opens)
+    requires { ⌜ (numbers ≤ length (now rings)) × (length (o .at) ≡ numbers) ⌝ }
+    ensures { λ r. ⌜ now (rings .exit) ≡ sets (now (rings .entry)) 0 (o .at) ⌝ }
+{
+    let mut i: usize = 0;
+    while i < NUMBERS {
+        rings[i] = o.at[i];
+        i += 1;
+    }
+}
+
+// A ring number's value set in the room where the list rests: the list goes through a join whole. Room for fewer numbers
+// holds no list.
+pub fn rejoin(rings: &mut [u32], number: usize, value: u32)
+    requires { ⌜ number < numbers ⌝ }
+    ensures { λ r. ⌜ now (rings .exit) ≡ set (now (rings .entry)) number value ⌝ }
+{
+    if rings.len() < NUMBERS {
+        packing::poke(rings, number, value);
+        return;
+    }
+    let o = taken(rings);
+    let joined = o.join(number, value);
+    put_back(rings, joined)
+}

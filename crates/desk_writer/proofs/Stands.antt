@@ -1,0 +1,102 @@
+-- A call on what stands for a writer's state and on what does not. Assumes nothing.
+use Prim.Native.Nat.{ℕ, zero, suc, _+_, _-_, _≤_, _<_}
+use mathlib.Core.Path.{_≡_, refl, sym, ap, _∙_}
+use mathlib.Core.Bool.{Bool, true, false}
+use mathlib.Core.List.{List, [], _∷_, _++_, append-nil, append-assoc}
+use native.Mathlib.Omega.{arith}
+use native.Mathlib.Numerals.{add-one}
+use lib.ListN.{length, getD, set, take, drop, replicate, length-append, length-take, length-replicate, drop-of-length-le, take-append-drop}
+use lib.Seq.{drop-cons, set-at}
+use lib.Dec.{eqb, ltb, leb}
+use borrow.Author.Tests.{eq-eqb, ne-eqb, ltb-true, leb-true}
+use Rattle.feature.specs.Pick.{pick}
+use Rattle.builder.specs.Limits.{atomLimit, lesserOf}
+use Rattle.writer.specs.declared.Writer.{Writer}
+use Rattle.writer.specs.declared.Wrote.{Wrote}
+use Rattle.writer.specs.declared.Wrote.the-variants as wrote
+use Rattle.writer.specs.Line.{Event}
+use Rattle.writer.specs.Tables.{Spoken, told, pieceRoom, eventOf, far, Near}
+use Rattle.desk_writer.specs.declared.Said.{Said}
+use Rattle.desk_writer.specs.declared.Said.the-variants as said
+use Rattle.desk_writer.specs.Pieces.{isWriter, clearedFrom, tailOf, saidOf, left, leftBy, eventD}
+use Rattle.desk_pool.proofs.Both.{first, second}
+
+room-most : (starts : List ℕ) → pieceRoom starts ≤ atomLimit
+unfolding pieceRoom lesserOf
+room-most starts = go (ltb (length starts) atomLimit) refl where
+  go : (q : Bool) → ltb (length starts) atomLimit ≡ q → pick (ltb (length starts) atomLimit) (length starts) atomLimit ≤ atomLimit
+  go true q = rw q (omega (arith, ltb-true (length starts) atomLimit q))
+  go false q = rw q (omega arith)
+
+-- what the writer's events ask
+pub near : (s : Spoken) → isWriter s ≡ true → Near (s .at)
+unfolding isWriter
+near s h1 =
+    let h2 = second (leb (s .at .pieces) (pieceRoom (s .starts))) _ h1 in
+    let h3 = second (leb (s .at .len) (length (s .out))) _ h2 in
+    let p = leb-true (s .at .pieces) (pieceRoom (s .starts)) (first (leb (s .at .pieces) (pieceRoom (s .starts))) _ h1) in
+    record {
+      pieces = omega (arith, p, room-most (s .starts));
+      len = ltb-true (s .at .len) far (first (ltb (s .at .len) far) _ h3);
+    }
+
+module _ (s : Spoken) (e : Event) where
+  -- numbers that stand for nothing
+  pub bad-number : (ok : Bool) → ok ≡ false → left said.BadTable (s .out) (s .starts) ≡ eventD ok s e
+  unfolding eventD
+  bad-number ok h = simp h
+
+  pub bad-writer : (ok r : Bool) → ok ≡ true → r ≡ isWriter s → r ≡ false → left said.BadTable (s .out) (s .starts) ≡ eventD ok s e
+  unfolding eventD
+  bad-writer ok r h w f = simp (h, ← w, f)
+
+  -- and those that stand for a writer
+  pub stood : (ok r : Bool) (t : Wrote) (a : Said) (out last starts : List ℕ) → ok ≡ true → r ≡ isWriter s → r ≡ true → told t out starts ≡ eventOf s e → (a ≡ saidOf t) × (last ≡ tailOf (s .at) t out) → left a last starts ≡ eventD ok s e
+  unfolding eventD leftBy
+  stood ok r t a out last starts h w f d g =
+      ap (λ (x : Said). left x last starts) (g .0)
+      ∙ ap (λ (x : List ℕ). left (saidOf t) x starts) (g .1)
+      ∙ ap (leftBy (s .at)) d
+      ∙ simp (h, ← w, f)
+
+-- ---- an output cleared from a place on
+abbrev pub clearedTo : ℕ → ℕ → List ℕ → List ℕ
+clearedTo from at t = (take from t ++ replicate (at - from) 0) ++ drop at t
+
+zero-last : (n : ℕ) → _++_ {A = ℕ} (replicate n 0) (0 ∷ []) ≡ replicate (suc n) 0
+zero-last zero = refl
+zero-last (suc n) = ap (λ (l : List ℕ). 0 ∷ l) (zero-last n)
+
+pub cleared-start : (t : List ℕ) (from : ℕ) → t ≡ clearedTo from from t
+cleared-start t from =
+    let z : from - from ≡ 0 = omega arith in
+    sym (take-append-drop from t) ∙ rw (z, append-nil (take from t))
+
+pub cleared-step : (t : List ℕ) (from at : ℕ) → from ≤ at → at < length t → set (clearedTo from at t) at 0 ≡ clearedTo from (at + 1) t
+cleared-step t from at l h =
+    let long : length (take from t ++ replicate (at - from) 0) ≡ at = simp (length-append, length-take, length-replicate {A = ℕ}) (omega arith) in
+    let more : suc at - from ≡ suc (at - from) = omega arith in
+    rw (add-one, drop-cons t at 0 h)
+    (set-at (take from t ++ replicate (at - from) 0) (getD t at 0) (drop (suc at) t) 0 at long
+    ∙ sym (append-assoc (take from t ++ replicate (at - from) 0) (0 ∷ []) (drop (suc at) t))
+    ∙ ap (λ (x : List ℕ). x ++ drop (suc at) t)
+    (append-assoc (take from t) (replicate (at - from) 0) (0 ∷ [])
+    ∙ ap (λ (x : List ℕ). take from t ++ x) (zero-last (at - from) ∙ ap (λ (n : ℕ). replicate n 0) (sym more))))
+
+pub cleared-end : (t : List ℕ) (from at : ℕ) → from ≤ at → at ≤ length t + (from - length t) → length t ≤ at → clearedTo from at t ≡ clearedFrom from t
+unfolding clearedFrom
+cleared-end t from at l m h =
+    let e : at - from ≡ length t - from = omega arith in
+    rw (drop-of-length-le t h, e) (append-nil (take from t ++ replicate (length t - from) 0))
+
+-- ---- the answer to an event, and what is left of the output
+pub held-first : (before w : Writer) (o p : List ℕ) → before .pieces ≡ 0 → p ≡ clearedFrom (w .len) o → (said.Held w ≡ said.Held w) × (p ≡ pick (eqb (before .pieces) 0) (clearedFrom (w .len) o) o)
+held-first before w o p z e = (refl, e ∙ rw (eq-eqb _ _ z))
+
+pub held-later : (before w : Writer) (o : List ℕ) → (before .pieces ≡ 0 → ⊥) → (said.Held w ≡ said.Held w) × (o ≡ pick (eqb (before .pieces) 0) (clearedFrom (w .len) o) o)
+held-later before w o z = (refl, rw (ne-eqb _ _ z))
+
+module _ (before : Writer) (o : List ℕ) (r : Wrote) where
+  pub answer-held : (w : Writer) (a : Said) (p : List ℕ) → r ≡ wrote.Held w → (a ≡ said.Held w) × (p ≡ pick (eqb (before .pieces) 0) (clearedFrom (w .len) o) o) → (a ≡ saidOf r) × (p ≡ tailOf before r o)
+  unfolding saidOf tailOf
+  answer-held w a p e h = rw e h

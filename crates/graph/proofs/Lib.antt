@@ -1,4 +1,0 @@
--- Laws that several proofs cite.
-pub mod Rings
-pub mod Sums
-pub mod Joins

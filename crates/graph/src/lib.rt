@@ -1,8 +1,0 @@
-// A graph in the making: what each event makes of a builder's state. purr's graph/builder.rs.
-//
-// limits: how large a job may be.
-// opens: the open ring numbers.
-// builder: the events.
-pub mod builder;
-pub mod limits;
-pub mod opens;

@@ -1,0 +1,43 @@
+// A call of a pool that is lent and changed in its own place, as purr's pool changes its own. It is thin, over the call by
+// value.
+ghost use mathlib.Core.Path.{_≡_};
+ghost use Rattle.join_pool.specs.Pairs.{hitOf};
+ghost use Rattle.join_pool.specs.Strokes.{stroke, strokeOf};
+use crate::Given;
+use crate::Pool;
+
+// An answer apart from the pool.
+pub enum Told {
+    Number(u32),
+    Full,
+}
+
+pub struct Stroke {
+    pub pool: Pool,
+    pub told: Told,
+}
+
+// The call by value; a refused one leaves the pool as it was.
+fn strike(pairs: &mut [u32], p: Pool, a: u32, b: u32) -> Stroke
+    ensures { λ r. ⌜ (r ≡ strokeOf p (hitOf p (now (pairs .entry)) a b .answer)) × (now (pairs .exit) ≡ hitOf p (now (pairs .entry)) a b .left) ⌝ }
+{
+    match crate::hit(pairs, p, a, b) {
+        Given::Number(q, n) => Stroke {
+            pool: q,
+            told: Told::Number(n),
+        },
+        Given::Full => Stroke {
+            pool: p,
+            told: Told::Full,
+        },
+    }
+}
+
+// A call for the pair of two atoms.
+pub fn hit(pool: &mut Pool, pairs: &mut [u32], a: u32, b: u32) -> Told
+    ensures { λ r. ⌜ (stroke (now (pool .exit)) r ≡ strokeOf (now (pool .entry)) (hitOf (now (pool .entry)) (now (pairs .entry)) a b .answer)) × (now (pairs .exit) ≡ hitOf (now (pool .entry)) (now (pairs .entry)) a b .left) ⌝ }
+{
+    let s = strike(pairs, *pool, a, b);
+    *pool = s.pool;
+    s.told
+}

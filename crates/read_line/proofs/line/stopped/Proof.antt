@@ -1,0 +1,21 @@
+use Rattle.read_line.specs.Post.{cameMissing}
+use borrow.Author.Needs.{needs}
+use Rattle.read_line.proofs.line.stopped.Statement.{statement}
+use Rattle.read_line.proofs.line.stopped.Tie as tie
+
+missing-character-requires : tie.Need-missing-character-requires
+missing-character-requires c κs = search needs
+
+put-missing-requires : tie.Need-put-missing-requires
+put-missing-requires c κs = search needs
+
+arrive-requires : tie.Need-arrive-requires
+arrive-requires c κs = search needs
+
+returns : tie.Need-returns
+unfolding cameMissing
+returns c = simp (c .arrive .ensures, ← c .before .before .missing-character .ensures, ← c .before .put-missing .ensures)
+
+pub stopped-spec : {M : Type 1} → statement M
+stopped-spec =
+    tie.close (tie.spec missing-character-requires put-missing-requires arrive-requires returns)

@@ -1,0 +1,156 @@
+// Requests about a builder: `builder EVENTS`, what its events make of nothing, one after the other, and the build of it.
+// The first refused event ends them.
+ghost use Prim.Native.Nat.{_≤_};
+ghost use lib.ListN.{length};
+use crate::lines::print_answer;
+use answer_text::desk::Said;
+use answer_text::desk::alone;
+use answer_text::desk::print_said;
+use answer_text::desk::with_one;
+use builder::build::build;
+use builder::builder::Builder;
+use builder::builder::ENTRY_WORDS;
+use builder::builder::NO_ATOM;
+use builder::builder::extend;
+use builder::builder::join;
+use builder::builder::root;
+use builder::limits::ATOMS;
+use builder::limits::BONDS;
+use builder::opens::NUMBERS;
+use check::same;
+use oracle_form::byte::put;
+use oracle_form::byte::put_word;
+use oracle_form::event;
+use oracle_form::event::Event;
+use oracle_form::number;
+use packing::ATOM_WORDS;
+use packing::BOND_WORDS;
+use read::built;
+
+// What no count of a builder exceeds.
+const ENOUGH: usize = 1_000_000;
+// A request that cannot be read. No refusal of the desk has this number.
+const UNREADABLE: u32 = 99;
+
+// The builder after an event.
+fn take(
+    atoms: &mut [u32],
+    entries: &mut [u32],
+    path: &mut [u32],
+    rings: &mut [u32],
+    b: Builder,
+    event: Event,
+) -> Builder {
+    if ENOUGH < b.atoms {
+        return b.refused(UNREADABLE, 0);
+    }
+    if ENOUGH < b.entries {
+        return b.refused(UNREADABLE, 0);
+    }
+    if ENOUGH < b.top {
+        return b.refused(UNREADABLE, 0);
+    }
+    if ENOUGH < b.joins {
+        return b.refused(UNREADABLE, 0);
+    }
+    let held = b.atoms;
+    match event {
+        Event::Root(k) => root(atoms, path, b, k, held),
+        Event::Extend(bond, k) => extend(atoms, entries, path, b, bond, k, held),
+        Event::Join(bond, n) => {
+            if NUMBERS <= n {
+                return b.refused(UNREADABLE, 0);
+            }
+            join(entries, path, rings, b, bond, n, held)
+        }
+        Event::Pop(n) => b.pop(n),
+        Event::Bad => b.refused(UNREADABLE, 0),
+    }
+}
+
+// How many events were taken, the refused one among them, and the builder then.
+struct Ran {
+    events: usize,
+    b: Builder,
+}
+
+fn run(
+    s: &[u8],
+    atoms: &mut [u32],
+    entries: &mut [u32],
+    path: &mut [u32],
+    rings: &mut [u32],
+    start: Builder,
+) -> Ran {
+    let mut b = start;
+    let mut at = 0;
+    let mut events = 0;
+    // No event is without a byte, so there are not more of them than bytes.
+    while events < s.len() {
+        if s.len() <= at {
+            return Ran { events, b };
+        }
+        events += 1;
+        let parsed = event::parse(s, at);
+        let event = parsed.event;
+        b = take(atoms, entries, path, rings, b, event);
+        at = parsed.next;
+        if b.refusal != 0 {
+            return Ran { events, b };
+        }
+    }
+    Ran { events, b }
+}
+
+// A refusal of the builder's and what it carries.
+fn refusal_of(b: Builder) -> Said {
+    if b.refusal == NO_ATOM {
+        return alone(b.refusal);
+    }
+    with_one(b.refusal, b.carried)
+}
+
+// A refused event by its index, from 0, and its refusal.
+fn print_refused(out: &mut [u8], ran: Ran) -> usize
+    ensures { λ r. ⌜ r ≤ length (now (out .exit)) ⌝ }
+{
+    let b = ran.b;
+    if b.refusal == UNREADABLE {
+        return 0;
+    }
+    if ran.events == 0 {
+        return 0;
+    }
+    let at = put_word(out, 0, b"refused ");
+    let at = number::print(out, at, ran.events - 1);
+    let at = put(out, at, b' ');
+    print_said(out, at, refusal_of(b))
+}
+
+pub fn answer(operation: &[u8], arguments: &[u8], out: &mut [u8]) -> usize
+    ensures { λ r. ⌜ r ≤ length (now (out .exit)) ⌝ }
+{
+    if !same(operation, b"builder") {
+        return 0;
+    }
+    let mut atoms = [0u32; ATOMS * ATOM_WORDS];
+    let mut bonds = [0u32; BONDS * BOND_WORDS];
+    let mut entries = [0u32; BONDS * ENTRY_WORDS];
+    let mut path = [0u32; ATOMS];
+    let mut rings = [0u32; NUMBERS];
+    let start = Builder::start(ATOMS, BONDS);
+    let ran = run(
+        arguments,
+        &mut atoms,
+        &mut entries,
+        &mut path,
+        &mut rings,
+        start,
+    );
+    let b = ran.b;
+    if b.refusal != 0 {
+        return print_refused(out, ran);
+    }
+    let r = build(&mut atoms, &mut bonds, &entries, &mut path, b);
+    print_answer(out, built(r, b), &atoms, &bonds)
+}

@@ -1,0 +1,35 @@
+// Requests about a ring number: `spellrnum`.
+ghost use Prim.Native.Nat.{_≤_};
+ghost use lib.ListN.{length};
+use check::same;
+use oracle_form::number;
+use oracle_form::text;
+use spell::spell_rnum;
+
+const HIGHEST: usize = 99;
+// No ring number's text is longer.
+const LONGEST: usize = 3;
+
+fn print_spelling(out: &mut [u8], n: u32) -> usize
+    ensures { λ r. ⌜ r ≤ length (now (out .exit)) ⌝ }
+{
+    let mut spelling = [0u8; LONGEST];
+    let m = spell_rnum(&mut spelling, n);
+    text::print(out, 0, &spelling[0..m])
+}
+
+pub fn answer(operation: &[u8], arguments: &[u8], out: &mut [u8]) -> usize
+    ensures { λ r. ⌜ r ≤ length (now (out .exit)) ⌝ }
+{
+    let n = number::parse(arguments, 0);
+    if n.next != arguments.len() {
+        return 0;
+    }
+    if HIGHEST < n.value {
+        return 0;
+    }
+    if same(operation, b"spellrnum") {
+        return print_spelling(out, n.value as u32);
+    }
+    0
+}

@@ -1,0 +1,189 @@
+// Requests about a writer: `writer EVENTS`, what its events make of nothing, one after the other; and
+// `writerin ROOM PIECES EVENTS`, the same with room for so many bytes and pieces. The first refused event ends them.
+ghost use Prim.Native.Nat.{_≤_};
+ghost use lib.ListN.{length};
+use answer_text::desk::DONE;
+use answer_text::desk::Said;
+use answer_text::desk::alone;
+use answer_text::desk::print_said;
+use answer_text::said::of_wrote;
+use builder::limits::ATOMS;
+use builder::limits::BONDS;
+use check::same;
+use oracle_form::byte::pass;
+use oracle_form::byte::put;
+use oracle_form::byte::put_word;
+use oracle_form::event;
+use oracle_form::event::Event;
+use oracle_form::number;
+use oracle_form::text;
+use writer::Writer;
+use writer::Wrote;
+use writer::event::extend;
+use writer::event::join;
+use writer::event::pop;
+use writer::event::root;
+
+// Room for the longest line of the largest graph, and one piece more than a writer may hold.
+const LINE: usize = 24 * ATOMS + 4 * BONDS;
+
+const PIECES: usize = ATOMS + 1;
+// The highest ring number.
+const HIGHEST: usize = 99;
+// What no count of a writer exceeds.
+const ENOUGH: usize = 1_000_000;
+// A request that cannot be read. No refusal of the desk has this number.
+const UNREADABLE: u32 = 99;
+
+// The writer after an event, and what the event was answered with.
+struct Told {
+    w: Writer,
+    said: Said,
+}
+
+fn tell(w: Writer, wrote: Wrote) -> Told {
+    let said = of_wrote(wrote);
+    match wrote {
+        Wrote::Held(held) => Told { w: held, said },
+        _ => Told { w, said },
+    }
+}
+
+fn unreadable(w: Writer) -> Told {
+    Told {
+        w,
+        said: alone(UNREADABLE),
+    }
+}
+
+fn take(line: &mut [u8], starts: &mut [u32], w: Writer, event: Event) -> Told {
+    if ENOUGH < w.pieces {
+        return unreadable(w);
+    }
+    if ENOUGH < w.len {
+        return unreadable(w);
+    }
+    match event {
+        Event::Root(k) => tell(w, root(line, starts, w, k)),
+        Event::Extend(b, k) => tell(w, extend(line, starts, w, b, k)),
+        Event::Join(b, n) => {
+            if HIGHEST < n {
+                return unreadable(w);
+            }
+            tell(w, join(line, starts, w, b, n as u32))
+        }
+        Event::Pop(d) => tell(w, pop(line, starts, w, d)),
+        Event::Bad => unreadable(w),
+    }
+}
+
+// How many events were taken, the refused one among them, and what the last one came to.
+struct Ran {
+    events: usize,
+    told: Told,
+}
+
+fn run(s: &[u8], from: usize, line: &mut [u8], starts: &mut [u32]) -> Ran {
+    let mut told = Told {
+        w: Writer { pieces: 0, len: 0 },
+        said: alone(DONE),
+    };
+    let mut at = from;
+    let mut events = 0;
+    // No event is without a byte, so there are not more of them than bytes.
+    while events < s.len() {
+        if s.len() <= at {
+            return Ran { events, told };
+        }
+        events += 1;
+        let parsed = event::parse(s, at);
+        let event = parsed.event;
+        told = take(line, starts, told.w, event);
+        at = parsed.next;
+        if told.said.no != DONE {
+            return Ran { events, told };
+        }
+    }
+    Ran { events, told }
+}
+
+// A refused event by its index, from 0, and its refusal.
+fn print_refused(out: &mut [u8], events: usize, s: Said) -> usize
+    ensures { λ r. ⌜ r ≤ length (now (out .exit)) ⌝ }
+{
+    if s.no == UNREADABLE {
+        return 0;
+    }
+    if events == 0 {
+        return 0;
+    }
+    let at = put_word(out, 0, b"refused ");
+    let at = number::print(out, at, events - 1);
+    let at = put(out, at, b' ');
+    print_said(out, at, s)
+}
+
+// The line that a writer holds.
+fn print_line(out: &mut [u8], w: Writer, line: &[u8]) -> usize
+    ensures { λ r. ⌜ r ≤ length (now (out .exit)) ⌝ }
+{
+    let len = w.len;
+    if line.len() < len {
+        return put_word(out, 0, b"longer than the output");
+    }
+    let at = put_word(out, 0, b"0 ");
+    let at = number::print(out, at, len);
+    let at = put(out, at, b' ');
+    text::print(out, at, &line[0..len])
+}
+
+// The events from a place on, with the room that is lent.
+fn answer_in(out: &mut [u8], s: &[u8], at: usize, line: &mut [u8], starts: &mut [u32]) -> usize
+    ensures { λ r. ⌜ r ≤ length (now (out .exit)) ⌝ }
+{
+    let ran = run(s, at, line, starts);
+    let told = ran.told;
+    if told.said.no != DONE {
+        return print_refused(out, ran.events, told.said);
+    }
+    print_line(out, told.w, line)
+}
+
+// The same with room for so many bytes and pieces.
+fn answer_from(s: &[u8], at: usize, bytes: usize, pieces: usize, out: &mut [u8]) -> usize
+    ensures { λ r. ⌜ r ≤ length (now (out .exit)) ⌝ }
+{
+    let mut line = [0u8; LINE];
+    let mut starts = [0u32; PIECES];
+    if s.len() < at {
+        return 0;
+    }
+    if LINE < bytes {
+        return 0;
+    }
+    if PIECES < pieces {
+        return 0;
+    }
+    answer_in(out, s, at, &mut line[0..bytes], &mut starts[0..pieces])
+}
+
+fn answer_within(arguments: &[u8], out: &mut [u8]) -> usize
+    ensures { λ r. ⌜ r ≤ length (now (out .exit)) ⌝ }
+{
+    let bytes = number::parse(arguments, 0);
+    let pieces = number::parse(arguments, pass(arguments, bytes.next, b' '));
+    let at = pass(arguments, pieces.next, b' ');
+    answer_from(arguments, at, bytes.value, pieces.value, out)
+}
+
+pub fn answer(operation: &[u8], arguments: &[u8], out: &mut [u8]) -> usize
+    ensures { λ r. ⌜ r ≤ length (now (out .exit)) ⌝ }
+{
+    if same(operation, b"writer") {
+        return answer_from(arguments, 0, LINE, PIECES, out);
+    }
+    if same(operation, b"writerin") {
+        return answer_within(arguments, out);
+    }
+    0
+}

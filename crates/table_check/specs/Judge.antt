@@ -1,0 +1,50 @@
+-- Whether tables hold a graph: the first record whose numbers stand for no atom or bond, counted from 0 through all atoms and
+-- then all entries (17). An atom's number of entries stands for none where they go beyond the entries that there are; an
+-- entry, where no atom holds it. A target beyond the atoms is no matter of this: it is 5, when the walk comes to it.
+use Prim.Native.Nat.{ℕ, zero, suc, _+_, _-_, _*_}
+use mathlib.Core.List.{List}
+use mathlib.Core.Bool.{Bool, true, false}
+use lib.ListN.{getD}
+use lib.Dec.{ltb, leb}
+use Rattle.feature.specs.Pick.{pick}
+use Rattle.packing.specs.declared.Entry.{Entry}
+use Rattle.packing.specs.declared.Entry.the-variants as entry
+use Rattle.packing.specs.Words.{atomWords, bondWords, isAtom, bondAt}
+use Rattle.table_check.specs.declared.Judged.{Judged}
+use Rattle.table_check.specs.declared.Judged.the-variants.{Bad, Holds}
+
+unfoldable pub isEntry : Entry → Bool
+isEntry (entry.Bond k t) = true
+isEntry entry.Bad = false
+
+-- whether the record e stands for a bond
+unfoldable pub bondStands : List ℕ → ℕ → Bool
+bondStands bonds e = isEntry (bondAt bonds (e * bondWords))
+
+-- how many entries atom a says that it has
+abbrev pub degreeOf : List ℕ → ℕ → ℕ
+degreeOf atoms a = getD atoms (a * atomWords + 2) 0
+
+-- n atoms from a on, where those before hold so many of m entries: the first that is bad, or how many are held in all
+unfoldable pub atomsFrom : List ℕ → ℕ → ℕ → ℕ → ℕ → Judged
+atomsFrom atoms m zero a held = Holds held
+atomsFrom atoms m (suc n) a held =
+    pick (ltb (m - held) (degreeOf atoms a)) (Bad a)
+    (pick (isAtom atoms a) (atomsFrom atoms m n (a + 1) (held + degreeOf atoms a))
+    (Bad a))
+
+-- n entries from e on, of which the atoms hold those below `held`: the first that is bad, or the one after them
+unfoldable pub bondsFrom : List ℕ → ℕ → ℕ → ℕ → ℕ
+bondsFrom bonds held zero e = e
+bondsFrom bonds held (suc n) e =
+    pick (leb held e) e
+    (pick (bondStands bonds e) (bondsFrom bonds held n (e + 1))
+    e)
+
+unfoldable pub afterAtoms : Judged → List ℕ → ℕ → ℕ → ℕ
+afterAtoms (Bad a) bonds n m = a
+afterAtoms (Holds held) bonds n m = n + bondsFrom bonds held m 0
+
+-- the first bad record of n atoms and m entries, or n + m
+unfoldable pub badRecord : List ℕ → ℕ → List ℕ → ℕ → ℕ
+badRecord atoms n bonds m = afterAtoms (atomsFrom atoms m n 0 0) bonds n m

@@ -1,0 +1,186 @@
+-- A graph handed in as tables and written without refusal: events that differ from those of its walk only in their places in a
+-- text build the graph renumbered in walk order.
+use mathlib.Core.Path.{_≡_, sym, ap, _∙_, subst}
+use mathlib.Core.List.{List, _++_, map}
+use mathlib.Core.Bool.{false}
+use Prim.Native.Nat.{ℕ, zero, suc, _+_, _-_, _/_, _≤_, _<_}
+use native.Mathlib.Omega.{arith}
+use lib.ListN.{length}
+use lib.Dec.{ltb, leb, eqb}
+use borrow.Author.Tests.{ltb-true, ltb-false, eqb-true}
+use Rattle.packing.specs.Words.{atomWords, bondWords, isAtom}
+use Rattle.builder.specs.Limits.{atomLimit, bondLimit, lesserOf}
+use Rattle.read_line.specs.Events as reader
+use Rattle.builder_meaning.specs.Sketch.{Sketch, countOf, startS, runS}
+use Rattle.walk_entry.specs.Graph.{kindAt}
+use Rattle.walk_entry.specs.Ways.{halfBond, duplicateBond, incompatibleBond, inversion}
+use Rattle.walk.specs.declared.walker.Walker.{Walker}
+use Rattle.walk.specs.Walk.{unknownTarget, loop}
+use Rattle.table_check.specs.declared.Judged.{Judged}
+use Rattle.table_check.specs.declared.Judged.the-variants.{Bad, Holds}
+use Rattle.table_check.specs.Judge.{degreeOf, bondStands, atomsFrom, bondsFrom, afterAtoms, badRecord}
+use Rattle.write.specs.declared.answer.Written.{Written}
+use Rattle.write.specs.declared.answer.Written.the-variants.{Done, AtomRoom, BondRoom, OutRoom, BadTable}
+use Rattle.write.specs.Write.{zeros, graphOf, walkIn, saidIn, walkOf, saidOf, lineSaid, refusalOf, atomRoom, bondRoom, Left, left, refusing, putLine, concluded, graphWritten, writeOf}
+use Rattle.walk_laws.specs.Trek.{Room, degrees}
+use Rattle.feature.proofs.Cases.{by-test}
+use Rattle.walk_laws.proofs.Judged.{judged-degrees}
+use Rattle.trip_graph.specs.Renumber.{Simple, Known, told, unplaced, Numbering, Built}
+use Rattle.trip_graph.specs.Renumbered.{byWalk, renumbered}
+use Rattle.trip_graph.specs.Marks.{Tetrahedral}
+use Rattle.trip_graph.specs.Opened.{Numbered}
+use Rattle.trip_graph.proofs.Trip.{graph-trip, walk-numbers, walk-numbered, walk-known, renumbered-count}
+use Rattle.trip_graph.proofs.Places.{places-free}
+
+-- ---- tables in which the judge finds nothing bad
+module _ (atoms bonds : List ℕ) (n m : ℕ) (few : n ≤ atomLimit) (good : badRecord atoms n bonds m ≡ n + m)
+    (W : Simple (graphOf n atoms bonds)) (T : (a : ℕ) → a < n → Tetrahedral (kindAt (graphOf n atoms bonds) a))
+    (fine : walkOf atoms n bonds m .at .refusal ≡ 0) where
+  table-room : Room (graphOf n atoms bonds) atomLimit atomLimit atomLimit
+  table-room = record { met = few; back = few; taken = few }
+
+  pub entries : degrees (graphOf n atoms bonds) n ≡ m
+  entries = judged-degrees n m atoms bonds _ good
+
+  pub table-trip : (places slots : ℕ) → n ≤ places → m ≤ slots
+      → Built (runS (startS places slots) (told (saidOf atoms n bonds m))) (renumbered (graphOf n atoms bonds) (byWalk (walkOf atoms n bonds m)))
+  unfolding walkIn saidIn
+  table-trip places slots hp hs =
+      graph-trip (graphOf n atoms bonds) W T atomLimit atomLimit atomLimit atomLimit table-room few m (omega (arith, entries)) fine places slots hp (omega (arith, entries))
+
+  pub table-numbers : Numbering (graphOf n atoms bonds) (byWalk (walkOf atoms n bonds m))
+  unfolding walkIn
+  table-numbers = walk-numbers (graphOf n atoms bonds) W T atomLimit atomLimit atomLimit atomLimit table-room few m (omega (arith, entries)) fine
+
+  pub table-known : Known (graphOf n atoms bonds)
+  unfolding walkIn
+  table-known = walk-known (graphOf n atoms bonds) W T atomLimit atomLimit atomLimit atomLimit table-room few m (omega (arith, entries)) fine
+
+  pub table-numbered : Numbered (saidOf atoms n bonds m)
+  unfolding walkIn saidIn
+  table-numbered = walk-numbered (graphOf n atoms bonds) W T atomLimit atomLimit atomLimit atomLimit table-room few m (omega (arith, entries)) fine
+
+  pub table-count : countOf (renumbered (graphOf n atoms bonds) (byWalk (walkOf atoms n bonds m))) ≡ m
+  unfolding walkIn
+  table-count =
+      renumbered-count (graphOf n atoms bonds) W T atomLimit atomLimit atomLimit atomLimit table-room few m (omega (arith, entries)) fine ∙ entries
+
+  -- the same for events of a reader, which say where they stood in a text
+  pub placed-trip : (places slots : ℕ) → n ≤ places → m ≤ slots → (es : List reader.Event) → map unplaced es ≡ told (saidOf atoms n bonds m)
+      → Built (runS (startS places slots) es) (renumbered (graphOf n atoms bonds) (byWalk (walkOf atoms n bonds m)))
+  placed-trip places slots hp hs es e =
+      let b = table-trip places slots hp hs in
+      let same : runS (startS places slots) es ≡ runS (startS places slots) (map unplaced es) =
+      places-free (startS places slots) es (ap (λ (x : List reader.Event). runS (startS places slots) x .refusal) e ∙ b .refusal) in
+      subst (λ (d : Sketch). Built d (renumbered (graphOf n atoms bonds) (byWalk (walkOf atoms n bonds m)))) (sym (same ∙ ap (runS (startS places slots)) e)) b
+
+-- ---- what a write that is done says
+bonds-most : (bonds : List ℕ) (held k e : ℕ) → bondsFrom bonds held k e ≤ e + k
+unfolding bondsFrom
+bonds-most bonds held zero e = omega arith
+bonds-most bonds held (suc k) e =
+    by-test (λ (x : ℕ). x ≤ e + suc k) (leb held e) (λ q. omega arith)
+    (λ q. by-test (λ (x : ℕ). x ≤ e + suc k) (bondStands bonds e) (λ y. omega (arith, bonds-most bonds held k (e + 1))) (λ y. omega arith))
+
+Below : ℕ → Judged → Type 0
+Below n (Bad a) = a < n
+Below n (Holds held) = 0 ≤ held
+
+atoms-most : (atoms : List ℕ) (m k a held : ℕ) → Below (a + k) (atomsFrom atoms m k a held)
+unfolding atomsFrom Below
+atoms-most atoms m zero a held = omega arith
+atoms-most atoms m (suc k) a held =
+    let z : a + 1 + k ≡ a + suc k = omega arith in
+    by-test (Below (a + suc k)) (ltb (m - held) (degreeOf atoms a)) (λ q. omega arith)
+    (λ q. by-test (Below (a + suc k)) (isAtom atoms a) (λ y. rw z at (atoms-most atoms m k (a + 1) (held + degreeOf atoms a))) (λ y. omega arith))
+
+after-most : (x : Judged) (bonds : List ℕ) (n m : ℕ) → Below n x → afterAtoms x bonds n m ≤ n + m
+unfolding afterAtoms Below
+after-most (Bad a) bonds n m h = omega (arith, h)
+after-most (Holds held) bonds n m h = omega (arith, bonds-most bonds held m 0)
+
+bad-most : (atoms bonds : List ℕ) (n m : ℕ) → badRecord atoms n bonds m ≤ n + m
+unfolding badRecord
+bad-most atoms bonds n m =
+    let z : 0 + n ≡ n = omega arith in
+    after-most (atomsFrom atoms m n 0 0) bonds n m (rw z at (atoms-most atoms m n 0 0))
+
+few-atoms : (atoms : List ℕ) (n : ℕ) → ltb (atomRoom atoms) n ≡ false → n ≤ atomLimit
+unfolding atomRoom lesserOf
+few-atoms atoms n =
+    by-test (λ (x : ℕ). ltb x n ≡ false → n ≤ atomLimit) (ltb (length atoms / atomWords) atomLimit)
+    (λ q h. omega (arith, ltb-false (length atoms / atomWords) n h, ltb-true (length atoms / atomWords) atomLimit q))
+    (λ q h. ltb-false atomLimit n h)
+
+few-bonds : (bonds : List ℕ) (m : ℕ) → ltb (bondRoom bonds) m ≡ false → m ≤ bondLimit
+unfolding bondRoom lesserOf
+few-bonds bonds m =
+    by-test (λ (x : ℕ). ltb x m ≡ false → m ≤ bondLimit) (ltb (length bonds / bondWords) bondLimit)
+    (λ q h. omega (arith, ltb-false (length bonds / bondWords) m h, ltb-true (length bonds / bondWords) bondLimit q))
+    (λ q h. ltb-false bondLimit m h)
+
+-- a refused walk is not done
+never-done : (z : Walker) (len : ℕ) → refusalOf z ≡ Done len → ⊥
+unfolding refusalOf
+never-done z len =
+    by-test N (eqb (z .refusal) unknownTarget) (λ q e. let y : _≡_ {A = ℕ} 0 1 = cc in omega arith)
+    (λ q. by-test N (eqb (z .refusal) loop) (λ q e. let y : _≡_ {A = ℕ} 0 1 = cc in omega arith)
+    (λ q. by-test N (eqb (z .refusal) halfBond) (λ q e. let y : _≡_ {A = ℕ} 0 1 = cc in omega arith)
+    (λ q. by-test N (eqb (z .refusal) duplicateBond) (λ q e. let y : _≡_ {A = ℕ} 0 1 = cc in omega arith)
+    (λ q. by-test N (eqb (z .refusal) incompatibleBond) (λ q e. let y : _≡_ {A = ℕ} 0 1 = cc in omega arith)
+    (λ q. by-test N (eqb (z .refusal) inversion) (λ q e. let y : _≡_ {A = ℕ} 0 1 = cc in omega arith)
+    (λ q e. let y : _≡_ {A = ℕ} 0 1 = cc in omega arith))))))
+  where
+    N : Written → Type 0
+    N x = x ≡ Done len → ⊥
+
+-- the tables were admitted, the walk was not refused, and the line of what it said is in the output, zeros after it
+pub record WasDone (room : ℕ) (atoms : List ℕ) (n : ℕ) (bonds : List ℕ) (m len : ℕ) (out : List ℕ) : Type 0 where
+  pub few : n ≤ atomLimit
+  pub most : m ≤ bondLimit
+  pub good : badRecord atoms n bonds m ≡ n + m
+  pub fine : walkOf atoms n bonds m .at .refusal ≡ 0
+  pub length-is : len ≡ length (lineSaid (saidOf atoms n bonds m))
+  pub fits : length (lineSaid (saidOf atoms n bonds m)) ≤ room
+  pub line : out ≡ lineSaid (saidOf atoms n bonds m) ++ zeros (room - length (lineSaid (saidOf atoms n bonds m)))
+
+pub was-done : (room : ℕ) (atoms : List ℕ) (n : ℕ) (bonds : List ℕ) (m len : ℕ) (out : List ℕ) → writeOf room atoms n bonds m ≡ left (Done len) out
+    → WasDone room atoms n bonds m len out
+unfolding writeOf graphWritten concluded putLine
+was-done room atoms n bonds m len out =
+    let D : Type 0 = WasDone room atoms n bonds m len out in
+    let L : List ℕ = lineSaid (saidOf atoms n bonds m) in
+    by-test (λ (x : Left). x ≡ left (Done len) out → D) (ltb (atomRoom atoms) n) (λ q e. absurd (refusal-no (AtomRoom n) (λ z. let y : _≡_ {A = ℕ} 0 1 = cc in omega arith) e))
+    (λ q1. by-test (λ (x : Left). x ≡ left (Done len) out → D) (ltb (bondRoom bonds) m) (λ q e. absurd (refusal-no (BondRoom m) (λ z. let y : _≡_ {A = ℕ} 0 1 = cc in omega arith) e))
+    (λ q2. by-test (λ (x : Left). x ≡ left (Done len) out → D) (ltb (badRecord atoms n bonds m) (n + m))
+    (λ q e. absurd (refusal-no (BadTable (badRecord atoms n bonds m)) (λ z. let y : _≡_ {A = ℕ} 0 1 = cc in omega arith) e))
+    (λ q3. by-test (λ (x : Left). x ≡ left (Done len) out → D) (eqb (walkOf atoms n bonds m .at .refusal) 0)
+    (λ q4. by-test (λ (x : Left). x ≡ left (Done len) out → D) (ltb room (length L)) (λ q e. absurd (refusal-no (OutRoom (length L)) (λ z. let y : _≡_ {A = ℕ} 0 1 = cc in omega arith) e))
+    (λ q5 e. record {
+      few = few-atoms atoms n q1;
+      most = few-bonds bonds m q2;
+      good = omega (arith, bad-most atoms bonds n m, ltb-false (badRecord atoms n bonds m) (n + m) q3);
+      fine = eqb-true _ 0 q4;
+      length-is = done-length (ap (λ (x : Left). x .answer) e);
+      fits = ltb-false room (length L) q5;
+      line = sym (ap (λ (x : Left). x .out) e);
+    }))
+    (λ q e. absurd (never-done (walkOf atoms n bonds m .at) len (ap (λ (x : Left). x .answer) e))))))
+  where
+    refusal-no : (r : Written) → (r ≡ Done len → ⊥) → refusing room r ≡ left (Done len) out → ⊥
+    refusal-no r h e = h (ap (λ (x : Left). x .answer) e)
+
+    done-length : {a b : ℕ} → Done a ≡ Done b → b ≡ a
+    done-length e = cc
+
+-- ---- the law for tables
+-- A simple graph with no configuration but TH1 or TH2, written without refusal: a reader that says of the line what the walk said,
+-- each event at any place, has its builder build the graph renumbered in walk order.
+pub written-trip : (room : ℕ) (atoms : List ℕ) (n : ℕ) (bonds : List ℕ) (m len : ℕ) (out : List ℕ)
+    → Simple (graphOf n atoms bonds) → ((a : ℕ) → a < n → Tetrahedral (kindAt (graphOf n atoms bonds) a))
+    → writeOf room atoms n bonds m ≡ left (Done len) out
+    → (places slots : ℕ) → n ≤ places → m ≤ slots → (es : List reader.Event) → map unplaced es ≡ told (saidOf atoms n bonds m)
+    → Built (runS (startS places slots) es) (renumbered (graphOf n atoms bonds) (byWalk (walkOf atoms n bonds m))) × Numbering (graphOf n atoms bonds) (byWalk (walkOf atoms n bonds m))
+written-trip room atoms n bonds m len out W T e places slots hp hs es h =
+    let d = was-done room atoms n bonds m len out e in
+    (placed-trip atoms bonds n m (d .few) (d .good) W T (d .fine) places slots hp hs es h, table-numbers atoms bonds n m (d .few) (d .good) W T (d .fine))

@@ -1,0 +1,91 @@
+-- What is asked of a graph whose walk is told to a builder, what the builder is told, and what it makes of it.
+use Prim.Native.Nat.{ℕ, _≤_, _<_}
+use mathlib.Core.Path.{_≡_}
+use mathlib.Core.Logic.{_≢_}
+use mathlib.Core.List.{List, [], map}
+use lib.ListN.{getD}
+use Rattle.feature.specs.Bonds.{reverseOf}
+use Rattle.feature.specs.declared.bond_kind.BondKind.the-variants.{Elided}
+use Rattle.read_line.specs.declared.lead.Lead.the-variants as lead
+use Rattle.read_line.specs.Events as reader
+use Rattle.writer.specs.Line as writer
+use Rattle.builder.specs.declared.build.Built.the-variants.{Done}
+use Rattle.builder_meaning.specs.Sketch.{Node, None, Sketch, numberOf, countOf, finishS}
+use Rattle.walk_entry.specs.Graph.{Bond, Graph, kindAt, degreeAt, bondOf, bond}
+use Rattle.trip_graph.specs.Marks.{backKind}
+use Rattle.trip_graph.specs.Renumbered.{Numbers, entriesOf, renumbered}
+
+-- ---- what is asked of a graph
+-- an entry of t that leads back to a, and is the reverse of the entry e
+pub record Backed (g : Graph) (a t : ℕ) (e : Bond) : Type 0 where
+  pub place : ℕ
+  pub within : place < degreeAt g t
+  pub leads : bondOf g t place .to ≡ a
+  pub reversed : bondOf g t place .kind ≡ reverseOf (e .kind)
+
+-- At least one atom; no self-bond; at most one bond between two atoms; each bond held at both ends as the other's reverse.
+pub record Simple (g : Graph) : Type 0 where
+  pub some : 1 ≤ g .size
+  pub apart : (a i : ℕ) → a < g .size → i < degreeAt g a → bondOf g a i .to ≢ a
+  pub once : (a i j : ℕ) → a < g .size → i < degreeAt g a → j < degreeAt g a → bondOf g a i .to ≡ bondOf g a j .to → i ≡ j
+  pub backed : (a i : ℕ) → a < g .size → i < degreeAt g a → Backed g a (bondOf g a i .to) (bondOf g a i)
+
+-- every target is an atom: no premise where a walk was not refused, for it would have met a target that is none (5)
+abbrev pub Known : Graph → Type 0
+Known g = (a i : ℕ) → a < g .size → i < degreeAt g a → bondOf g a i .to < g .size
+
+-- ---- a walk's events as a reader says them
+unfoldable pub toldAs : writer.Event → reader.Event
+toldAs (writer.Root k) = reader.Enter lead.Dot k 0
+toldAs (writer.Extend b k) = reader.Enter (lead.Bond b) k 0
+toldAs (writer.Join b n) = reader.Join b n 0
+toldAs (writer.Pop d) = reader.Pop d
+
+unfoldable pub told : List writer.Event → List reader.Event
+told es = map toldAs es
+
+-- a reader's event with its place in the text forgotten
+unfoldable pub unplaced : reader.Event → reader.Event
+unplaced (reader.Enter l k place) = reader.Enter l k 0
+unplaced (reader.Join b n place) = reader.Join b n 0
+unplaced (reader.Pop n) = reader.Pop n
+unplaced (reader.Miss m) = reader.Miss m
+unplaced (reader.Nest place) = reader.Nest place
+
+-- ---- what is left
+-- the numbers of a walk renumber the atoms: each atom has one, the atom of each number has that number, and a parent's entry is one
+-- of the atom's
+pub record Numbering (g : Graph) (p : Numbers) : Type 0 where
+  pub number : (a : ℕ) → a < g .size → p .number a < g .size
+  pub within : (v : ℕ) → v < g .size → p .atom v < g .size
+  pub atom : (a : ℕ) → a < g .size → p .atom (p .number a) ≡ a
+  pub numbered : (v : ℕ) → v < g .size → p .number (p .atom v) ≡ v
+  pub parent : (a : ℕ) → p .parent a ≤ degreeAt g a
+
+-- a builder took every event, failed at no join, left no ring open, and made these atoms
+pub record Built (d : Sketch) (ns : List Node) : Type 0 where
+  pub refusal : d .refusal ≡ 0
+  pub failure : d .failure ≡ None
+  pub opens : d .opens ≡ []
+  pub unseen : d .unseen ≡ 0
+  pub nodes : d .nodes ≡ ns
+  pub says : finishS d ≡ Done
+
+-- an entry with its target by its number
+unfoldable pub numberedAs : (ℕ → ℕ) → Bond → Bond
+numberedAs number e = bond (e .kind) (number (e .to))
+
+-- the graph h looks like g renumbered: the atom v of h is the atom that has the number v
+pub record Renumbers (g h : Graph) (p : Numbers) : Type 0 where
+  pub size : h .size ≡ g .size
+  pub kind : (v : ℕ) → v < g .size → kindAt h v ≡ backKind (kindAt g (p .atom v)) (p .parent (p .atom v))
+  pub degree : (v : ℕ) → v < g .size → degreeAt h v ≡ degreeAt g (p .atom v)
+  pub entry : (v i : ℕ) → v < g .size → i < degreeAt g (p .atom v)
+      → bondOf h v i ≡ numberedAs (p .number) (getD (entriesOf g (p .atom v) (p .parent (p .atom v))) i (bond Elided 0))
+
+-- What a builder d made of n atoms and m entries is the graph g renumbered: the builder is done, it made the renumbered atoms, and it
+-- counted the atoms and entries.
+pub record ComesBack (g : Graph) (p : Numbers) (d : Sketch) (n m : ℕ) : Type 0 where
+  pub built : Built d (renumbered g p)
+  pub atoms : numberOf d ≡ n
+  pub entries : countOf (d .nodes) ≡ m

@@ -1,0 +1,93 @@
+-- What a reader should say of a line that a writer made of events, and of which events that is said.
+use Prim.Native.Nat.{ℕ, _+_, _-_, _≤_, _<_, max}
+use mathlib.Core.Path.{_≡_}
+use mathlib.Core.List.{List, [], _∷_, _++_}
+use mathlib.Core.Bool.{Bool, true, false}
+use lib.ListN.{take, drop}
+use Rattle.survive.specs.Survive.{Survives}
+use Rattle.read_line.specs.declared.lead.Lead.the-variants.{Dot, Bond}
+use Rattle.read_line.specs.Events as reader
+use Rattle.writer.specs.Line.{Event, Root, Extend, Join, Pop}
+
+-- ---- the reader's events
+-- an event with the place in it forgotten
+unfoldable pub placeless : reader.Event → reader.Event
+placeless (reader.Enter l k p) = reader.Enter l k 0
+placeless (reader.Join b n p) = reader.Join b n 0
+placeless (reader.Pop n) = reader.Pop n
+placeless (reader.Miss m) = reader.Miss m
+placeless (reader.Nest p) = reader.Nest 0
+
+unfoldable pub unplaced : List reader.Event → List reader.Event
+unplaced [] = []
+unplaced (e ∷ es) = placeless e ∷ unplaced es
+
+-- whether a branch too many is among the events
+unfoldable pub nests : List reader.Event → Bool
+nests [] = false
+nests (reader.Enter l k p ∷ es) = nests es
+nests (reader.Join b n p ∷ es) = nests es
+nests (reader.Pop n ∷ es) = nests es
+nests (reader.Miss m ∷ es) = nests es
+nests (reader.Nest p ∷ es) = true
+
+-- What is said with room for so many open branches, where w are open at once: D, places aside, if there is room for them, and
+-- else as much of D as comes before a branch too many, then that branch and nothing more.
+pub data Says : ℕ → ℕ → List reader.Event → List reader.Event → Type 0 where
+  all : {w room : ℕ} {D x : List reader.Event} → w ≤ room → unplaced x ≡ D → Says w room D x
+  cut : {w room : ℕ} {D x : List reader.Event} (A B : List reader.Event) → room < w → D ≡ A ++ B → unplaced x ≡ A ++ (reader.Nest 0 ∷ []) → Says w room D x
+
+-- what the reader should say of what the writer was told
+unfoldable pub retoldOne : Event → reader.Event
+retoldOne (Root k) = reader.Enter Dot k 0
+retoldOne (Extend b k) = reader.Enter (Bond b) k 0
+retoldOne (Join b n) = reader.Join b n 0
+retoldOne (Pop d) = reader.Pop d
+
+unfoldable pub retold : List Event → List reader.Event
+retold [] = []
+retold (e ∷ es) = retoldOne e ∷ retold es
+
+-- ---- the writer's events
+-- Told in an order that a line can say, with so many pieces since the last root: an atom or a ring number needs one to stand
+-- on, and a branch leaves at least one, takes at least one and takes no root.
+abbrev pub Told : ℕ → List Event → Type 0
+Told n [] = Unit {0}
+Told n (Root k ∷ es) = Told 1 es
+Told n (Extend b k ∷ es) = (1 ≤ n) × Told (n + 1) es
+Told n (Join b r ∷ es) = (1 ≤ n) × Told n es
+Told n (Pop d ∷ es) = (1 ≤ d) × (d < n) × Told (n - d) es
+
+-- Each atom's text, read alone, is the atom, and each ring number has a text.
+abbrev pub Spelled : List Event → Type 0
+Spelled [] = Unit {0}
+Spelled (Root k ∷ es) = Survives k × Spelled es
+Spelled (Extend b k ∷ es) = Survives k × Spelled es
+Spelled (Join b r ∷ es) = (r ≤ 99) × Spelled es
+Spelled (Pop d ∷ es) = Spelled es
+
+-- ---- how many branches are open at once
+-- the most of some numbers, 0 if there are none
+unfoldable pub greatest : List ℕ → ℕ
+greatest [] = 0
+greatest (n ∷ ns) = max n (greatest ns)
+
+-- the last piece, with brackets of this depth laid onto it
+unfoldable pub deepened : ℕ → List ℕ → List ℕ
+deepened w [] = []
+deepened w (n ∷ ns) = max n w ∷ ns
+
+-- how deep the brackets of each piece are, the last one first: a pop puts what it takes in brackets
+unfoldable pub depthsOne : Event → List ℕ → List ℕ
+depthsOne (Root k) ws = 0 ∷ ws
+depthsOne (Extend b k) ws = 0 ∷ ws
+depthsOne (Join b n) ws = ws
+depthsOne (Pop d) ws = deepened (greatest (take d ws) + 1) (drop d ws)
+
+unfoldable pub depths : List Event → List ℕ → List ℕ
+depths [] ws = ws
+depths (e ∷ es) ws = depths es (depthsOne e ws)
+
+-- and how deep those of the line are
+unfoldable pub depth : List Event → ℕ
+depth es = greatest (depths es [])
