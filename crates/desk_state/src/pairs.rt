@@ -2,7 +2,8 @@
 //
 // Bonds of one kind between the same two atoms may be many, so they are counted: for each atom the entries from it are put into
 // the counts and those to it are taken off, and nothing may be left. Where a bond is its own reverse, from an atom to itself,
-// their number is even. Each entry is looked at once from either end, so the time grows with the entries and the atoms.
+// their number is even. Each entry is linked, put, taken off and looked at again once, so that the time grows with the entries
+// and the atoms.
 ghost use mathlib.Core.Path.{_≡_};
 ghost use Prim.Native.Nat.{_*_, _<_, _≤_};
 ghost use lib.ListN.{length, getD};
