@@ -1,19 +1,18 @@
 -- A mark that can't be turned is one that the reader refuses to turn; and what an event that has room passes. Assumes nothing.
 use Prim.Native.Nat.{ℕ, _+_, _<_, _≤_}
 use mathlib.Core.Path.{_≡_, refl, ap, _∙_, subst}
-use mathlib.Core.Bool.{Bool, true, false}
 use mathlib.Core.List.{List, [], _∷_, _++_}
 use mathlib.Core.Option.{Option, none, some}
 use native.Mathlib.Omega.{arith}
 use lib.Dec.{eqb}
 use borrow.Author.Tests.{eqb-false, ne-eqb}
-use Rattle.feature.specs.Pick.{pick}
 use Rattle.feature.specs.Kinds.{noConfiguration, noHydrogens, th1, th2, invertOf, invertBracket}
 use Rattle.feature.specs.declared.atom_kind.AtomKind.{AtomKind}
 use Rattle.feature.specs.declared.atom_kind.AtomKind.the-variants.{Star, Aliphatic, Aromatic, Bracket}
 use Rattle.feature.specs.declared.atom_kind.Inverted.{Inverted}
 use Rattle.feature.specs.declared.atom_kind.Inverted.the-variants.{Turned, Refused}
 use Rattle.feature.specs.declared.bond_kind.BondKind.{BondKind}
+use Rattle.feature.proofs.Cases.{by-test}
 use Rattle.read_line.specs.declared.lead.Lead.the-variants.{Dot, Bond}
 use Rattle.read_line.specs.Events.{Event, Enter, Join, Pop, Miss, Nest}
 use Rattle.builder_meaning.specs.Sketch.{countOf}
@@ -22,10 +21,6 @@ use Rattle.read.specs.declared.Answer.the-variants as answer
 use Rattle.opensmiles_laws.specs.Molecule.{Molecule, asHeld, told}
 use Rattle.opensmiles_laws.specs.Stops.{Unturnable, unturnable, Meets, no-place, no-slots, not-turned, no-slot, not-turned-after, ends, wrong, deep, Passes, countAll, Marked, Turnable, Stops}
 
-pub by-equal : {A : Type 0} (P : A → Type 0) (q : Bool) {x y : A} → (q ≡ true → P x) → (q ≡ false → P y) → P (pick q x y)
-by-equal P true f g = f refl
-by-equal P false f g = g refl
-
 pub refused-unturnable : (k : AtomKind) → invertOf k ≡ Refused → Unturnable k
 unfolding invertOf invertBracket
 refused-unturnable Star h = let z : _≡_ {A = ℕ} 0 1 = cc in absurd (omega arith)
@@ -33,11 +28,11 @@ refused-unturnable (Aliphatic n) h = let z : _≡_ {A = ℕ} 0 1 = cc in absurd 
 refused-unturnable (Aromatic n) h = let z : _≡_ {A = ℕ} 0 1 = cc in absurd (omega arith)
 refused-unturnable (Bracket b) h =
     let P : Inverted → Type 0 = λ i. i ≡ Refused → Unturnable (Bracket b) in
-    by-equal P (eqb (b .configuration) noConfiguration) (λ q h. let z : _≡_ {A = ℕ} 0 1 = cc in absurd (omega arith))
-    (λ q0. by-equal P (eqb (b .hydrogens) noHydrogens) (λ q h. let z : _≡_ {A = ℕ} 0 1 = cc in absurd (omega arith))
-    (λ q1. by-equal P (eqb (b .hydrogens) 0) (λ q h. let z : _≡_ {A = ℕ} 0 1 = cc in absurd (omega arith))
-    (λ q2. by-equal P (eqb (b .configuration) th1) (λ q h. let z : _≡_ {A = ℕ} 0 1 = cc in absurd (omega arith))
-    (λ q3. by-equal P (eqb (b .configuration) th2) (λ q h. let z : _≡_ {A = ℕ} 0 1 = cc in absurd (omega arith))
+    by-test P (eqb (b .configuration) noConfiguration) (λ q h. let z : _≡_ {A = ℕ} 0 1 = cc in absurd (omega arith))
+    (λ q0. by-test P (eqb (b .hydrogens) noHydrogens) (λ q h. let z : _≡_ {A = ℕ} 0 1 = cc in absurd (omega arith))
+    (λ q1. by-test P (eqb (b .hydrogens) 0) (λ q h. let z : _≡_ {A = ℕ} 0 1 = cc in absurd (omega arith))
+    (λ q2. by-test P (eqb (b .configuration) th1) (λ q h. let z : _≡_ {A = ℕ} 0 1 = cc in absurd (omega arith))
+    (λ q3. by-test P (eqb (b .configuration) th2) (λ q h. let z : _≡_ {A = ℕ} 0 1 = cc in absurd (omega arith))
     (λ q4 h. unturnable b (eqb-false _ _ q0) (eqb-false _ _ q3) (eqb-false _ _ q4) (eqb-false _ _ q1) (eqb-false _ _ q2)))))) h
 
 pub unturnable-refused : (k : AtomKind) → Unturnable k → invertOf k ≡ Refused

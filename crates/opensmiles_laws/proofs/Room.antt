@@ -16,12 +16,13 @@ use Rattle.read_line.specs.declared.lead.Lead.{Lead}
 use Rattle.read_line.specs.declared.lead.Lead.the-variants.{Dot, Bond}
 use Rattle.read_line.specs.Events.{Event, Enter, Join, Pop, Miss, Nest}
 use Rattle.feature.specs.Bonds.{reverseOf}
-use Rattle.builder_meaning.specs.Sketch.{To, Node, Held, edge, node, countOf, upd, lookup, addEdge, fill}
+use Rattle.builder_meaning.specs.Sketch.{To, Held, edge, node, countOf, upd, lookup, addEdge, fill}
 use Rattle.builder_meaning.proofs.Rows.{upd-length, count-append, count-add, count-fill}
 use Rattle.read.specs.declared.Answer.{Answer}
 use Rattle.read.specs.declared.Answer.the-variants as answer
 use Rattle.opensmiles_laws.specs.Molecule.{Molecule, placed, closed, ringed, numbered, asHeld, told, next, tellAll, moleculeOf}
 use Rattle.opensmiles_laws.specs.Stops.{Unturnable, Turnable, Meets, no-place, no-slots, not-turned, no-slot, not-turned-after, ends, wrong, deep, Passes, counted, Runs, Stops, begun}
+use Rattle.opensmiles_laws.proofs.Steps.{grown-length}
 use Rattle.opensmiles_laws.proofs.Marks.{Turns, turns-after, turns-turnable, turnable-turns, dot-passes, bond-passes, join-passes, pop-passes}
 use Rattle.opensmiles_laws.proofs.Trace.{none-told, split, stops-none}
 
@@ -59,9 +60,6 @@ record Grown (m : Molecule) (e : Event) (x : Molecule) : Type 0 where
 Grows : Molecule → Event → Option Molecule → Type 0
 Grows m e none = Unit {0}
 Grows m e (some x) = Grown m e x
-
-grown-length : (s : ℕ) (f : Node → Node) (ns : List Node) (x : Node) → length (upd s f ns ++ (x ∷ [])) ≡ length ns + 1
-grown-length s f ns x = length-append (upd s f ns) (x ∷ []) ∙ ap (λ (i : ℕ). i + 1) (upd-length s f ns)
 
 module _ (m : Molecule) where
   placed-grows : (l : Lead) (k : AtomKind) (j : AtomKind) (at : ℕ) (path : List ℕ) → InPath (length (m .atoms)) path → Grows m (Enter l k at) (placed m l j path)

@@ -14,6 +14,7 @@ use Rattle.feature.specs.declared.atom_kind.AtomKind.{AtomKind}
 use Rattle.feature.specs.declared.atom_kind.Inverted.{Inverted}
 use Rattle.feature.specs.declared.atom_kind.Inverted.the-variants.{Turned, Refused}
 use Rattle.feature.specs.declared.bond_kind.BondKind.{BondKind}
+use Rattle.feature.proofs.Cases.{by-test}
 use Rattle.builder.specs.State.{inversion, atomRoom, bondRoom}
 use Rattle.read_token.specs.declared.scanner.Missing.{Missing}
 use Rattle.read_token.specs.declared.scanner.Missing.the-variants as missing
@@ -28,7 +29,7 @@ use Rattle.opensmiles_laws.specs.Molecule.{Molecule, molecule, placed, a
 use Rattle.opensmiles_laws.proofs.Joined.{ends, reconciled}
 use Rattle.opensmiles_laws.specs.Stops.{Meets, no-place, no-slots, not-turned, no-slot, not-turned-after, wrong, deep, Passes, counted, Fails, fails}
 use Rattle.opensmiles_laws.specs.Stops as stops
-use Rattle.opensmiles_laws.proofs.Marks.{by-equal, refused-unturnable, turned-turnable, dot-passes, bond-passes, join-passes, pop-passes, dot-after, bond-after, join-after}
+use Rattle.opensmiles_laws.proofs.Marks.{refused-unturnable, turned-turnable, dot-passes, bond-passes, join-passes, pop-passes, dot-after, bond-after, join-after}
 
 -- the molecule in a graph in the making
 abbrev pub moleculeIn : Sketch → Molecule
@@ -84,7 +85,7 @@ nest-told : (d : Sketch) (at : ℕ) → Told (refused d nesting at) (answer.Nest
 unfolding refusalOf
 nest-told d at = record { refused = λ h. omega (arith, h); is = refl }
 
-grown-length : (s : ℕ) (f : Node → Node) (ns : List Node) (x : Node) → length (upd s f ns ++ (x ∷ [])) ≡ length ns + 1
+pub grown-length : (s : ℕ) (f : Node → Node) (ns : List Node) (x : Node) → length (upd s f ns ++ (x ∷ [])) ≡ length ns + 1
 grown-length s f ns x = length-append (upd s f ns) (x ∷ []) ∙ ap (λ (i : ℕ). i + 1) (upd-length s f ns)
 
 module _ (p l : ℕ) (d : Sketch) (n depth : ℕ) (b : Beside p l d n depth) where
@@ -102,7 +103,7 @@ module _ (p l : ℕ) (d : Sketch) (n depth : ℕ) (b : Beside p l d n depth) whe
   root-step : (k : AtomKind) (at : ℕ) → Stepped p l (moleculeIn d) n (Enter Dot k at) (depth + 1) (rootS d k at)
   unfolding rootS told placed asHeld counted
   root-step k at =
-      by-equal (Stepped p l (moleculeIn d) n (Enter Dot k at) (depth + 1)) (leb (d .places) (numberOf d))
+      by-test (Stepped p l (moleculeIn d) n (Enter Dot k at) (depth + 1)) (leb (d .places) (numberOf d))
       (λ q. halts (answer.AtomRoom at) (no-place (moleculeIn d) n Dot k at (omega (arith, leb-true (d .places) (numberOf d) q, numbers, b .places))) (room-told d at))
       (λ q. passes (dot-passes p l (moleculeIn d) n k at (omega (arith, leb-false (d .places) (numberOf d) q, numbers, b .places))) (rw long)
       (record { places = b .places; slots = b .slots; going = b .going; sound = b .sound; seen = b .seen; number = length-append (d .nodes) (node k [] ∷ []) ∙ ap (λ (i : ℕ). i + 1) (b .number); level = omega (arith, b .level) }))
@@ -120,10 +121,10 @@ module _ (p l : ℕ) (d : Sketch) (n depth : ℕ) (b : Beside p l d n depth) whe
   unfolding extendS
   extend-step e k at [] h z = absurd (omega (arith, z))
   extend-step e k at (s ∷ path) h z =
-      by-equal (Stepped p l (moleculeIn d) n (Enter (Bond e) k at) (depth + 1)) (leb (d .places) (numberOf d))
+      by-test (Stepped p l (moleculeIn d) n (Enter (Bond e) k at) (depth + 1)) (leb (d .places) (numberOf d))
       (λ q. halts (answer.AtomRoom at) (no-place (moleculeIn d) n (Bond e) k at (omega (arith, leb-true (d .places) (numberOf d) q, numbers, b .places))) (room-told d at))
       (λ q. let g : n < p = omega (arith, leb-false (d .places) (numberOf d) q, numbers, b .places) in
-      by-equal (Stepped p l (moleculeIn d) n (Enter (Bond e) k at) (depth + 1)) (ltb (d .slots) (countOf (d .nodes) + 2))
+      by-test (Stepped p l (moleculeIn d) n (Enter (Bond e) k at) (depth + 1)) (ltb (d .slots) (countOf (d .nodes) + 2))
       (λ r. halts (answer.BondRoom at) (no-slots (moleculeIn d) n e k at g (omega (arith, ltb-true (d .slots) (countOf (d .nodes) + 2) r, b .slots))) (slot-told d at))
       (λ r. bonded-step e k at s path (invertOf k) h refl g (omega (arith, ltb-false (d .slots) (countOf (d .nodes) + 2) r, b .slots))))
 
@@ -132,7 +133,7 @@ module _ (p l : ℕ) (d : Sketch) (n depth : ℕ) (b : Beside p l d n depth) whe
       → Stepped p l (moleculeIn d) n (Join e r at) depth (pick (ltb (d .slots) (countOf (d .nodes) + 1)) (refused d bondRoom at) d′)
   unfolding counted
   slot-step e r at d′ t c =
-      by-equal (Stepped p l (moleculeIn d) n (Join e r at) depth) (ltb (d .slots) (countOf (d .nodes) + 1))
+      by-test (Stepped p l (moleculeIn d) n (Join e r at) depth) (ltb (d .slots) (countOf (d .nodes) + 1))
       (λ q. halts (answer.BondRoom at) (no-slot (moleculeIn d) (moleculeIn d′) n e r at t (omega (arith, ltb-true (d .slots) (countOf (d .nodes) + 1) q, b .slots))) (slot-told d at))
       (λ q. passes (join-passes p l (moleculeIn d) n e r at (λ x h. omega (arith, ltb-false (d .slots) (countOf (d .nodes) + 1) q, b .slots))) t c)
 
