@@ -11,7 +11,7 @@ use lib.Dec.{eqb}
 use native.Mathlib.Numerals.{add-one}
 use borrow.Author.Tests.{eqb-true, eqb-false}
 use Rattle.feature.proofs.Lists.{sets-append}
-use Rattle.builder.specs.Rings.{numbers, front}
+use Rattle.builder.specs.Rings.{ringNumberCount, front}
 
 pub front-length : (n : ℕ) (l : List ℕ) → length (front n l) ≡ n
 unfolding front
@@ -52,13 +52,13 @@ through (suc n) (x ∷ l) (suc j) v h =
     sets-cons x l 0 (set (front n l) j v) ∙ ap (λ (m : List ℕ). x ∷ m) (through n l j v (le-of-suc-le-suc h))
 
 -- a list of a hundred that agrees with the room is its front
-pub is-front : (at rings : List ℕ) → length at ≡ numbers → ((j : ℕ) → j < numbers → getD at j 0 ≡ getD rings j 0) → at ≡ front numbers rings
+pub is-front : (at rings : List ℕ) → length at ≡ ringNumberCount → ((j : ℕ) → j < ringNumberCount → getD at j 0 ≡ getD rings j 0) → at ≡ front ringNumberCount rings
 is-front at rings l e =
-    ext-getD 0 at (front numbers rings) (l ∙ sym (front-length numbers rings))
-    (λ j h. e j (omega arith) ∙ sym (front-at numbers rings j (omega arith)))
+    ext-getD 0 at (front ringNumberCount rings) (l ∙ sym (front-length ringNumberCount rings))
+    (λ j h. e j (omega arith) ∙ sym (front-at ringNumberCount rings j (omega arith)))
 
 -- a turn of the loop that takes the list out
-pub taken-more : (l rings : List ℕ) (i v : ℕ) → length l ≡ numbers → i < numbers → v ≡ getD rings i 0 → ((j : ℕ) → j < i → getD l j 0 ≡ getD rings j 0) → (j : ℕ) → j < i + 1 → getD (set l i v) j 0 ≡ getD rings j 0
+pub taken-more : (l rings : List ℕ) (i v : ℕ) → length l ≡ ringNumberCount → i < ringNumberCount → v ≡ getD rings i 0 → ((j : ℕ) → j < i → getD l j 0 ≡ getD rings j 0) → (j : ℕ) → j < i + 1 → getD (set l i v) j 0 ≡ getD rings j 0
 taken-more l rings i v e h is before j k = split (eqb j i) refl where
   split : (b : Bool) → eqb j i ≡ b → getD (set l i v) j 0 ≡ getD rings j 0
   split true p =

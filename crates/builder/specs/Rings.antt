@@ -4,8 +4,8 @@ use mathlib.Core.List.{List, [], _∷_}
 use lib.ListN.{set}
 use Rattle.builder.specs.declared.opens.Opens.{Opens}
 
-abbrev pub numbers : ℕ
-numbers = 100
+abbrev pub ringNumberCount : ℕ
+ringNumberCount = 100
 
 -- the first n numbers of a list, zeros where it ends before
 unfoldable pub front : ℕ → List ℕ → List ℕ
@@ -14,7 +14,7 @@ front (suc n) [] = 0 ∷ front n []
 front (suc n) (x ∷ l) = x ∷ front n l
 
 abbrev pub opensOf : List ℕ → Opens
-opensOf rings = record { at = front numbers rings }
+opensOf rings = record { at = front ringNumberCount rings }
 
 abbrev pub joinedAt : Opens → ℕ → ℕ → Opens
 joinedAt o n value = record { at = set (o .at) n value }

@@ -55,7 +55,7 @@ bld a e p r s = record { atoms = a; entries = e; path = p; rings = r; st = s }
 abbrev pub enough : ℕ
 enough = 1_000_000
 
-pub record Small (s : Builder) : Type 0 where
+pub record SmallCounts (s : Builder) : Type 0 where
   pub atoms : s .atoms ≤ enough
   pub entries : s .entries ≤ enough
   pub top : s .top ≤ enough
@@ -66,8 +66,8 @@ abbrev pub state : ℕ → ℕ → ℕ → ℕ → ℕ → ℕ → ℕ → ℕ �
 state r c p l a e t j f x y =
     record { refusal = r; carried = c; places = p; slots = l; atoms = a; entries = e; top = t; joins = j; failed = f; closing = x; opening = y }
 
-abbrev pub startOf : ℕ → ℕ → Builder
-startOf p l = state 0 0 p l 0 0 0 0 false 0 0
+abbrev pub freshBuilder : ℕ → ℕ → Builder
+freshBuilder p l = state 0 0 p l 0 0 0 0 false 0 0
 
 abbrev pub refusedSt : Builder → ℕ → ℕ → Builder
 refusedSt s r c =

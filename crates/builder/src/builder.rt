@@ -8,8 +8,8 @@ ghost use Prim.Native.Nat.{ℕ, _+_, _*_, _-_, _^_, _<_, _≤_};
 ghost use lib.ListN.{getD};
 ghost use lib.Seq.{sets};
 ghost use Rattle.feature.specs.Bonds.{codeOf, reconcileOf};
-ghost use Rattle.builder.specs.Rings.{numbers};
-ghost use Rattle.builder.specs.State.{bld, Small, startOf, refusedSt, poppedSt, failedSt, joinedSt, entryWords, entryList, entered, rootOf, bonded, extendOf, openedOf, openingKind, closedBy, joinOf};
+ghost use Rattle.builder.specs.Rings.{ringNumberCount};
+ghost use Rattle.builder.specs.State.{bld, SmallCounts, freshBuilder, refusedSt, poppedSt, failedSt, joinedSt, entryWords, entryList, entered, rootOf, bonded, extendOf, openedOf, openingKind, closedBy, joinOf};
 use crate::opens::rejoin;
 use feature::atom_kind::AtomKind;
 use feature::atom_kind::Inverted;
@@ -58,7 +58,7 @@ pub struct Builder {
 
 impl Builder {
     pub fn start(places: usize, slots: usize) -> Builder
-        ensures { λ r. ⌜ r ≡ startOf places slots ⌝ }
+        ensures { λ r. ⌜ r ≡ freshBuilder places slots ⌝ }
     {
         Builder {
             refusal: 0,
@@ -76,7 +76,7 @@ impl Builder {
     }
 
     // The same, field by field: a copy of the whole carries the bytes between the fields along too, and through memory.
-    pub fn afresh(self) -> Builder
+    pub fn copied(self) -> Builder
         ensures { λ r. ⌜ r ≡ self ⌝ }
     {
         Builder {
@@ -109,15 +109,15 @@ impl Builder {
         let top = self.top;
         if n <= top {
             self.top = top - n;
-            return self.afresh();
+            return self.copied();
         }
         self.top = 0;
-        self.afresh()
+        self.copied()
     }
 
     // One join more, and one entry.
     pub fn joined(mut self) -> Builder
-        requires { ⌜ Small self ⌝ }
+        requires { ⌜ SmallCounts self ⌝ }
         ensures { λ r. ⌜ r ≡ joinedSt self ⌝ }
     {
         self.joins = self.joins + 1;
@@ -127,7 +127,7 @@ impl Builder {
 
     // A join whose kinds do not agree: the first such is remembered.
     pub fn fail(mut self, closing: u32, opening: u32) -> Builder
-        requires { ⌜ Small self ⌝ }
+        requires { ⌜ SmallCounts self ⌝ }
         ensures { λ r. ⌜ r ≡ failedSt self closing opening ⌝ }
     {
         self.joins = self.joins + 1;
@@ -172,7 +172,7 @@ fn put_bond(entries: &mut [u32], e: usize, source: u32, kind: u32, target: u32, 
 
 // A new atom on the path; `held` is how many entries there are then.
 fn enter(atoms: &mut [u32], path: &mut [u32], b: Builder, k: AtomKind, held: usize) -> Builder
-    requires { ⌜ Small b ⌝ }
+    requires { ⌜ SmallCounts b ⌝ }
     ensures { λ r. ⌜ ((e s : List ℕ) → bld (now (atoms .exit)) e (now (path .exit)) s r ≡ entered (bld (now (atoms .entry)) e (now (path .entry)) s b) k held) ⌝ }
 {
     let mut b = b;
@@ -188,7 +188,7 @@ fn enter(atoms: &mut [u32], path: &mut [u32], b: Builder, k: AtomKind, held: usi
 
 // A first atom of a component.
 pub fn root(atoms: &mut [u32], path: &mut [u32], b: Builder, k: AtomKind, place: usize) -> Builder
-    requires { ⌜ Small b ⌝ }
+    requires { ⌜ SmallCounts b ⌝ }
     ensures { λ r. ⌜ ((e s : List ℕ) → bld (now (atoms .exit)) e (now (path .exit)) s r ≡ rootOf (bld (now (atoms .entry)) e (now (path .entry)) s b) k place) ⌝ }
 {
     if b.places <= b.atoms {
@@ -207,7 +207,7 @@ fn attach(
     k: BondKind,
     t: AtomKind,
 ) -> Builder
-    requires { ⌜ Small b × (0 < b .top) ⌝ }
+    requires { ⌜ SmallCounts b × (0 < b .top) ⌝ }
     ensures { λ r. ⌜ ((s : List ℕ) → bld (now (atoms .exit)) (now (entries .exit)) (now (path .exit)) s r
         ≡ entered (bonded (bld (now (atoms .entry)) (now (entries .entry)) (now (path .entry)) s b) k) t (b .entries + 2)) ⌝ }
 {
@@ -228,7 +228,7 @@ pub fn extend(
     t: AtomKind,
     place: usize,
 ) -> Builder
-    requires { ⌜ Small b ⌝ }
+    requires { ⌜ SmallCounts b ⌝ }
     ensures { λ r. ⌜ ((s : List ℕ) → bld (now (atoms .exit)) (now (entries .exit)) (now (path .exit)) s r
         ≡ extendOf (bld (now (atoms .entry)) (now (entries .entry)) (now (path .entry)) s b) k t place) ⌝ }
 {
@@ -257,7 +257,7 @@ fn open_ring(
     k: BondKind,
     number: usize,
 ) -> Builder
-    requires { ⌜ Small b × (0 < b .top) × (number < numbers) ⌝ }
+    requires { ⌜ SmallCounts b × (0 < b .top) × (number < ringNumberCount) ⌝ }
     ensures { λ r. ⌜ ((a : List ℕ) → bld a (now (entries .exit)) (now (path .entry)) (now (rings .exit)) r
         ≡ openedOf (bld a (now (entries .entry)) (now (path .entry)) (now (rings .entry)) b) k number) ⌝ }
 {
@@ -269,7 +269,7 @@ fn open_ring(
 }
 
 // The entries of a closed ring bond: the opening one filled, and one at the closing atom.
-fn settle(
+fn close_entries(
     entries: &mut [u32],
     w: usize,
     e: usize,
@@ -297,7 +297,7 @@ fn close_ring(
     held: u32,
     place: usize,
 ) -> Builder
-    requires { ⌜ Small b × (0 < b .top) × (number < numbers) × (0 < held) × (held ≡ getD (now rings) number 0) ⌝ }
+    requires { ⌜ SmallCounts b × (0 < b .top) × (number < ringNumberCount) × (0 < held) × (held ≡ getD (now rings) number 0) ⌝ }
     ensures { λ r. ⌜ ((a : List ℕ) → bld a (now (entries .exit)) (now (path .entry)) (now (rings .exit)) r
         ≡ closedBy (bld a (now (entries .entry)) (now (path .entry)) (now (rings .entry)) b) number place
         (reconcileOf (openingKind (bld a (now (entries .entry)) (now (path .entry)) (now (rings .entry)) b) number) k)) ⌝ }
@@ -316,7 +316,7 @@ fn close_ring(
             if b.slots < e + 1 {
                 return b.refused(BOND_ROOM, place);
             }
-            settle(entries, w, e, l, closing, r, opening);
+            close_entries(entries, w, e, l, closing, r, opening);
             rejoin(rings, number, 0);
             b.joined()
         }
@@ -333,7 +333,7 @@ pub fn join(
     number: usize,
     place: usize,
 ) -> Builder
-    requires { ⌜ Small b × (number < numbers) ⌝ }
+    requires { ⌜ SmallCounts b × (number < ringNumberCount) ⌝ }
     ensures { λ r. ⌜ ((a : List ℕ) → bld a (now (entries .exit)) (now (path .entry)) (now (rings .exit)) r
         ≡ joinOf (bld a (now (entries .entry)) (now (path .entry)) (now (rings .entry)) b) k number place) ⌝ }
 {

@@ -3,7 +3,7 @@ ghost use mathlib.Core.Path.{_≡_};
 ghost use Prim.Native.Nat.{_<_, _≤_};
 ghost use lib.ListN.{length, set};
 ghost use lib.Seq.{sets};
-ghost use Rattle.builder.specs.Rings.{numbers, opensOf, joinedAt};
+ghost use Rattle.builder.specs.Rings.{ringNumberCount, opensOf, joinedAt};
 
 pub const NUMBERS: usize = 100;
 
@@ -14,7 +14,7 @@ pub struct Opens {
 impl Opens {
     // The list goes in whole and comes back whole, with another value for one number.
     pub fn join(mut self, number: usize, value: u32) -> Opens
-        requires { ⌜ number < numbers ⌝ }
+        requires { ⌜ number < ringNumberCount ⌝ }
         ensures { λ r. ⌜ r ≡ joinedAt self number value ⌝ }
     {
         self.at[number] = value;
@@ -24,7 +24,7 @@ impl Opens {
 
 // The list out of the room in which it rests between joins.
 fn taken(rings: &[u32]) -> Opens
-    requires { ⌜ numbers ≤ length (now rings) ⌝ }
+    requires { ⌜ ringNumberCount ≤ length (now rings) ⌝ }
     ensures { λ r. ⌜ r ≡ opensOf (now (rings .entry)) ⌝ }
 {
     let mut o = Opens {
@@ -40,7 +40,7 @@ fn taken(rings: &[u32]) -> Opens
 
 // The list back into that room.
 fn put_back(rings: &mut [u32], o: Opens)
-    requires { ⌜ (numbers ≤ length (now rings)) × (length (o .at) ≡ numbers) ⌝ }
+    requires { ⌜ (ringNumberCount ≤ length (now rings)) × (length (o .at) ≡ ringNumberCount) ⌝ }
     ensures { λ r. ⌜ now (rings .exit) ≡ sets (now (rings .entry)) 0 (o .at) ⌝ }
 {
     let mut i: usize = 0;
@@ -53,7 +53,7 @@ fn put_back(rings: &mut [u32], o: Opens)
 // A ring number's value set in the room where the list rests: the list goes through a join whole. Room for fewer numbers
 // holds no list.
 pub fn rejoin(rings: &mut [u32], number: usize, value: u32)
-    requires { ⌜ number < numbers ⌝ }
+    requires { ⌜ number < ringNumberCount ⌝ }
     ensures { λ r. ⌜ now (rings .exit) ≡ set (now (rings .entry)) number value ⌝ }
 {
     if rings.len() < NUMBERS {

@@ -6,9 +6,9 @@ use native.Mathlib.Omega.{arith}
 use lib.ListN.{replicate, length-replicate}
 use Rattle.packing.specs.Words.{atomWords}
 use Rattle.builder.specs.Limits.{atomLimit, bondLimit}
-use Rattle.builder.specs.Rings.{numbers}
-use Rattle.builder.specs.State.{Bld, bld, startOf, entryWords}
-use Rattle.read_line.specs.Events.{Event, run}
+use Rattle.builder.specs.Rings.{ringNumberCount}
+use Rattle.builder.specs.State.{Bld, bld, freshBuilder, entryWords}
+use Rattle.read_line.specs.Events.{ReadEvent, run}
 use Rattle.builder.proofs.Laws.{zero-at}
 use Rattle.builder_meaning.specs.Sketch.{Sketch, BothEnds, startS, runS}
 use Rattle.builder_meaning.proofs.Same.{Same}
@@ -23,23 +23,23 @@ same-ends b d same =
 -- tables of just the room that is told of, all zeros
 abbrev blank : ℕ → ℕ → Bld
 blank places slots =
-    bld (replicate (places * atomWords) 0) (replicate (slots * entryWords) 0) (replicate places 0) (replicate numbers 0) (startOf places slots)
+    bld (replicate (places * atomWords) 0) (replicate (slots * entryWords) 0) (replicate places 0) (replicate ringNumberCount 0) (freshBuilder places slots)
 
 same-blank : (places slots : ℕ) → places ≤ atomLimit → slots ≤ bondLimit → Same (blank places slots) (startS places slots)
 same-blank places slots few small =
-    same-start places slots (replicate (places * atomWords) 0) (replicate (slots * entryWords) 0) (replicate places 0) (replicate numbers 0)
+    same-start places slots (replicate (places * atomWords) 0) (replicate (slots * entryWords) 0) (replicate places 0) (replicate ringNumberCount 0)
     (record {
       atoms = omega (arith, length-replicate {A = ℕ} (places * atomWords) 0);
       entries = omega (arith, length-replicate {A = ℕ} (slots * entryWords) 0);
       path = omega (arith, length-replicate {A = ℕ} places 0);
-      rings = omega (arith, length-replicate {A = ℕ} numbers 0);
+      rings = omega (arith, length-replicate {A = ℕ} ringNumberCount 0);
       few = few;
       small = small;
     })
-    (zero-at (places * atomWords)) (λ n h. zero-at numbers n)
+    (zero-at (places * atomWords)) (λ n h. zero-at ringNumberCount n)
 
 -- so in every one that events make within the limits
-pub both-ends : (places slots : ℕ) (es : List Event) → places ≤ atomLimit → slots ≤ bondLimit → AllOk es → BothEnds (runS (startS places slots) es .nodes)
+pub both-ends : (places slots : ℕ) (es : List ReadEvent) → places ≤ atomLimit → slots ≤ bondLimit → AllOk es → BothEnds (runS (startS places slots) es .nodes)
 both-ends places slots es few small ok =
     same-ends (run (blank places slots) es) (runS (startS places slots) es)
     (same-run (blank places slots) (startS places slots) es (same-blank places slots few small) ok)

@@ -15,7 +15,7 @@ use Rattle.read_token.proofs.Within.{ring-in}
 use Rattle.builder.specs.Limits.{branchLimit}
 use Rattle.read_line.specs.declared.lead.Lead.{Lead}
 use Rattle.read_line.specs.declared.lead.Lead.the-variants.{Dot, Bond}
-use Rattle.read_line.specs.Events.{Event}
+use Rattle.read_line.specs.Events.{ReadEvent}
 use Rattle.read_line.specs.Parse.{Rest, ledAt, bodyAt, missP, foundP, atomP, ringP, unionBy, unionP, unitBy, unitP, lineP, closeP, branchP, bodies, endP, parse}
 use Rattle.read_line.proofs.Counts.{by-test}
 use Rattle.builder_meaning.proofs.Run.{AllOk}
@@ -60,15 +60,15 @@ module _ (s : List ℕ) (k : Rest) (ok : OkRest k) where
   unfolding unitP
   unit-ok at n = unit-by (ledAt s at .next) n (ledAt s at .lead)
 
-close-ok : (s : List ℕ) (k : ℕ → List Event) → ((at : ℕ) → AllOk (k at)) → OkRest (closeP s k)
+close-ok : (s : List ℕ) (k : ℕ → List ReadEvent) → ((at : ℕ) → AllOk (k at)) → OkRest (closeP s k)
 unfolding closeP
 close-ok s k ok at n = by-test AllOk (eqb (peekAt s at) (byte ")")) (tt, ok (at + 1)) (miss-ok s at)
 
-line-ok : (more : ℕ → ℕ → Rest → List Event) (s : List ℕ) (k : Rest) → ((at n : ℕ) → AllOk (more at n k)) → (at : ℕ) (l : Lead) → AllOk (lineP more s at l k)
+line-ok : (more : ℕ → ℕ → Rest → List ReadEvent) (s : List ℕ) (k : Rest) → ((at n : ℕ) → AllOk (more at n k)) → (at : ℕ) (l : Lead) → AllOk (lineP more s at l k)
 unfolding lineP
 line-ok more s k ok at l = atom-ok s (λ at′ n′. more at′ n′ k) ok at l 0
 
-branch-ok : (more : ℕ → ℕ → ℕ → Rest → List Event) (s : List ℕ) → ((room at n : ℕ) (k : Rest) → OkRest k → AllOk (more room at n k)) → (at room : ℕ) (k : ℕ → List Event) → ((at : ℕ) → AllOk (k at)) → AllOk (branchP more s at room k)
+branch-ok : (more : ℕ → ℕ → ℕ → Rest → List ReadEvent) (s : List ℕ) → ((room at n : ℕ) (k : Rest) → OkRest k → AllOk (more room at n k)) → (at room : ℕ) (k : ℕ → List ReadEvent) → ((at : ℕ) → AllOk (k at)) → AllOk (branchP more s at room k)
 unfolding branchP
 branch-ok more s m at room k ok =
     by-test AllOk (eqb room 0) (tt, tt)

@@ -14,11 +14,11 @@ use Rattle.feature.specs.Bonds.{codeOf, kindOf, reconcileOf, sureKind}
 use Rattle.feature.specs.declared.bond_kind.BondKind.{BondKind}
 use Rattle.feature.specs.declared.bond_kind.Reconciled.{Reconciled}
 use Rattle.feature.specs.declared.bond_kind.Reconciled.the-variants.{Both, Fails}
-use Rattle.builder.specs.Rings.{numbers}
+use Rattle.builder.specs.Rings.{ringNumberCount}
 use Rattle.builder.specs.State.{Bld, bld, state, unclosed, entryWords, entryList, bondRoom, noAtom, refuse, joinedSt, failedSt, lastOf, openedOf, openedAt, openingOf, openingKind, closedBy, joinOf}
 use Rattle.builder.specs.declared.builder.Builder.{Builder}
 use Rattle.builder.proofs.Joins.{first-failed, again-failed}
-use Rattle.builder_meaning.specs.Sketch.{To, Open, Node, Held, Failure, None, Failed, Sketch, edge, held, joined, firstOf, broken, countOf, upd, edgesAt, addEdge, openKind, fill, lookup, without, openedS, closedS, ringS, joinS, targetOf}
+use Rattle.builder_meaning.specs.Sketch.{To, Open, Node, Held, Failure, None, Failed, Sketch, edge, held, joined, firstOf, broken, countOf, upd, edgesAt, addEdge, openKind, fill, lookup, ringFreed, openedS, closedS, ringS, joinS, targetOf}
 use Rattle.builder_meaning.proofs.Rows.{Row, row, noRow, edgesOf, flat, edges-at, Opened, opened-kind, flat-source, flat-kind}
 use Rattle.builder_meaning.proofs.Twins.{sure-code, Reversed, reconciled, Twins, twins-open, twins-close}
 use Rattle.builder_meaning.proofs.Same.{Way, At, Ring, Rings, Entries, hasFailed, closerOf, openerOf, Same}
@@ -57,7 +57,7 @@ module _ (b : Bld) (d : Sketch) (same : Same b d) (whole : d .unseen ≡ 0) wher
         room = room-kept (d .places) (d .slots) (b .atoms) (b .entries) (b .path) (b .rings) _ _ _ _ (same .room) refl size refl round;
       }
 
-  module _ (n place s : ℕ) (low : n < numbers) (stands : Stands (length (same .kinds)) (b .st .top) (b .path) s) where
+  module _ (n place s : ℕ) (low : n < ringNumberCount) (stands : Stands (length (same .kinds)) (b .st .top) (b .path) s) where
     standing : lastOf b ≡ s
     standing = last-is b d same whole s stands
 
@@ -122,10 +122,10 @@ module _ (b : Bld) (d : Sketch) (same : Same b d) (whole : d .unseen ≡ 0) wher
           ∙ ap (openKind (h .join)) (edges-at (same .kinds) (edgesOf (same .rows)) (h .atom) opener-below)
           ∙ opened-kind (same .rows) (at .place) (h .atom) (at .kind) (h .join) opened
 
-      freed : Rings (same .rows) (set (b .rings) n 0) (without n (d .opens)) (d .joins)
+      freed : Rings (same .rows) (set (b .rings) n 0) (ringFreed n (d .opens)) (d .joins)
       freed = rings-free (same .rows) (b .rings) (d .opens) (d .joins) (same .rings) n low (same .room .rings)
 
-      broken-same : (c : Bool) (x y : ℕ) → c ≡ hasFailed (firstOf (d .failure) s (h .atom)) → x ≡ closerOf (firstOf (d .failure) s (h .atom)) → y ≡ openerOf (firstOf (d .failure) s (h .atom)) → Same (bld (b .atoms) (b .entries) (b .path) (set (b .rings) n 0) (state (b .st .refusal) (b .st .carried) (b .st .places) (b .st .slots) (b .st .atoms) (b .st .entries) (b .st .top) (b .st .joins + 1) c x y)) (broken d (without n (d .opens)) s (h .atom))
+      broken-same : (c : Bool) (x y : ℕ) → c ≡ hasFailed (firstOf (d .failure) s (h .atom)) → x ≡ closerOf (firstOf (d .failure) s (h .atom)) → y ≡ openerOf (firstOf (d .failure) s (h .atom)) → Same (bld (b .atoms) (b .entries) (b .path) (set (b .rings) n 0) (state (b .st .refusal) (b .st .carried) (b .st .places) (b .st .slots) (b .st .atoms) (b .st .entries) (b .st .top) (b .st .joins + 1) c x y)) (broken d (ringFreed n (d .opens)) s (h .atom))
       broken-same c x y ec ex ey =
           let st = same .state in
           record {
@@ -149,21 +149,21 @@ module _ (b : Bld) (d : Sketch) (same : Same b d) (whole : d .unseen ≡ 0) wher
             atoms = same .atoms;
             entries = same .entries;
             way = same .way;
-            rings = rings-later (same .rows) (set (b .rings) n 0) (without n (d .opens)) (d .joins) freed (d .joins + 1) (omega arith);
+            rings = rings-later (same .rows) (set (b .rings) n 0) (ringFreed n (d .opens)) (d .joins) freed (d .joins + 1) (omega arith);
             twins = same .twins;
             room = room-kept (d .places) (d .slots) (b .atoms) (b .entries) (b .path) (b .rings) _ _ _ _ (same .room) refl refl refl (length-set (b .rings) n 0);
           }
 
-      same-broken : (f : Failure) → d .failure ≡ f → Same (bld (b .atoms) (b .entries) (b .path) (set (b .rings) n 0) (failedSt (b .st) (lastOf b) (openingOf b n))) (broken d (without n (d .opens)) s (h .atom))
+      same-broken : (f : Failure) → d .failure ≡ f → Same (bld (b .atoms) (b .entries) (b .path) (set (b .rings) n 0) (failedSt (b .st) (lastOf b) (openingOf b n))) (broken d (ringFreed n (d .opens)) s (h .atom))
       unfolding hasFailed closerOf openerOf firstOf
       same-broken None e =
           let now : firstOf (d .failure) s (h .atom) ≡ Failed s (h .atom) = ap (λ (g : Failure). firstOf g s (h .atom)) e in
-          subst (λ (x : Builder). Same (bld (b .atoms) (b .entries) (b .path) (set (b .rings) n 0) x) (broken d (without n (d .opens)) s (h .atom)))
+          subst (λ (x : Builder). Same (bld (b .atoms) (b .entries) (b .path) (set (b .rings) n 0) x) (broken d (ringFreed n (d .opens)) s (h .atom)))
           (first-failed (b .st) (lastOf b) (openingOf b n) (same .state .failed ∙ ap hasFailed e))
           (broken-same true (lastOf b) (openingOf b n) (sym (ap hasFailed now)) (standing ∙ sym (ap closerOf now)) (opening-is ∙ sym (ap openerOf now)))
       same-broken (Failed v w) e =
           let kept : d .failure ≡ firstOf (d .failure) s (h .atom) = e ∙ sym (ap (λ (g : Failure). firstOf g s (h .atom)) e) in
-          subst (λ (x : Builder). Same (bld (b .atoms) (b .entries) (b .path) (set (b .rings) n 0) x) (broken d (without n (d .opens)) s (h .atom)))
+          subst (λ (x : Builder). Same (bld (b .atoms) (b .entries) (b .path) (set (b .rings) n 0) x) (broken d (ringFreed n (d .opens)) s (h .atom)))
           (again-failed (b .st) (lastOf b) (openingOf b n) (same .state .failed ∙ ap hasFailed e))
           (broken-same (b .st .failed) (b .st .closing) (b .st .opening) (same .state .failed ∙ ap hasFailed kept) (same .state .closing ∙ ap closerOf kept) (same .state .opening ∙ ap openerOf kept))
 
@@ -182,13 +182,13 @@ module _ (b : Bld) (d : Sketch) (same : Same b d) (whole : d .unseen ≡ 0) wher
           let kept = length-set (same .rows) (at .place) filled in
           let t1 = sets (b .entries) (openedAt b n + 1) (codeOf l ∷ lastOf b ∷ []) in
           let g1 = entries-fill (same .kinds) (same .rows) (b .entries) (d .nodes) (same .entries) (at .place) (h .atom) (at .kind) (h .join) l s (openedAt b n) (lastOf b) opened (stands .below) place-is standing (omega (arith, same .room .entries, same .state .holds)) in
-          let r1 = rings-fill (same .rows) (set (b .rings) n 0) (without n (d .opens)) (d .joins) freed (at .place) (h .atom) l s (rings-alone (same .rows) (b .rings) (d .opens) (d .joins) (same .rings) n h low (same .room .rings) at) (at .within) in
+          let r1 = rings-fill (same .rows) (set (b .rings) n 0) (ringFreed n (d .opens)) (d .joins) freed (at .place) (h .atom) l s (rings-alone (same .rows) (b .rings) (d .opens) (d .joins) (same .rings) n h low (same .room .rings) at) (at .within) in
           joined-same (sets t1 (b .st .entries * entryWords) (entryList (lastOf b) (codeOf r) (openingOf b n))) (set (b .rings) n 0)
-          (upd s (addEdge (edge r (To (h .atom)))) (upd (h .atom) (fill (h .join) l s) (d .nodes))) (rs ++ (new ∷ [])) (without n (d .opens))
+          (upd s (addEdge (edge r (To (h .atom)))) (upd (h .atom) (fill (h .join) l s) (d .nodes))) (rs ++ (new ∷ [])) (ringFreed n (d .opens))
           (omega (arith, more, kept)) (omega (arith, more, kept, room, same .state .entries, same .state .slots))
           (simp length-sets) (length-set (b .rings) n 0)
           (entries-push (same .kinds) rs t1 (upd (h .atom) (fill (h .join) l s) (d .nodes)) g1 s r (To (h .atom)) (b .st .entries) (lastOf b) (openingOf b n) (stands .below) (λ y q. let z : h .atom ≡ y = cc in omega (arith, z, opener-below)) (same .state .entries ∙ sym kept) standing opening-is (rw length-sets (omega (arith, room, same .room .entries, same .state .slots))))
-          (rings-push rs (set (b .rings) n 0) (without n (d .opens)) (d .joins) r1 s r (To (h .atom)) (d .joins + 1) (omega arith) (λ y q. absurd (let z : _≡_ {A = ℕ} 0 1 = cc in omega arith)))
+          (rings-push rs (set (b .rings) n 0) (ringFreed n (d .opens)) (d .joins) r1 s r (To (h .atom)) (d .joins + 1) (omega arith) (λ y q. absurd (let z : _≡_ {A = ℕ} 0 1 = cc in omega arith)))
           (twins-close (same .rows) (at .place) (h .atom) (at .kind) (h .join) l r s opened back (same .twins)))
 
     same-ring : (e : BondKind) (o : Option Held) → Ring (same .rows) (getD (b .rings) n 0) o → Same (pick (eqb (getD (b .rings) n 0) 0) (pick (ltb (b .st .slots) (b .st .entries + 1)) (refuse b bondRoom place) (openedOf b e n)) (closedBy b n place (reconcileOf (openingKind b n) e))) (ringS d e n place s o)
@@ -204,7 +204,7 @@ module _ (b : Bld) (d : Sketch) (same : Same b d) (whole : d .unseen ≡ 0) wher
         (same-closed h at (reconcileOf (openingKind b n) e) (reconciled (openingKind b n) e)))
 
   -- a join
-  pub same-join : (e : BondKind) (n place : ℕ) (path : List ℕ) → n < numbers → d .path ≡ path → Same (joinOf b e n place) (joinS d e n place path)
+  pub same-join : (e : BondKind) (n place : ℕ) (path : List ℕ) → n < ringNumberCount → d .path ≡ path → Same (joinOf b e n place) (joinS d e n place path)
   unfolding joinOf joinS
   same-join e n place [] low p =
       let w = subst (Way (length (same .kinds)) (b .st .top) (b .path)) p (same .way) in

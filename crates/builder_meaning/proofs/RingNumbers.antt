@@ -11,8 +11,8 @@ use lib.Dec.{eqb}
 use borrow.Author.Tests.{eq-eqb, ne-eqb}
 use Rattle.feature.specs.Pick.{pick}
 use Rattle.feature.specs.declared.bond_kind.BondKind.{BondKind}
-use Rattle.builder.specs.Rings.{numbers}
-use Rattle.builder_meaning.specs.Sketch.{Target, To, Open, Held, lookup, without}
+use Rattle.builder.specs.Rings.{ringNumberCount}
+use Rattle.builder_meaning.specs.Sketch.{Target, To, Open, Held, lookup, ringFreed}
 use Rattle.builder_meaning.proofs.Rows.{by-eq, Row, row, noRow, Opened}
 use Rattle.builder_meaning.proofs.Same.{At, Ring, Rings}
 use Rattle.builder_meaning.proofs.Parts.{snoc-length, snoc-each}
@@ -26,15 +26,15 @@ lookup-past : (n : ℕ) (h : Held) (hs : List Held) → h .number ≢ n → look
 unfolding lookup
 lookup-past n h hs d = simp (ne-eqb (h .number) n d)
 
-lookup-freed : (n : ℕ) (hs : List Held) → lookup n (without n hs) ≡ none
-unfolding lookup without
+lookup-freed : (n : ℕ) (hs : List Held) → lookup n (ringFreed n hs) ≡ none
+unfolding lookup ringFreed
 lookup-freed n [] = refl
 lookup-freed n (h ∷ hs) =
     by-eq (h .number) n (λ e. rw (eq-eqb (h .number) n e) (lookup-freed n hs))
     (λ d. rw (ne-eqb (h .number) n d, ne-eqb (h .number) n d) (lookup-freed n hs))
 
-lookup-kept : (n m : ℕ) (hs : List Held) → m ≢ n → lookup m (without n hs) ≡ lookup m hs
-unfolding lookup without
+lookup-kept : (n m : ℕ) (hs : List Held) → m ≢ n → lookup m (ringFreed n hs) ≡ lookup m hs
+unfolding lookup ringFreed
 lookup-kept n m [] d = refl
 lookup-kept n m (h ∷ hs) d =
     by-eq (h .number) n
@@ -93,7 +93,7 @@ module _ (rs : List Row) (ws : List ℕ) (hs : List Held) (j : ℕ) (g : Rings r
       clash y e p h f = omega (arith, new y e .0, g .older p y h f)
 
   -- a free number holds an entry that no other holds
-  pub rings-hold : (n v : ℕ) (h : Held) → n < numbers → numbers ≤ length ws → h .number ≡ n → At rs v h → ((m : ℕ) → m < numbers → getD ws m 0 ≢ v) → Rings rs (set ws n v) (h ∷ hs) j
+  pub rings-hold : (n v : ℕ) (h : Held) → n < ringNumberCount → ringNumberCount ≤ length ws → h .number ≡ n → At rs v h → ((m : ℕ) → m < ringNumberCount → getD ws m 0 ≢ v) → Rings rs (set ws n v) (h ∷ hs) j
   rings-hold n v h here room e at new =
       record {
         each = λ m l.
@@ -115,14 +115,14 @@ module _ (rs : List Row) (ws : List ℕ) (hs : List Held) (j : ℕ) (g : Rings r
       }
 
   -- a number is free again
-  pub rings-free : (n : ℕ) → n < numbers → numbers ≤ length ws → Rings rs (set ws n 0) (without n hs) j
+  pub rings-free : (n : ℕ) → n < ringNumberCount → ringNumberCount ≤ length ws → Rings rs (set ws n 0) (ringFreed n hs) j
   rings-free n here room =
       record {
         each = λ m l.
             by-eq m n
-            (λ q. subst (λ (i : ℕ). Ring rs (getD (set ws n 0) i 0) (lookup i (without n hs))) (sym q)
+            (λ q. subst (λ (i : ℕ). Ring rs (getD (set ws n 0) i 0) (lookup i (ringFreed n hs))) (sym q)
             (subst (λ (o : Option Held). Ring rs (getD (set ws n 0) n 0) o) (sym (lookup-freed n hs)) (getD-set-same ws n 0 0 (omega arith))))
-            (λ d. subst (λ (w : ℕ). Ring rs w (lookup m (without n hs))) (sym (getD-set-other ws n m 0 0 d))
+            (λ d. subst (λ (w : ℕ). Ring rs w (lookup m (ringFreed n hs))) (sym (getD-set-other ws n m 0 0 d))
             (subst (λ (o : Option Held). Ring rs (getD ws m 0) o) (sym (lookup-kept n m hs d)) (g .each m l)));
         apart = λ m k l o nz same.
             by-eq m n (λ q. absurd (nz (ap (λ (i : ℕ). getD (set ws n 0) i 0) q ∙ getD-set-same ws n 0 0 (omega arith))))
@@ -134,7 +134,7 @@ module _ (rs : List Row) (ws : List ℕ) (hs : List Held) (j : ℕ) (g : Rings r
       }
 
   -- an entry that no number holds is closed
-  pub rings-fill : (p a : ℕ) (l : BondKind) (x : ℕ) → ((m : ℕ) → m < numbers → getD ws m 0 ≢ suc p) → p < length rs → Rings (set rs p (row a l (To x))) ws hs j
+  pub rings-fill : (p a : ℕ) (l : BondKind) (x : ℕ) → ((m : ℕ) → m < ringNumberCount → getD ws m 0 ≢ suc p) → p < length rs → Rings (set rs p (row a l (To x))) ws hs j
   rings-fill p a l x free within =
       record {
         each = λ n h. ring-along rs (set rs p (row a l (To x))) (getD ws n 0) (lookup n hs) (omega (arith, length-set rs p (row a l (To x))))
@@ -164,7 +164,7 @@ module _ (rs : List Row) (ws : List ℕ) (hs : List Held) (j : ℕ) (g : Rings r
       }
 
   -- no other number holds it
-  pub rings-alone : (n : ℕ) (h : Held) → n < numbers → numbers ≤ length ws → (at : At rs (getD ws n 0) h) → (m : ℕ) → m < numbers → getD (set ws n 0) m 0 ≢ suc (at .place)
+  pub rings-alone : (n : ℕ) (h : Held) → n < ringNumberCount → ringNumberCount ≤ length ws → (at : At rs (getD ws n 0) h) → (m : ℕ) → m < ringNumberCount → getD (set ws n 0) m 0 ≢ suc (at .place)
   rings-alone n h here room at m l e =
       by-eq m n (λ q. omega (arith, sym e ∙ ap (λ (i : ℕ). getD (set ws n 0) i 0) q ∙ getD-set-same ws n 0 0 (omega arith)))
       (λ d. d (g .apart m n l here (λ z. omega (arith, sym e ∙ getD-set-other ws n m 0 0 d ∙ z)) (sym (getD-set-other ws n m 0 0 d) ∙ e ∙ sym (at .word))))

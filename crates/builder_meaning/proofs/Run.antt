@@ -14,26 +14,26 @@ use Rattle.feature.specs.declared.atom_kind.Inverted.the-variants.{Turned, Refu
 use Rattle.feature.specs.declared.bond_kind.BondKind.{BondKind}
 use Rattle.read_token.specs.declared.scanner.Missing.{Missing}
 use Rattle.read_token.specs.declared.scanner.Missing.the-variants.{EndOfLine, Character}
-use Rattle.builder.specs.Rings.{numbers}
-use Rattle.builder.specs.State.{Bld, bld, startOf, inversion, refuse, joinOf}
+use Rattle.builder.specs.Rings.{ringNumberCount}
+use Rattle.builder.specs.State.{Bld, bld, freshBuilder, inversion, refuse, joinOf}
 use Rattle.read_line.specs.declared.lead.Lead.{Lead}
 use Rattle.read_line.specs.declared.lead.Lead.the-variants.{Dot, Bond}
-use Rattle.read_line.specs.Events.{Event, Enter, Join, Pop, Miss, Nest, on, countedSt, judged, numbOf, ledOf, enterOf, ringOf, missingSt, step, run, endOfLine, character, nesting}
-use Rattle.builder_meaning.specs.Sketch.{Failure, None, Failed, Sketch, startS, passed, numberOf, countOf, bondsTo, lookup, judgedS, enterS, numberS, missedS, stepS, runS}
+use Rattle.read_line.specs.Events.{ReadEvent, Enter, Join, Pop, Miss, Nest, on, countedSt, markJudged, unstoredOf, ledOf, enterOf, ringOf, missingSt, step, run, endOfLine, character, nesting}
+use Rattle.builder_meaning.specs.Sketch.{Failure, None, Failed, Sketch, startS, atomPassed, nextNumber, countOf, bondsTo, lookup, judgedS, enterS, numberS, missedS, stepS, runS}
 use Rattle.builder_meaning.proofs.Rows.{edgesOf, flat, nodesOf}
 use Rattle.builder_meaning.proofs.Same.{lastly, hasFailed, closerOf, openerOf, Room, Same}
 use Rattle.builder_meaning.proofs.Steps.{both-ways, number-is, same-refuse, same-pop, same-root, same-extend}
 use Rattle.builder_meaning.proofs.Joins.{same-join}
 
 -- a ring number is below a hundred
-abbrev pub Ok : Event → Type 0
+abbrev pub Ok : ReadEvent → Type 0
 Ok (Enter l k place) = Unit {0}
-Ok (Join e n place) = n < numbers
+Ok (Join e n place) = n < ringNumberCount
 Ok (Pop n) = Unit {0}
 Ok (Miss m) = Unit {0}
 Ok (Nest place) = Unit {0}
 
-abbrev pub AllOk : List Event → Type 0
+abbrev pub AllOk : List ReadEvent → Type 0
 AllOk [] = Unit {0}
 AllOk (e ∷ es) = Ok e × AllOk es
 
@@ -44,7 +44,7 @@ module _ (b : Bld) (d : Sketch) (same : Same b d) where
 
   -- after a failure an atom is only counted
   module _ (x y : ℕ) (broke : d .failure ≡ Failed x y) where
-    same-passed : Same (on b (countedSt (b .st))) (passed d)
+    same-passed : Same (on b (countedSt (b .st))) (atomPassed d)
     unfolding hasFailed
     same-passed =
         let s = same .state in
@@ -74,13 +74,13 @@ module _ (b : Bld) (d : Sketch) (same : Same b d) where
           room = same .room;
         }
 
-    same-judged : (t : Inverted) → Same (on b (judged (b .st) t)) (judgedS d t)
-    unfolding judged judgedS refuse
-    same-judged Refused = same-refuse b d same inversion (b .st .atoms) (numberOf d) (number-is b d same)
+    same-judged : (t : Inverted) → Same (on b (markJudged (b .st) t)) (judgedS d t)
+    unfolding markJudged judgedS refuse
+    same-judged Refused = same-refuse b d same inversion (b .st .atoms) (nextNumber d) (number-is b d same)
     same-judged (Turned k) = same-passed
 
-    same-numb : (l : Lead) (k : AtomKind) (place : ℕ) → Same (on b (numbOf (b .st) l k)) (enterS d l k place (Failed x y))
-    unfolding numbOf enterS
+    same-numb : (l : Lead) (k : AtomKind) (place : ℕ) → Same (on b (unstoredOf (b .st) l k)) (enterS d l k place (Failed x y))
+    unfolding unstoredOf enterS
     same-numb Dot k place = same-passed
     same-numb (Bond e) k place = same-judged (invertOf k)
 
@@ -93,13 +93,13 @@ module _ (b : Bld) (d : Sketch) (same : Same b d) where
   same-enter : (l : Lead) (k : AtomKind) (place : ℕ) (f : Failure) → d .failure ≡ f → Same (enterOf b l k place) (enterS d l k place f)
   unfolding enterOf hasFailed
   same-enter l k place None e =
-      subst (λ (t : Bool). Same (pick t (on b (numbOf (b .st) l k)) (ledOf b l k place)) (enterS d l k place None)) (sym (failed-is None e))
+      subst (λ (t : Bool). Same (pick t (on b (unstoredOf (b .st) l k)) (ledOf b l k place)) (enterS d l k place None)) (sym (failed-is None e))
       (same-led e l k place)
   same-enter l k place (Failed x y) e =
-      subst (λ (t : Bool). Same (pick t (on b (numbOf (b .st) l k)) (ledOf b l k place)) (enterS d l k place (Failed x y))) (sym (failed-is (Failed x y) e))
+      subst (λ (t : Bool). Same (pick t (on b (unstoredOf (b .st) l k)) (ledOf b l k place)) (enterS d l k place (Failed x y))) (sym (failed-is (Failed x y) e))
       (same-numb x y e l k place)
 
-  same-number : (e : BondKind) (n place : ℕ) (f : Failure) → n < numbers → d .failure ≡ f → Same (ringOf b e n place) (numberS d e n place f)
+  same-number : (e : BondKind) (n place : ℕ) (f : Failure) → n < ringNumberCount → d .failure ≡ f → Same (ringOf b e n place) (numberS d e n place f)
   unfolding ringOf numberS hasFailed
   same-number e n place None low q =
       subst (λ (t : Bool). Same (pick t b (joinOf b e n place)) (numberS d e n place None)) (sym (failed-is None q))
@@ -113,7 +113,7 @@ module _ (b : Bld) (d : Sketch) (same : Same b d) where
   same-missed (Character place) = same-refuse b d same character place place refl
 
   -- an event
-  pub same-step : (e : Event) → Ok e → Same (step b e) (stepS d e)
+  pub same-step : (e : ReadEvent) → Ok e → Same (step b e) (stepS d e)
   unfolding step stepS refuse
   same-step (Enter l k place) ok = same-enter l k place (d .failure) refl
   same-step (Join e n place) ok = same-number e n place (d .failure) ok refl
@@ -122,7 +122,7 @@ module _ (b : Bld) (d : Sketch) (same : Same b d) where
   same-step (Nest place) ok = same-refuse b d same nesting place place refl
 
 -- the events in order, up to the first refusal
-pub same-run : (b : Bld) (d : Sketch) (es : List Event) → Same b d → AllOk es → Same (run b es) (runS d es)
+pub same-run : (b : Bld) (d : Sketch) (es : List ReadEvent) → Same b d → AllOk es → Same (run b es) (runS d es)
 unfolding run runS
 same-run b d [] same ok = same
 same-run b d (e ∷ es) same ok =
@@ -131,7 +131,7 @@ same-run b d (e ∷ es) same ok =
     (λ t. same)
 
 -- tables with room, the atoms and the ring numbers all zeros
-pub same-start : (places slots : ℕ) (a e p r : List ℕ) → Room places slots a e p r → ((i : ℕ) → getD a i 0 ≡ 0) → ((n : ℕ) → n < numbers → getD r n 0 ≡ 0) → Same (bld a e p r (startOf places slots)) (startS places slots)
+pub same-start : (places slots : ℕ) (a e p r : List ℕ) → Room places slots a e p r → ((i : ℕ) → getD a i 0 ≡ 0) → ((n : ℕ) → n < ringNumberCount → getD r n 0 ≡ 0) → Same (bld a e p r (freshBuilder places slots)) (startS places slots)
 unfolding nodesOf edgesOf flat countOf bondsTo lookup lastly hasFailed closerOf openerOf
 same-start places slots a e p r room blank free =
     record {

@@ -11,7 +11,7 @@ use Rattle.feature.specs.declared.atom_kind.AtomKind.the-variants.{Star}
 use Rattle.feature.specs.declared.bond_kind.BondKind.{BondKind}
 use Rattle.packing.specs.Words.{atomWords, wordsOf}
 use Rattle.builder.specs.Limits.{atomLimit, bondLimit}
-use Rattle.builder.specs.Rings.{numbers}
+use Rattle.builder.specs.Rings.{ringNumberCount}
 use Rattle.builder.specs.State.{Bld, entryWords}
 use Rattle.builder.specs.declared.builder.Builder.{Builder}
 use Rattle.builder_meaning.specs.Sketch.{To, Open, Node, Held, Failure, None, Failed, Sketch, countOf, lookup}
@@ -62,8 +62,8 @@ Ring rs w (some h) = At rs w h
 
 -- so for each number; no two have the same entry, and no two entries the same join, all of them below j
 pub record Rings (rs : List Row) (ws : List ℕ) (hs : List Held) (j : ℕ) : Type 0 where
-  pub each : (n : ℕ) → n < numbers → Ring rs (getD ws n 0) (lookup n hs)
-  pub apart : (m n : ℕ) → m < numbers → n < numbers → getD ws m 0 ≢ 0 → getD ws m 0 ≡ getD ws n 0 → m ≡ n
+  pub each : (n : ℕ) → n < ringNumberCount → Ring rs (getD ws n 0) (lookup n hs)
+  pub apart : (m n : ℕ) → m < ringNumberCount → n < ringNumberCount → getD ws m 0 ≢ 0 → getD ws m 0 ≡ getD ws n 0 → m ≡ n
   pub once : (p q i : ℕ) → p < length rs → q < length rs → getD rs p noRow .target ≡ Open i → getD rs q noRow .target ≡ Open i → p ≡ q
   pub older : (p i : ℕ) → p < length rs → getD rs p noRow .target ≡ Open i → i < j
 
@@ -101,7 +101,7 @@ pub record Room (places slots : ℕ) (a e p r : List ℕ) : Type 0 where
   pub atoms : places * atomWords ≤ length a
   pub entries : slots * entryWords ≤ length e
   pub path : places ≤ length p
-  pub rings : numbers ≤ length r
+  pub rings : ringNumberCount ≤ length r
   pub few : places ≤ atomLimit
   pub small : slots ≤ bondLimit
 

@@ -17,7 +17,7 @@ use Rattle.feature.specs.declared.atom_kind.Inverted.the-variants.{Turned, Refu
 use Rattle.feature.specs.declared.bond_kind.BondKind.{BondKind}
 use Rattle.packing.specs.Words.{atomWords, listOf}
 use Rattle.builder.specs.State.{Bld, bld, entryWords, entryList, inversion, atomRoom, bondRoom, noAtom, refuse, lastOf, entered, rootOf, bonded, extendedBy, extendOf, popOf}
-use Rattle.builder_meaning.specs.Sketch.{To, Node, Sketch, edge, node, refused, popped, grown, numberOf, countOf, upd, addEdge, rootS, bondedS, extendS, targetOf}
+use Rattle.builder_meaning.specs.Sketch.{To, Node, Sketch, edge, node, refused, popped, atomAdded, nextNumber, countOf, upd, addEdge, rootS, bondedS, extendS, targetOf}
 use Rattle.builder_meaning.proofs.Rows.{Row, row, upd-length, upd-front, upd-last}
 use Rattle.builder_meaning.proofs.Twins.{Twins, twins-extend}
 use Rattle.builder_meaning.proofs.Same.{Way, Rings, Entries, Room, Same}
@@ -45,8 +45,8 @@ room-kept p l a e w r a′ e′ w′ r′ m h i j k =
 
 module _ (b : Bld) (d : Sketch) (same : Same b d) where
   -- the next atom's number
-  pub number-is : b .st .atoms ≡ numberOf d
-  unfolding numberOf
+  pub number-is : b .st .atoms ≡ nextNumber d
+  unfolding nextNumber
   number-is =
       same .state .atoms
       ∙ ap (λ (n : ℕ). n + d .unseen) (sym (same-length (same .kinds) (same .rows) (b .entries) (d .nodes) (same .entries)))
@@ -117,11 +117,11 @@ module _ (b : Bld) (d : Sketch) (same : Same b d) where
     pub held-all : b .st .atoms ≡ length (same .kinds)
     held-all = omega (arith, same .state .atoms, whole)
 
-    number-held : numberOf d ≡ length (same .kinds)
+    number-held : nextNumber d ≡ length (same .kinds)
     number-held = sym number-is ∙ held-all
 
     -- an atom more, with other entries
-    entered-same : (k : AtomKind) (es : List ℕ) (ns : List Node) (rs : List Row) (e : ℕ) → b .st .atoms < b .st .places → e ≡ length rs → length rs ≤ d .slots → length es ≡ length (b .entries) → Entries (same .kinds ++ (k ∷ [])) rs es ns → Rings rs (b .rings) (d .opens) (d .joins) → Twins rs → Same (entered (bld (b .atoms) es (b .path) (b .rings) (b .st)) k e) (grown d ns (numberOf d))
+    entered-same : (k : AtomKind) (es : List ℕ) (ns : List Node) (rs : List Row) (e : ℕ) → b .st .atoms < b .st .places → e ≡ length rs → length rs ≤ d .slots → length es ≡ length (b .entries) → Entries (same .kinds ++ (k ∷ [])) rs es ns → Rings rs (b .rings) (d .opens) (d .joins) → Twins rs → Same (entered (bld (b .atoms) es (b .path) (b .rings) (b .st)) k e) (atomAdded d ns (nextNumber d))
     unfolding entered
     entered-same k es ns rs e free count few size g r w =
         let s = same .state in
@@ -147,13 +147,13 @@ module _ (b : Bld) (d : Sketch) (same : Same b d) where
           };
           atoms = atoms-more (same .kinds) (b .atoms) k (b .st .atoms) (same .atoms) held-all (omega (arith, m .atoms, s .places));
           entries = g;
-          way = way-enter (length (same .kinds)) (length (same .kinds ++ (k ∷ []))) (b .st .top) (b .path) (d .path) (b .st .atoms) (numberOf d) (same .way) held-all number-held grew (omega (arith, same .way .short, held-all, m .path, s .places));
+          way = way-enter (length (same .kinds)) (length (same .kinds ++ (k ∷ []))) (b .st .top) (b .path) (d .path) (b .st .atoms) (nextNumber d) (same .way) held-all number-held grew (omega (arith, same .way .short, held-all, m .path, s .places));
           rings = r;
           twins = w;
           room = room-kept (d .places) (d .slots) (b .atoms) (b .entries) (b .path) (b .rings) _ _ _ _ m (length-sets (b .atoms) (b .st .atoms * atomWords) (listOf k)) size (length-set (b .path) (b .st .top) (b .st .atoms)) refl;
         }
 
-    full-same : leb (b .st .places) (b .st .atoms) ≡ leb (d .places) (numberOf d)
+    full-same : leb (b .st .places) (b .st .atoms) ≡ leb (d .places) (nextNumber d)
     full-same = ap₂ (λ (m n : ℕ). leb m n) (same .state .places) number-is
 
     pub tight-same : (n : ℕ) → ltb (b .st .slots) (b .st .entries + n) ≡ ltb (d .slots) (countOf (d .nodes) + n)
@@ -163,7 +163,7 @@ module _ (b : Bld) (d : Sketch) (same : Same b d) where
     pub same-root : (k : AtomKind) (place : ℕ) → Same (rootOf b k place) (rootS d k place)
     unfolding rootOf rootS
     same-root k place =
-        both-ways Same (leb (b .st .places) (b .st .atoms)) (leb (d .places) (numberOf d)) full-same
+        both-ways Same (leb (b .st .places) (b .st .atoms)) (leb (d .places) (nextNumber d)) full-same
         (λ t. same-refuse atomRoom place place refl)
         (λ t. entered-same k (b .entries) (d .nodes ++ (node k [] ∷ [])) (same .rows) (b .st .entries) (leb-false (b .st .places) (b .st .atoms) t) (same .state .entries) (same .state .holds) refl (entries-root (same .kinds) (same .rows) (b .entries) (d .nodes) k (same .entries)) (same .rings) (same .twins))
 
@@ -178,10 +178,10 @@ module _ (b : Bld) (d : Sketch) (same : Same b d) where
 
       pub same-bonded : (e : BondKind) (t : Inverted) → b .st .atoms < b .st .places → b .st .entries + 2 ≤ b .st .slots → Same (extendedBy b e t) (bondedS d e s t)
       unfolding extendedBy bondedS bonded addEdge targetOf
-      same-bonded e Refused free room = same-refuse inversion (b .st .atoms) (numberOf d) number-is
+      same-bonded e Refused free room = same-refuse inversion (b .st .atoms) (nextNumber d) number-is
       same-bonded e (Turned k) free room =
-          let there = row s e (To (numberOf d)) in
-          let back = row (numberOf d) (reverseOf e) (To s) in
+          let there = row s e (To (nextNumber d)) in
+          let back = row (nextNumber d) (reverseOf e) (To s) in
           let ks = same .kinds ++ (k ∷ []) in
           let rs = same .rows ++ (there ∷ []) in
           let t1 = sets (b .entries) (b .st .entries * entryWords) (entryList (lastOf b) (codeOf e) (b .st .atoms)) in
@@ -189,26 +189,26 @@ module _ (b : Bld) (d : Sketch) (same : Same b d) where
           let grew = snoc-length (same .kinds) k in
           let more = snoc-length (same .rows) there in
           let g0 = entries-root (same .kinds) (same .rows) (b .entries) (d .nodes) k (same .entries) in
-          let g1 = entries-push ks (same .rows) (b .entries) (d .nodes ++ (node k [] ∷ [])) g0 s e (To (numberOf d)) (b .st .entries) (lastOf b) (b .st .atoms) (below-more k) (λ y q. let z : numberOf d ≡ y = cc in omega (arith, z, number-held, grew)) (same .state .entries) last-is number-is (omega arith) in
-          let g2 = entries-push ks rs t1 (upd s (addEdge (edge e (To (numberOf d)))) (d .nodes ++ (node k [] ∷ []))) g1 (numberOf d) (reverseOf e) (To s) (b .st .entries + 1) (b .st .atoms) (lastOf b) (omega (arith, number-held, grew)) (λ y q. let z : s ≡ y = cc in omega (arith, z, below-more k)) (omega (arith, more, same .state .entries)) number-is last-is (rw length-sets (omega arith)) in
-          let r1 = rings-push (same .rows) (b .rings) (d .opens) (d .joins) (same .rings) s e (To (numberOf d)) (d .joins) (omega arith) (λ y q. absurd (let z : _≡_ {A = ℕ} 0 1 = cc in omega arith)) in
-          let r2 = rings-push rs (b .rings) (d .opens) (d .joins) r1 (numberOf d) (reverseOf e) (To s) (d .joins) (omega arith) (λ y q. absurd (let z : _≡_ {A = ℕ} 0 1 = cc in omega arith)) in
+          let g1 = entries-push ks (same .rows) (b .entries) (d .nodes ++ (node k [] ∷ [])) g0 s e (To (nextNumber d)) (b .st .entries) (lastOf b) (b .st .atoms) (below-more k) (λ y q. let z : nextNumber d ≡ y = cc in omega (arith, z, number-held, grew)) (same .state .entries) last-is number-is (omega arith) in
+          let g2 = entries-push ks rs t1 (upd s (addEdge (edge e (To (nextNumber d)))) (d .nodes ++ (node k [] ∷ []))) g1 (nextNumber d) (reverseOf e) (To s) (b .st .entries + 1) (b .st .atoms) (lastOf b) (omega (arith, number-held, grew)) (λ y q. let z : s ≡ y = cc in omega (arith, z, below-more k)) (omega (arith, more, same .state .entries)) number-is last-is (rw length-sets (omega arith)) in
+          let r1 = rings-push (same .rows) (b .rings) (d .opens) (d .joins) (same .rings) s e (To (nextNumber d)) (d .joins) (omega arith) (λ y q. absurd (let z : _≡_ {A = ℕ} 0 1 = cc in omega arith)) in
+          let r2 = rings-push rs (b .rings) (d .opens) (d .joins) r1 (nextNumber d) (reverseOf e) (To s) (d .joins) (omega arith) (λ y q. absurd (let z : _≡_ {A = ℕ} 0 1 = cc in omega arith)) in
           entered-same k (sets t1 ((b .st .entries + 1) * entryWords) (entryList (b .st .atoms) (codeOf (reverseOf e)) (lastOf b)))
-          (upd s (addEdge (edge e (To (numberOf d)))) (d .nodes) ++ (node k (edge (reverseOf e) (To s) ∷ []) ∷ []))
+          (upd s (addEdge (edge e (To (nextNumber d)))) (d .nodes) ++ (node k (edge (reverseOf e) (To s) ∷ []) ∷ []))
           (rs ++ (back ∷ [])) (b .st .entries + 2) free
           (omega (arith, more, snoc-length rs back, same .state .entries)) (omega (arith, more, snoc-length rs back, same .state .entries, same .state .slots))
           (rw (length-sets, length-sets) refl)
           (subst (λ (ns : List Node). Entries ks (rs ++ (back ∷ [])) (sets t1 ((b .st .entries + 1) * entryWords) (entryList (b .st .atoms) (codeOf (reverseOf e)) (lastOf b))) ns) (laid k e) g2)
-          r2 (twins-extend (same .rows) s (numberOf d) e (same .twins))
+          r2 (twins-extend (same .rows) s (nextNumber d) e (same .twins))
         where
-          laid : (k : AtomKind) (e : BondKind) → upd (numberOf d) (addEdge (edge (reverseOf e) (To s))) (upd s (addEdge (edge e (To (numberOf d)))) (d .nodes ++ (node k [] ∷ []))) ≡ upd s (addEdge (edge e (To (numberOf d)))) (d .nodes) ++ (node k (edge (reverseOf e) (To s) ∷ []) ∷ [])
+          laid : (k : AtomKind) (e : BondKind) → upd (nextNumber d) (addEdge (edge (reverseOf e) (To s))) (upd s (addEdge (edge e (To (nextNumber d)))) (d .nodes ++ (node k [] ∷ []))) ≡ upd s (addEdge (edge e (To (nextNumber d)))) (d .nodes) ++ (node k (edge (reverseOf e) (To s) ∷ []) ∷ [])
           laid k e =
               let size = same-length (same .kinds) (same .rows) (b .entries) (d .nodes) (same .entries) in
-              let len = upd-length s (addEdge (edge e (To (numberOf d)))) (d .nodes) in
-              let i : numberOf d ≡ length (upd s (addEdge (edge e (To (numberOf d)))) (d .nodes)) = omega (arith, size, len, number-held) in
-              ap (upd (numberOf d) (addEdge (edge (reverseOf e) (To s)))) (upd-front s (addEdge (edge e (To (numberOf d)))) (d .nodes) (node k [] ∷ []) (omega (arith, size, stands .below)))
-              ∙ ap (λ (n : ℕ). upd n (addEdge (edge (reverseOf e) (To s))) (upd s (addEdge (edge e (To (numberOf d)))) (d .nodes) ++ (node k [] ∷ []))) i
-              ∙ upd-last (addEdge (edge (reverseOf e) (To s))) (upd s (addEdge (edge e (To (numberOf d)))) (d .nodes)) (node k [])
+              let len = upd-length s (addEdge (edge e (To (nextNumber d)))) (d .nodes) in
+              let i : nextNumber d ≡ length (upd s (addEdge (edge e (To (nextNumber d)))) (d .nodes)) = omega (arith, size, len, number-held) in
+              ap (upd (nextNumber d) (addEdge (edge (reverseOf e) (To s)))) (upd-front s (addEdge (edge e (To (nextNumber d)))) (d .nodes) (node k [] ∷ []) (omega (arith, size, stands .below)))
+              ∙ ap (λ (n : ℕ). upd n (addEdge (edge (reverseOf e) (To s))) (upd s (addEdge (edge e (To (nextNumber d)))) (d .nodes) ++ (node k [] ∷ []))) i
+              ∙ upd-last (addEdge (edge (reverseOf e) (To s))) (upd s (addEdge (edge e (To (nextNumber d)))) (d .nodes)) (node k [])
 
     -- an extend
     pub same-extend : (e : BondKind) (k : AtomKind) (place : ℕ) (path : List ℕ) → d .path ≡ path → Same (extendOf b e k place) (extendS d e k place path)
@@ -221,7 +221,7 @@ module _ (b : Bld) (d : Sketch) (same : Same b d) where
         let w = subst (Way (length (same .kinds)) (b .st .top) (b .path)) p (same .way) in
         let stands = way-some (length (same .kinds)) (b .st .top) (b .path) s rest w in
         rw (ne-eqb (b .st .top) 0 (stands .some))
-        (both-ways Same (leb (b .st .places) (b .st .atoms)) (leb (d .places) (numberOf d)) full-same
+        (both-ways Same (leb (b .st .places) (b .st .atoms)) (leb (d .places) (nextNumber d)) full-same
         (λ t. same-refuse atomRoom place place refl)
         (λ t. both-ways Same (ltb (b .st .slots) (b .st .entries + 2)) (ltb (d .slots) (countOf (d .nodes) + 2)) (tight-same 2)
         (λ u. same-refuse bondRoom place place refl)

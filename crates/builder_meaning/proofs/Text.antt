@@ -21,16 +21,16 @@ use Rattle.read_token.specs.declared.scanner.Missing.{Missing}
 use Rattle.read_token.specs.declared.scanner.Missing.the-variants.{EndOfLine, Character}
 use Rattle.packing.specs.Words.{atomWords, bondWords, listOf}
 use Rattle.builder.specs.Limits.{atomLimit, bondLimit, lesserOf}
-use Rattle.builder.specs.Rings.{numbers}
-use Rattle.builder.specs.State.{Bld, bld, startOf, entryWords, refuse, entered, rootOf, bonded, extendedBy, extendOf, failedSt, lastOf, openedOf, openingOf, openingKind, closedBy, joinOf, popOf}
+use Rattle.builder.specs.Rings.{ringNumberCount}
+use Rattle.builder.specs.State.{Bld, bld, freshBuilder, entryWords, refuse, entered, rootOf, bonded, extendedBy, extendOf, failedSt, lastOf, openedOf, openingOf, openingKind, closedBy, joinOf, popOf}
 use Rattle.builder.specs.declared.builder.Builder.{Builder}
 use Rattle.read_line.specs.declared.lead.Lead.{Lead}
 use Rattle.read_line.specs.declared.lead.Lead.the-variants.{Dot, Bond}
-use Rattle.read_line.specs.Events.{Event, Enter, Join, Pop, Miss, Nest, judged, numbOf, missingSt, ledOf, enterOf, ringOf, step, run}
+use Rattle.read_line.specs.Events.{ReadEvent, Enter, Join, Pop, Miss, Nest, markJudged, unstoredOf, missingSt, ledOf, enterOf, ringOf, step, run}
 use Rattle.read_line.specs.Parse.{parse}
 use Rattle.read_line.proofs.Counts.{by-test}
 use Rattle.builder.specs.Build.{tables, buildOf}
-use Rattle.builder_meaning.specs.Sketch.{Sketch, BothEnds, startS, numberOf, countOf, sketchOf, finishS}
+use Rattle.builder_meaning.specs.Sketch.{Sketch, BothEnds, startS, nextNumber, countOf, sketchOf, finishS}
 use Rattle.builder_meaning.proofs.Same.{Room, Same}
 use Rattle.builder_meaning.proofs.Steps.{number-is}
 use Rattle.builder_meaning.proofs.Run.{same-run, same-start}
@@ -92,13 +92,13 @@ module _ (n l : ℕ) (b : Bld) (kept : Kept n l b) where
   led-kept Dot k place = root-kept k place
   led-kept (Bond e) k place = extend-kept e k place
 
-  judged-kept : (t : Inverted) → judged (b .st) t .slots ≡ l
-  unfolding judged
+  judged-kept : (t : Inverted) → markJudged (b .st) t .slots ≡ l
+  unfolding markJudged
   judged-kept Refused = kept .slots
   judged-kept (Turned k) = kept .slots
 
-  numb-kept : (x : Lead) (k : AtomKind) → numbOf (b .st) x k .slots ≡ l
-  unfolding numbOf
+  numb-kept : (x : Lead) (k : AtomKind) → unstoredOf (b .st) x k .slots ≡ l
+  unfolding unstoredOf
   numb-kept Dot k = kept .slots
   numb-kept (Bond e) k = judged-kept (invertOf k)
 
@@ -107,7 +107,7 @@ module _ (n l : ℕ) (b : Bld) (kept : Kept n l b) where
   missing-kept EndOfLine = kept .slots
   missing-kept (Character place) = kept .slots
 
-  step-kept : (e : Event) → Kept n l (step b e)
+  step-kept : (e : ReadEvent) → Kept n l (step b e)
   unfolding step enterOf ringOf popOf
   step-kept (Enter x k place) =
       by-test (Kept n l) (b .st .failed) (record { atoms = kept .atoms; slots = numb-kept x k }) (led-kept x k place)
@@ -116,7 +116,7 @@ module _ (n l : ℕ) (b : Bld) (kept : Kept n l b) where
   step-kept (Miss m) = record { atoms = kept .atoms; slots = missing-kept m }
   step-kept (Nest place) = record { atoms = kept .atoms; slots = kept .slots }
 
-run-kept : (n l : ℕ) (b : Bld) (es : List Event) → Kept n l b → Kept n l (run b es)
+run-kept : (n l : ℕ) (b : Bld) (es : List ReadEvent) → Kept n l b → Kept n l (run b es)
 unfolding run
 run-kept n l b [] kept = kept
 run-kept n l b (e ∷ es) kept =
@@ -142,13 +142,13 @@ lesser-held limit n = split (ltb n limit) refl where
 pub record Reads (b : Bld) (d : Sketch) (la lb : ℕ) : Type 0 where
   pub refusal : b .st .refusal ≡ d .refusal
   pub carried : b .st .carried ≡ d .carried
-  pub atoms : b .st .atoms ≡ numberOf d
+  pub atoms : b .st .atoms ≡ nextNumber d
   pub entries : b .st .entries ≡ countOf (d .nodes)
   pub long : length (b .atoms) ≡ la
   pub built : Says (buildOf (tables (b .atoms) (replicate lb 0) (b .path)) (b .entries) (b .st)) (finishS d) (d .nodes) la lb
   pub ends : BothEnds (d .nodes)
 
-module _ (s a e p r : List ℕ) (lb : ℕ) (wide : lesserOf bondLimit (lb / bondWords) * entryWords ≤ length e) (deep : lesserOf atomLimit (length a / atomWords) ≤ length p) (round : numbers ≤ length r) (blank : (i : ℕ) → getD a i 0 ≡ 0) (free : (n : ℕ) → n < numbers → getD r n 0 ≡ 0) where
+module _ (s a e p r : List ℕ) (lb : ℕ) (wide : lesserOf bondLimit (lb / bondWords) * entryWords ≤ length e) (deep : lesserOf atomLimit (length a / atomWords) ≤ length p) (round : ringNumberCount ≤ length r) (blank : (i : ℕ) → getD a i 0 ≡ 0) (free : (n : ℕ) → n < ringNumberCount → getD r n 0 ≡ 0) where
   abbrev places : ℕ
   places = lesserOf atomLimit (length a / atomWords)
 
@@ -166,16 +166,16 @@ module _ (s a e p r : List ℕ) (lb : ℕ) (wide : lesserOf bondLimit (lb / bond
         small = lesser-most bondLimit (lb / bondWords);
       }
 
-  pub same-text : Same (run (bld a e p r (startOf places slots)) (parse s)) (sketchOf s (length a) lb)
+  pub same-text : Same (run (bld a e p r (freshBuilder places slots)) (parse s)) (sketchOf s (length a) lb)
   unfolding sketchOf
   same-text =
-      same-run (bld a e p r (startOf places slots)) (startS places slots) (parse s) (same-start places slots a e p r room blank free) (text-ok s)
+      same-run (bld a e p r (freshBuilder places slots)) (startS places slots) (parse s) (same-start places slots a e p r room blank free) (text-ok s)
 
-  pub text-reads : Reads (run (bld a e p r (startOf places slots)) (parse s)) (sketchOf s (length a) lb) (length a) lb
+  pub text-reads : Reads (run (bld a e p r (freshBuilder places slots)) (parse s)) (sketchOf s (length a) lb) (length a) lb
   text-reads =
-      let b = run (bld a e p r (startOf places slots)) (parse s) in
+      let b = run (bld a e p r (freshBuilder places slots)) (parse s) in
       let d = sketchOf s (length a) lb in
-      let kept = run-kept (length a) slots (bld a e p r (startOf places slots)) (parse s) (record { atoms = refl; slots = refl }) in
+      let kept = run-kept (length a) slots (bld a e p r (freshBuilder places slots)) (parse s) (record { atoms = refl; slots = refl }) in
       let zeros = length-replicate {A = ℕ} lb 0 in
       record {
         refusal = same-text .state .refusal;

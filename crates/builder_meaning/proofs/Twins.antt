@@ -8,13 +8,13 @@ use lib.ListN.{length, getD, set}
 use lib.Dec.{ltb, eqb}
 use borrow.Author.Tests.{ltb-true, ltb-false, eqb-true, eq-eqb, ne-eqb}
 use Rattle.feature.specs.Pick.{pick, both}
-use Rattle.feature.specs.Bonds.{codeOf, kindOf, same, isDirectional, reverseOf, reconcileOf, sureKind}
+use Rattle.feature.specs.Bonds.{codeOf, kindOf, sameKind, isDirectional, reverseOf, reconcileOf, sureKind}
 use Rattle.feature.specs.declared.atom_kind.AtomKind.{AtomKind}
 use Rattle.feature.specs.declared.bond_kind.BondKind.{BondKind}
 use Rattle.feature.specs.declared.bond_kind.BondKind.the-variants as bonds
 use Rattle.feature.specs.declared.bond_kind.Reconciled.{Reconciled}
 use Rattle.feature.specs.declared.bond_kind.Reconciled.the-variants.{Both, Fails}
-use Rattle.builder_meaning.specs.Sketch.{To, Open, Edge, edge, edgesAt, leads, isBond, bondsTo, BothEnds}
+use Rattle.builder_meaning.specs.Sketch.{To, Open, Edge, edge, edgesAt, leads, isEdgeTo, bondsTo, BothEnds}
 use Rattle.builder_meaning.proofs.Rows.{by-eq, Row, row, noRow, edgesOf, nodesOf, edges-at, edges-none, Opened}
 
 -- ---- kinds
@@ -74,7 +74,7 @@ reconciled l r = split (eqb (codeOf l) (codeOf r)) (eqb (codeOf l) (codeOf (reve
   split false false false false d i j g = tt
 
 -- the reverses of two kinds are the same where they are
-same-reverse : (j k : BondKind) → same (reverseOf j) (reverseOf k) ≡ same j k
+same-reverse : (j k : BondKind) → sameKind (reverseOf j) (reverseOf k) ≡ sameKind j k
 same-reverse j k =
     by-eq (codeOf j) (codeOf k)
     (λ e. eq-eqb (codeOf (reverseOf j)) (codeOf (reverseOf k)) (ap (λ (x : BondKind). codeOf (reverseOf x)) (same-code j k e)) ∙ sym (eq-eqb (codeOf j) (codeOf k) e))
@@ -92,12 +92,12 @@ pub record Twins (rs : List Row) : Type 0 where
 
 -- what a row adds to them
 unfoldable hits : ℕ → BondKind → ℕ → Row → ℕ
-hits a k t r = pick (eqb (r .source) a) (pick (isBond k t (edge (r .kind) (r .target))) 1 0) 0
+hits a k t r = pick (eqb (r .source) a) (pick (isEdgeTo k t (edge (r .kind) (r .target))) 1 0) 0
 
 -- a row seen from its other end
 hits-back : (a : ℕ) (k : BondKind) (t s : ℕ) (e : BondKind) (x : ℕ) → hits a k t (row s e (To x)) ≡ hits t (reverseOf k) a (row x (reverseOf e) (To s))
-unfolding hits isBond leads
-hits-back a k t s e x = rw (same-reverse e k) (turn (eqb s a) (same e k) (eqb x t)) where
+unfolding hits isEdgeTo leads
+hits-back a k t s e x = rw (same-reverse e k) (turn (eqb s a) (sameKind e k) (eqb x t)) where
   turn : (p q r : Bool) → pick {A = ℕ} p (pick (both q r) 1 0) 0 ≡ pick r (pick (both q p) 1 0) 0
   turn true true true = refl
   turn true true false = refl
@@ -110,8 +110,8 @@ hits-back a k t s e x = rw (same-reverse e k) (turn (eqb s a) (same e k) (eqb x 
 
 -- an open one adds nothing
 hits-open : (a : ℕ) (k : BondKind) (t : ℕ) (r : Row) (j : ℕ) → r .target ≡ Open j → hits a k t r ≡ 0
-unfolding hits isBond leads
-hits-open a k t r j e = rw e (none (eqb (r .source) a) (same (r .kind) k)) where
+unfolding hits isEdgeTo leads
+hits-open a k t r j e = rw e (none (eqb (r .source) a) (sameKind (r .kind) k)) where
   none : (p q : Bool) → pick {A = ℕ} p (pick (both q false) 1 0) 0 ≡ 0
   none true true = refl
   none true false = refl
@@ -120,7 +120,7 @@ hits-open a k t r j e = rw e (none (eqb (r .source) a) (same (r .kind) k)) where
 bonds-cons : (a : ℕ) (k : BondKind) (t : ℕ) (r : Row) (rs : List Row) → bondsTo k t (edgesOf (r ∷ rs) a) ≡ hits a k t r + bondsTo k t (edgesOf rs a)
 unfolding edgesOf bondsTo hits
 bonds-cons a k t r rs = split (eqb (r .source) a) where
-  split : (q : Bool) → bondsTo k t (pick q (edge (r .kind) (r .target) ∷ edgesOf rs a) (edgesOf rs a)) ≡ pick q (pick (isBond k t (edge (r .kind) (r .target))) 1 0) 0 + bondsTo k t (edgesOf rs a)
+  split : (q : Bool) → bondsTo k t (pick q (edge (r .kind) (r .target) ∷ edgesOf rs a) (edgesOf rs a)) ≡ pick q (pick (isEdgeTo k t (edge (r .kind) (r .target))) 1 0) 0 + bondsTo k t (edgesOf rs a)
   split true = refl
   split false = omega arith
 

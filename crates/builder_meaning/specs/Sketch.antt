@@ -18,7 +18,7 @@ use lib.ListN.{length, drop, replicate}
 use lib.Dec.{ltb, leb, eqb}
 use Rattle.feature.specs.Pick.{pick, both}
 use Rattle.feature.specs.Kinds.{invertOf}
-use Rattle.feature.specs.Bonds.{codeOf, same, reverseOf, reconcileOf}
+use Rattle.feature.specs.Bonds.{codeOf, sameKind, reverseOf, reconcileOf}
 use Rattle.feature.specs.declared.atom_kind.AtomKind.{AtomKind}
 use Rattle.feature.specs.declared.atom_kind.Inverted.{Inverted}
 use Rattle.feature.specs.declared.atom_kind.Inverted.the-variants.{Turned, Refused}
@@ -33,7 +33,7 @@ use Rattle.builder.specs.Limits.{atomLimit, bondLimit, lesserOf}
 use Rattle.builder.specs.State.{unclosed, inversion, atomRoom, bondRoom, noAtom}
 use Rattle.read_line.specs.declared.lead.Lead.{Lead}
 use Rattle.read_line.specs.declared.lead.Lead.the-variants.{Dot, Bond}
-use Rattle.read_line.specs.Events.{Event, Enter, Join, Pop, Miss, Nest, endOfLine, character, nesting}
+use Rattle.read_line.specs.Events.{ReadEvent, Enter, Join, Pop, Miss, Nest, endOfLine, character, nesting}
 use Rattle.read_line.specs.Parse.{parse}
 use Rattle.builder.specs.declared.build.Built.{Built}
 use Rattle.builder.specs.declared.build.Built.the-variants as built
@@ -103,8 +103,8 @@ popped d n =
     sketch (d .places) (d .slots) (d .nodes) (drop n (d .path)) (d .opens) (d .joins) (d .failure) (d .unseen) (d .refusal) (d .carried)
 
 -- other atoms, and one more on the path
-abbrev pub grown : Sketch → List Node → ℕ → Sketch
-grown d ns a =
+abbrev pub atomAdded : Sketch → List Node → ℕ → Sketch
+atomAdded d ns a =
     sketch (d .places) (d .slots) ns (a ∷ d .path) (d .opens) (d .joins) (d .failure) (d .unseen) (d .refusal) (d .carried)
 
 -- one join more
@@ -123,14 +123,14 @@ broken d os x y =
     sketch (d .places) (d .slots) (d .nodes) (d .path) os (d .joins + 1) (firstOf (d .failure) x y) (d .unseen) (d .refusal) (d .carried)
 
 -- one atom more, only counted
-abbrev pub passed : Sketch → Sketch
-passed d =
+abbrev pub atomPassed : Sketch → Sketch
+atomPassed d =
     sketch (d .places) (d .slots) (d .nodes) (d .path) (d .opens) (d .joins) (d .failure) (d .unseen + 1) (d .refusal) (d .carried)
 
 -- ---- atoms and entries
 -- the number of the next atom
-unfoldable pub numberOf : Sketch → ℕ
-numberOf d = length (d .nodes) + d .unseen
+unfoldable pub nextNumber : Sketch → ℕ
+nextNumber d = length (d .nodes) + d .unseen
 
 -- how many bond entries there are
 unfoldable pub countOf : List Node → ℕ
@@ -177,30 +177,30 @@ lookup n [] = none
 lookup n (h ∷ hs) = pick (eqb (h .number) n) (some h) (lookup n hs)
 
 -- the number n is free again
-unfoldable pub without : ℕ → List Held → List Held
-without n [] = []
-without n (h ∷ hs) = pick (eqb (h .number) n) (without n hs) (h ∷ without n hs)
+unfoldable pub ringFreed : ℕ → List Held → List Held
+ringFreed n [] = []
+ringFreed n (h ∷ hs) = pick (eqb (h .number) n) (ringFreed n hs) (h ∷ ringFreed n hs)
 
 -- ---- the events
 -- root: the kind of an atom, and its place in the text
 unfoldable pub rootS : Sketch → AtomKind → ℕ → Sketch
 rootS d k place =
-    pick (leb (d .places) (numberOf d)) (refused d atomRoom place)
-    (grown d (d .nodes ++ (node k [] ∷ [])) (numberOf d))
+    pick (leb (d .places) (nextNumber d)) (refused d atomRoom place)
+    (atomAdded d (d .nodes ++ (node k [] ∷ [])) (nextNumber d))
 
 -- a new atom bonded to the atom s, its mark judged
 unfoldable pub bondedS : Sketch → BondKind → ℕ → Inverted → Sketch
-bondedS d e s Refused = refused d inversion (numberOf d)
+bondedS d e s Refused = refused d inversion (nextNumber d)
 bondedS d e s (Turned k) =
-    grown d
-    (upd s (addEdge (edge e (To (numberOf d)))) (d .nodes) ++ (node k (edge (reverseOf e) (To s) ∷ []) ∷ []))
-    (numberOf d)
+    atomAdded d
+    (upd s (addEdge (edge e (To (nextNumber d)))) (d .nodes) ++ (node k (edge (reverseOf e) (To s) ∷ []) ∷ []))
+    (nextNumber d)
 
 -- extend: with the path
 unfoldable pub extendS : Sketch → BondKind → AtomKind → ℕ → List ℕ → Sketch
 extendS d e k place [] = refused d noAtom 0
 extendS d e k place (s ∷ rest) =
-    pick (leb (d .places) (numberOf d)) (refused d atomRoom place)
+    pick (leb (d .places) (nextNumber d)) (refused d atomRoom place)
     (pick (ltb (d .slots) (countOf (d .nodes) + 2)) (refused d bondRoom place)
     (bondedS d e s (invertOf k)))
 
@@ -211,12 +211,12 @@ openedS d e n s =
 
 -- an open one closes at s
 unfoldable pub closedS : Sketch → ℕ → ℕ → ℕ → Held → Reconciled → Sketch
-closedS d n place s h Fails = broken d (without n (d .opens)) s (h .atom)
+closedS d n place s h Fails = broken d (ringFreed n (d .opens)) s (h .atom)
 closedS d n place s h (Both l r) =
     pick (ltb (d .slots) (countOf (d .nodes) + 1)) (refused d bondRoom place)
     (joined d
     (upd s (addEdge (edge r (To (h .atom)))) (upd (h .atom) (fill (h .join) l s) (d .nodes)))
-    (without n (d .opens)))
+    (ringFreed n (d .opens)))
 
 -- a ring number at s, with what it holds
 unfoldable pub ringS : Sketch → BondKind → ℕ → ℕ → ℕ → Option Held → Sketch
@@ -233,14 +233,14 @@ joinS d e n place (s ∷ rest) = ringS d e n place s (lookup n (d .opens))
 -- ---- the events of a text
 -- an atom after a failure
 unfoldable pub judgedS : Sketch → Inverted → Sketch
-judgedS d Refused = refused d inversion (numberOf d)
-judgedS d (Turned k) = passed d
+judgedS d Refused = refused d inversion (nextNumber d)
+judgedS d (Turned k) = atomPassed d
 
 -- an atom, with what leads it in
 unfoldable pub enterS : Sketch → Lead → AtomKind → ℕ → Failure → Sketch
 enterS d Dot k place None = rootS d k place
 enterS d (Bond e) k place None = extendS d e k place (d .path)
-enterS d Dot k place (Failed x y) = passed d
+enterS d Dot k place (Failed x y) = atomPassed d
 enterS d (Bond e) k place (Failed x y) = judgedS d (invertOf k)
 
 -- a ring number
@@ -253,7 +253,7 @@ unfoldable pub missedS : Sketch → Missing → Sketch
 missedS d EndOfLine = refused d endOfLine 0
 missedS d (Character place) = refused d character place
 
-unfoldable pub stepS : Sketch → Event → Sketch
+unfoldable pub stepS : Sketch → ReadEvent → Sketch
 stepS d (Enter l k place) = enterS d l k place (d .failure)
 stepS d (Join e n place) = numberS d e n place (d .failure)
 stepS d (Pop n) = popped d n
@@ -261,7 +261,7 @@ stepS d (Miss m) = missedS d m
 stepS d (Nest place) = refused d nesting place
 
 -- the events in order, up to the first refusal
-unfoldable pub runS : Sketch → List Event → Sketch
+unfoldable pub runS : Sketch → List ReadEvent → Sketch
 runS d [] = d
 runS d (e ∷ es) = pick (eqb (d .refusal) 0) (runS (stepS d e) es) d
 
@@ -333,13 +333,13 @@ unfoldable pub leads : ℕ → Target → Bool
 leads t (To x) = eqb x t
 leads t (Open j) = false
 
-unfoldable pub isBond : BondKind → ℕ → Edge → Bool
-isBond k t e = both (same (e .kind) k) (leads t (e .target))
+unfoldable pub isEdgeTo : BondKind → ℕ → Edge → Bool
+isEdgeTo k t e = both (sameKind (e .kind) k) (leads t (e .target))
 
 -- how many such bonds there are among entries
 unfoldable pub bondsTo : BondKind → ℕ → List Edge → ℕ
 bondsTo k t [] = 0
-bondsTo k t (e ∷ es) = pick (isBond k t e) 1 0 + bondsTo k t es
+bondsTo k t (e ∷ es) = pick (isEdgeTo k t e) 1 0 + bondsTo k t es
 
 -- an atom has as many bonds of a kind to another as that one has of the reverse to it, and to itself an even number of each
 -- kind that is its own reverse

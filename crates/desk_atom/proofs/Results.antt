@@ -13,7 +13,7 @@ use Rattle.desk_atom.specs.declared.Begins.{Begins}
 use Rattle.desk_atom.specs.declared.Begins.the-variants.{Atom, EndOfLine, Character}
 use Rattle.desk_atom.specs.declared.Spelt.{Spelt}
 use Rattle.desk_atom.specs.declared.Spelt.the-variants.{Written, OutRoom, BadTable}
-use Rattle.desk_atom.specs.Texts.{Reads, reads, beginsTold, kindsIn, Spells, spelt, speltTold, firstAtom, texted, atomD, rnumD}
+use Rattle.desk_atom.specs.Texts.{AtomTold, tellsAtom, beginsTold, kindsIn, Spells, spelt, speltTold, firstAtom, texted, atomD, rnumD}
 
 -- ---- reading
 begunBy : Told → List AtomKind → Begins
@@ -26,8 +26,8 @@ begun-known (Atom k next) = refl
 begun-known EndOfLine = refl
 begun-known (Character place) = refl
 
-pub one-reading : {b c : Begins} → reads b ≡ reads c → b ≡ c
-one-reading {b} {c} e = sym (begun-known b) ∙ ap (λ (r : Reads). begunBy (r .told) (r .kinds)) e ∙ begun-known c
+pub one-reading : {b c : Begins} → tellsAtom b ≡ tellsAtom c → b ≡ c
+one-reading {b} {c} e = sym (begun-known b) ∙ ap (λ (r : AtomTold). begunBy (r .told) (r .kinds)) e ∙ begun-known c
 
 -- ---- spelling
 speltBy : Told → Spelt
@@ -45,8 +45,8 @@ pub one-spelling : {r s : Spelt} {o p : List ℕ} → spelt r o ≡ spelt s p �
 one-spelling {r} {s} e = sym (spelt-known r) ∙ ap (λ (x : Spells). speltBy (x .told)) e ∙ spelt-known s
 
 -- ---- two results that meet a promise are equal
-pub one-read-atom : (text : List ℕ) (x y : Begins) → reads x ≡ firstAtom text → reads y ≡ firstAtom text → x ≡ y
-one-read-atom text = one-result reads (λ (r : Reads). begunBy (r .told) (r .kinds)) begun-known (firstAtom text)
+pub one-read-atom : (text : List ℕ) (x y : Begins) → tellsAtom x ≡ firstAtom text → tellsAtom y ≡ firstAtom text → x ≡ y
+one-read-atom text = one-result tellsAtom (λ (r : AtomTold). begunBy (r .told) (r .kinds)) begun-known (firstAtom text)
 
 -- what a call hands back: its answer, and the output that is left
 pub record Result : Type 0 where

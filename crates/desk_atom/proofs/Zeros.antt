@@ -16,7 +16,7 @@ use Rattle.feature.specs.declared.atom_kind.AtomKind.{AtomKind}
 use Rattle.spell.specs.Spell.{Laid, atomText, rnumText}
 use Rattle.spell.proofs.Laws.{in-front}
 use Rattle.desk_atom.specs.declared.Spelt.the-variants.{Written, OutRoom, BadTable}
-use Rattle.desk_atom.specs.Texts.{zeros, Spells, spelt, settled, texted, atomD, rnumD}
+use Rattle.desk_atom.specs.Texts.{zeros, Spells, spelt, answeredLength, texted, atomD, rnumD}
 
 -- ---- zeros one at a time
 
@@ -33,18 +33,18 @@ wipe-end t at l h =
     rw (drop-of-length-le t h) (append-nil (replicate at 0) ∙ ap (λ (n : ℕ). replicate n 0) e)
 
 -- ---- a text over zeros
-pub settle-short : (out m : List ℕ) (need : ℕ) → length out < need → m ≡ zeros (length out) → spelt (OutRoom need) m ≡ settled out need
-unfolding settled
-settle-short out m need h e = simp (lt-ltb _ _ h, e)
+pub length-short : (out m : List ℕ) (need : ℕ) → length out < need → m ≡ zeros (length out) → spelt (OutRoom need) m ≡ answeredLength out need
+unfolding answeredLength
+length-short out m need h e = simp (lt-ltb _ _ h, e)
 
-pub settle-fits : (out : List ℕ) (need : ℕ) → need ≤ length out → spelt (Written need) out ≡ settled out need
-unfolding settled
-settle-fits out need h = simp (le-ltb _ _ h)
+pub length-fits : (out : List ℕ) (need : ℕ) → need ≤ length out → spelt (Written need) out ≡ answeredLength out need
+unfolding answeredLength
+length-fits out need h = simp (le-ltb _ _ h)
 
 -- a text laid over zeros and then settled
-pub laid-settled : {k r : ℕ} {text wiped m : List ℕ} (n : ℕ) → wiped ≡ zeros n → Laid k wiped 0 text m r → settled m r ≡ texted text n
-unfolding settled texted
-laid-settled {k} {r} {text} {wiped} {m} n w h = go (ltb n (length text)) refl where
+pub laid-answered : {k r : ℕ} {text wiped m : List ℕ} (n : ℕ) → wiped ≡ zeros n → Laid k wiped 0 text m r → answeredLength m r ≡ texted text n
+unfolding answeredLength texted
+laid-answered {k} {r} {text} {wiped} {m} n w h = go (ltb n (length text)) refl where
   long : length wiped ≡ n
   long = ap length w ∙ length-replicate {A = ℕ} n 0
 

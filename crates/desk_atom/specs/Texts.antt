@@ -12,7 +12,7 @@ use Rattle.feature.specs.Pick.{pick}
 use Rattle.desk_numbers.specs.Numbers.{Told, told, done, endOfLine, character, outRoom, badTable}
 use Rattle.feature.specs.Kinds.{inRange}
 use Rattle.feature.specs.declared.atom_kind.AtomKind.{AtomKind}
-use Rattle.builder.specs.Rings.{numbers}
+use Rattle.builder.specs.Rings.{ringNumberCount}
 use Rattle.read_token.specs.declared.scanner.Missing.{Missing}
 use Rattle.read_token.specs.declared.scanner.Missing.the-variants as missing
 use Rattle.read_token.specs.declared.scanner.Found.{Found}
@@ -47,15 +47,15 @@ kindsIn (begins.Atom k next) = k ∷ []
 kindsIn begins.EndOfLine = []
 kindsIn (begins.Character place) = []
 
-pub record Reads : Type 0 where
+pub record AtomTold : Type 0 where
   pub told : Told
   pub kinds : List AtomKind
 
-abbrev pub reads : Begins → Reads
-reads b = record { told = beginsTold b; kinds = kindsIn b }
+abbrev pub tellsAtom : Begins → AtomTold
+tellsAtom b = record { told = beginsTold b; kinds = kindsIn b }
 
-unfoldable pub firstAtom : List ℕ → Reads
-firstAtom text = reads (beginsBy text (atomAt text 0))
+unfoldable pub firstAtom : List ℕ → AtomTold
+firstAtom text = tellsAtom (beginsBy text (atomAt text 0))
 
 -- ---- spelling
 -- what a call answers, with the output that it leaves
@@ -76,8 +76,8 @@ abbrev pub zeros : ℕ → List ℕ
 zeros n = replicate n 0
 
 -- an output after a text of so many bytes was laid in it as far as there was room
-unfoldable pub settled : List ℕ → ℕ → Spells
-settled out need = pick (ltb (length out) need) (spelt (OutRoom need) (zeros (length out))) (spelt (Written need) out)
+unfoldable pub answeredLength : List ℕ → ℕ → Spells
+answeredLength out need = pick (ltb (length out) need) (spelt (OutRoom need) (zeros (length out))) (spelt (Written need) out)
 
 -- a text in an output of n bytes
 unfoldable pub texted : List ℕ → ℕ → Spells
@@ -89,4 +89,4 @@ unfoldable pub atomD : AtomKind → ℕ → Spells
 atomD k n = pick (inRange k) (texted (atomText k) n) (spelt BadTable (zeros n))
 
 unfoldable pub rnumD : ℕ → ℕ → Spells
-rnumD r n = pick (ltb r numbers) (texted (rnumText r) n) (spelt BadTable (zeros n))
+rnumD r n = pick (ltb r ringNumberCount) (texted (rnumText r) n) (spelt BadTable (zeros n))

@@ -3,7 +3,7 @@
 ghost use mathlib.Core.Path.{_≡_};
 ghost use lib.ListN.{length, replicate};
 ghost use Rattle.spell.specs.Spell.{bondText};
-ghost use Rattle.desk_atom.specs.Texts.{lackedOf, reads, firstAtom, spelt, settled, texted, atomD, rnumD};
+ghost use Rattle.desk_atom.specs.Texts.{lackedOf, tellsAtom, firstAtom, spelt, answeredLength, texted, atomD, rnumD};
 use builder::opens::NUMBERS;
 use feature::atom_kind::AtomKind;
 use feature::atom_kind::in_range;
@@ -39,7 +39,7 @@ fn lacked(m: Missing) -> Begins
 
 // The atom that a text begins with.
 pub fn read_atom(text: &[u8]) -> Begins
-    ensures { λ r. ⌜ reads r ≡ firstAtom (now (text .entry)) ⌝ }
+    ensures { λ r. ⌜ tellsAtom r ≡ firstAtom (now (text .entry)) ⌝ }
 {
     match read_atom::read_atom::read_atom(text, 0) {
         Found::Atom(k, next) => Begins::Atom(k, next),
@@ -60,8 +60,8 @@ pub fn wipe(out: &mut [u8])
 }
 
 // What a text of so many bytes comes to, which was laid as far as there was room: none of it stays where there was too little.
-fn settle(out: &mut [u8], need: usize) -> Spelt
-    ensures { λ r. ⌜ spelt r (now (out .exit)) ≡ settled (now (out .entry)) need ⌝ }
+fn answer_length(out: &mut [u8], need: usize) -> Spelt
+    ensures { λ r. ⌜ spelt r (now (out .exit)) ≡ answeredLength (now (out .entry)) need ⌝ }
 {
     if out.len() < need {
         wipe(out);
@@ -79,7 +79,7 @@ pub fn spell_atom(out: &mut [u8], k: AtomKind) -> Spelt
         return Spelt::BadTable;
     }
     let need = spell::spell_atom(out, k);
-    settle(out, need)
+    answer_length(out, need)
 }
 
 // A bond's text: none where it is elided. A kind is one of eight names, so it always stands for a bond.
@@ -88,7 +88,7 @@ pub fn spell_bond(out: &mut [u8], k: BondKind) -> Spelt
 {
     wipe(out);
     let need = spell::spell_bond(out, k);
-    settle(out, need)
+    answer_length(out, need)
 }
 
 // A ring number's text.
@@ -100,5 +100,5 @@ pub fn spell_rnum(out: &mut [u8], n: u32) -> Spelt
         return Spelt::BadTable;
     }
     let need = spell::spell_rnum(out, n);
-    settle(out, need)
+    answer_length(out, need)
 }

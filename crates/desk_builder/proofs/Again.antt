@@ -19,7 +19,7 @@ use Rattle.feature.specs.declared.bond_kind.BondKind.{BondKind}
 use Rattle.feature.specs.declared.bond_kind.Reconciled.{Reconciled}
 use Rattle.feature.specs.declared.bond_kind.Reconciled.the-variants.{Both, Fails}
 use Rattle.feature.proofs.Cases.{by-test}
-use Rattle.builder.specs.Rings.{numbers}
+use Rattle.builder.specs.Rings.{ringNumberCount}
 use Rattle.builder.specs.State.{Bld, refuse, entered, rootOf, bonded, extendedBy, extendOf, openedOf, openingKind, failedSt, closedBy, joinOf, popOf}
 use Rattle.builder.specs.declared.builder.Builder.{Builder}
 use Rattle.desk_state.specs.Standing.{also, isState}
@@ -50,7 +50,7 @@ extend-stands b e k is = judged-stands (inRange k) b (extendOf (anew b) e k (b .
 
 pub join-stands : (b : Bld) (e : BondKind) (n : ℕ) → isState b ≡ true → isState (joinD b e n) ≡ true
 unfolding joinD
-join-stands b e n is = judged-stands (ltb n numbers) b (joinOf (anew b) e n (b .st .atoms)) is (λ ok h. join-holds (anew b) h e n (b .st .atoms) (ltb-true n numbers ok))
+join-stands b e n is = judged-stands (ltb n ringNumberCount) b (joinOf (anew b) e n (b .st .atoms)) is (λ ok h. join-holds (anew b) h e n (b .st .atoms) (ltb-true n ringNumberCount ok))
 
 pub pop-stands : (b : Bld) (n : ℕ) → isState b ≡ true → isState (popD b n) ≡ true
 unfolding popD
@@ -123,7 +123,7 @@ pub call-other : (b : Bld) (c : Call) → isState b ≡ true → fits c ≡ true
 unfolding callD fits rootD extendD joinD popD
 call-other b (Root k) is fit = judged-other (inRange k) b (rootOf (anew b) k (b .st .atoms)) fit is (root-other (anew b) (anew-none b) k (b .st .atoms))
 call-other b (Extend e k) is fit = judged-other (inRange k) b (extendOf (anew b) e k (b .st .atoms)) fit is (extend-other (anew b) (anew-none b) e k (b .st .atoms))
-call-other b (Join e n) is fit = judged-other (ltb n numbers) b (joinOf (anew b) e n (b .st .atoms)) fit is (join-other (anew b) (anew-none b) e n (b .st .atoms))
+call-other b (Join e n) is fit = judged-other (ltb n ringNumberCount) b (joinOf (anew b) e n (b .st .atoms)) fit is (join-other (anew b) (anew-none b) e n (b .st .atoms))
 call-other b (Pop n) is fit = judged-other true b (popOf (anew b) n) fit is (pop-other (anew b) (anew-none b) n)
 
 -- so from a state on, after any calls, one that fits is not answered 17
@@ -151,7 +151,7 @@ bad-call : (b : Bld) (c : Call) → isState b ≡ false → callD b c .st .refus
 unfolding callD rootD extendD joinD popD
 bad-call b (Root k) none = judged-bad (inRange k) b (rootOf (anew b) k (b .st .atoms)) none
 bad-call b (Extend e k) none = judged-bad (inRange k) b (extendOf (anew b) e k (b .st .atoms)) none
-bad-call b (Join e n) none = judged-bad (ltb n numbers) b (joinOf (anew b) e n (b .st .atoms)) none
+bad-call b (Join e n) none = judged-bad (ltb n ringNumberCount) b (joinOf (anew b) e n (b .st .atoms)) none
 bad-call b (Pop n) none = judged-bad true b (popOf (anew b) n) none
 
 pub called-again : (b : Bld) (c : Call) → callD b c .st .refusal ≡ 0 → isState (callD b c) ≡ true

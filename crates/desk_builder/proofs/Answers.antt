@@ -12,7 +12,7 @@ use Rattle.desk_numbers.specs.Numbers as desk
 use Rattle.desk_numbers.proofs.One.{one-result, one-equal}
 use Rattle.builder.specs.State.{Bld}
 use Rattle.desk_builder.specs.Events.{rootD, extendD, joinD, popD}
-use Rattle.desk_builder.specs.Build.{Left, leftBy, buildD}
+use Rattle.desk_builder.specs.Build.{BuildLeft, answerLeaves, buildD}
 use Rattle.desk_builder.specs.declared.calls.Answer.{Answer}
 use Rattle.desk_builder.specs.declared.calls.Answer.the-variants.{Done, Join, Rnum, BadTable}
 
@@ -38,22 +38,22 @@ pub record Result : Type 0 where
 abbrev result : Answer → List ℕ → List ℕ → Result
 result r a b = record { answer = r; atoms = a; bonds = b }
 
-abbrev said : Result → Left
-said x = leftBy (x .answer) (x .atoms) (x .bonds)
+abbrev said : Result → BuildLeft
+said x = answerLeaves (x .answer) (x .atoms) (x .bonds)
 
 -- the answer with a number and what it carries
-abbrev answerTo : Left → Answer
+abbrev answerTo : BuildLeft → Answer
 answerTo l =
     pick (eqb (l .number) desk.done) (Done (getD (l .carries) 0 0) (getD (l .carries) 1 0))
     (pick (eqb (l .number) desk.join) (Join (getD (l .carries) 0 0) (getD (l .carries) 1 0))
     (pick (eqb (l .number) desk.rnum) (Rnum (getD (l .carries) 0 0))
     BadTable))
 
-abbrev meant : Left → Result
+abbrev meant : BuildLeft → Result
 meant l = result (answerTo l) (l .atoms) (l .bonds)
 
-back : (r : Answer) (a b : List ℕ) → meant (leftBy r a b) ≡ result r a b
-unfolding leftBy
+back : (r : Answer) (a b : List ℕ) → meant (answerLeaves r a b) ≡ result r a b
+unfolding answerLeaves
 back (Done n m) a b = refl
 back (Join x y) a b = refl
 back (Rnum j) a b = refl

@@ -13,12 +13,12 @@ use Rattle.feature.specs.declared.bond_kind.BondKind.the-variants.{Elided, Doub
 use Rattle.packing.specs.Words.{pairOf, wordsOf, listOf, plainOf, bracketOf, loadOf, loadAt}
 use Rattle.builder.specs.Limits.{lesserOf}
 use Rattle.builder.specs.State.{Bld, bld, state, failedSt, refuse, lastOf, entered, rootOf, bonded, extendedBy, extendOf, openedOf, openedAt, openingOf, openingKind, closedBy, joinOf, popOf}
-use Rattle.builder.specs.Build.{blanked, counted, sumOf, startsOf, placed, moved, firstOpen, gathered, atomsOf, entriesOf, bondsOf, closedOf, buildOf}
+use Rattle.builder.specs.Build.{blanked, degreesCounted, sumOf, entryStarts, entriesPlaced, cursorsMoved, firstOpen, gathered, atomsOf, entryCount, bondsOf, closedOf, buildOf}
 use Rattle.feature.specs.Every.{every}
 use Rattle.packing.specs.Words.{isHeld, isAtom}
 use Rattle.desk_builder.specs.Events.{anew, judged, roomsOf, freshOf, startD, rootD, extendD, joinD, popD}
-use Rattle.desk_state.specs.Standing.{isKind, isTarget, isEntry, isBond, bondsFrom, turnedOf, isOwn, isMatched, isPaired, leastOpen, isLater, isStep, isApart, isRing, openRings, joinsStand, countsStand, failureStands, isState}
-use Rattle.desk_builder.specs.Build.{left, leftBy, calledOf, leftOf, trimmed, roomy, buildD}
+use Rattle.desk_state.specs.Standing.{isKind, isTarget, isBuilderEntry, isEntryTo, bondsCounted, turnedOf, isOwn, isMatched, isPaired, leastOpen, isLater, isStep, isApart, isRing, openRings, joinsStand, countsStand, failureStands, isState}
+use Rattle.desk_builder.specs.Build.{buildLeaves, answerLeaves, builtAnswered, leftOf, trimmed, roomy, buildD}
 
 -- ---- small graphs
 -- room for three atoms and eight entries
@@ -60,13 +60,13 @@ less =
 -- what their builds answer and leave, whatever the bond table held: it has room for seven entries, as many as the third holds,
 -- though each of them may come to hold eight
 pub built : map (λ (b : Bld). buildD b (replicate 14 7)) (ring Elided Elided ∷ ring Double Triple ∷ still-open ∷ one-sided ∷ half ∷ [])
-    ≡ left 0 (3 ∷ 6 ∷ []) (1 ∷ 0 ∷ 2 ∷ 1 ∷ 0 ∷ 2 ∷ 1 ∷ 0 ∷ 2 ∷ []) (1 ∷ 2 ∷ 1 ∷ 1 ∷ 1 ∷ 0 ∷ 1 ∷ 2 ∷ 1 ∷ 1 ∷ 1 ∷ 0 ∷ 0 ∷ 0 ∷ [])
-    ∷ left 3 (2 ∷ 0 ∷ []) (replicate 9 0) (replicate 14 0)
-    ∷ left 4 (1 ∷ []) (replicate 9 0) (replicate 14 0)
-    ∷ left 17 (0 ∷ []) (replicate 9 0) (replicate 14 0)
-    ∷ left 17 (0 ∷ []) (replicate 9 0) (replicate 14 0)
+    ≡ buildLeaves 0 (3 ∷ 6 ∷ []) (1 ∷ 0 ∷ 2 ∷ 1 ∷ 0 ∷ 2 ∷ 1 ∷ 0 ∷ 2 ∷ []) (1 ∷ 2 ∷ 1 ∷ 1 ∷ 1 ∷ 0 ∷ 1 ∷ 2 ∷ 1 ∷ 1 ∷ 1 ∷ 0 ∷ 0 ∷ 0 ∷ [])
+    ∷ buildLeaves 3 (2 ∷ 0 ∷ []) (replicate 9 0) (replicate 14 0)
+    ∷ buildLeaves 4 (1 ∷ []) (replicate 9 0) (replicate 14 0)
+    ∷ buildLeaves 17 (0 ∷ []) (replicate 9 0) (replicate 14 0)
+    ∷ buildLeaves 17 (0 ∷ []) (replicate 9 0) (replicate 14 0)
     ∷ []
-unfolding every isHeld isKind isAtom isTarget isEntry isBond bondsFrom turnedOf isOwn isMatched isPaired leastOpen isLater isStep isApart isRing openRings joinsStand countsStand failureStands isState anew judged roomsOf freshOf startD rootD extendD joinD popD leftBy calledOf leftOf trimmed roomy buildD blanked counted sumOf startsOf placed moved firstOpen gathered atomsOf entriesOf bondsOf closedOf buildOf lesserOf failedSt refuse lastOf entered rootOf bonded extendedBy extendOf openedOf openedAt openingOf sureKind openingKind closedBy joinOf popOf inRange invertOf codeOf kindOf reverseOf isDirectional reconcileOf pairOf wordsOf listOf plainOf bracketOf loadOf loadAt
+unfolding every isHeld isKind isAtom isTarget isBuilderEntry isEntryTo bondsCounted turnedOf isOwn isMatched isPaired leastOpen isLater isStep isApart isRing openRings joinsStand countsStand failureStands isState anew judged roomsOf freshOf startD rootD extendD joinD popD answerLeaves builtAnswered leftOf trimmed roomy buildD blanked degreesCounted sumOf entryStarts entriesPlaced cursorsMoved firstOpen gathered atomsOf entryCount bondsOf closedOf buildOf lesserOf failedSt refuse lastOf entered rootOf bonded extendedBy extendOf openedOf openedAt openingOf sureKind openingKind closedBy joinOf popOf inRange invertOf codeOf kindOf reverseOf isDirectional reconcileOf pairOf wordsOf listOf plainOf bracketOf loadOf loadAt
 built = refl
 
 -- an event's refusal and what it carries
@@ -78,5 +78,5 @@ said b = b .st .refusal ∷ b .st .carried ∷ []
 -- rooms that are others; a pop beyond the path
 pub refused : map said (startD (replicate 9 0) (replicate 24 0) (replicate 2 0) (replicate 100 0) ∷ startD (replicate 9 0) (replicate 24 0) (replicate 3 0) (replicate 99 0) ∷ extendD start Elided Star ∷ rootD (chain (rootD start Star)) Star ∷ joinD (rootD start Star) Elided 100 ∷ rootD one-sided Star ∷ rootD half Star ∷ joinD shared Elided 0 ∷ rootD less Star ∷ popD (rootD start Star) 5 ∷ [])
     ≡ (17 ∷ 0 ∷ []) ∷ (17 ∷ 0 ∷ []) ∷ (18 ∷ 0 ∷ []) ∷ (13 ∷ 3 ∷ []) ∷ (17 ∷ 0 ∷ []) ∷ (17 ∷ 0 ∷ []) ∷ (17 ∷ 0 ∷ []) ∷ (17 ∷ 0 ∷ []) ∷ (17 ∷ 0 ∷ []) ∷ (0 ∷ 0 ∷ []) ∷ []
-unfolding every isHeld isKind isAtom isTarget isEntry isBond bondsFrom turnedOf isOwn isMatched isPaired leastOpen isLater isStep isApart isRing openRings joinsStand countsStand failureStands isState anew judged roomsOf freshOf startD rootD extendD joinD popD leftBy calledOf leftOf trimmed roomy buildD blanked counted sumOf startsOf placed moved firstOpen gathered atomsOf entriesOf bondsOf closedOf buildOf lesserOf failedSt refuse lastOf entered rootOf bonded extendedBy extendOf openedOf openedAt openingOf sureKind openingKind closedBy joinOf popOf inRange invertOf codeOf kindOf reverseOf isDirectional reconcileOf pairOf wordsOf listOf plainOf bracketOf loadOf loadAt
+unfolding every isHeld isKind isAtom isTarget isBuilderEntry isEntryTo bondsCounted turnedOf isOwn isMatched isPaired leastOpen isLater isStep isApart isRing openRings joinsStand countsStand failureStands isState anew judged roomsOf freshOf startD rootD extendD joinD popD answerLeaves builtAnswered leftOf trimmed roomy buildD blanked degreesCounted sumOf entryStarts entriesPlaced cursorsMoved firstOpen gathered atomsOf entryCount bondsOf closedOf buildOf lesserOf failedSt refuse lastOf entered rootOf bonded extendedBy extendOf openedOf openedAt openingOf sureKind openingKind closedBy joinOf popOf inRange invertOf codeOf kindOf reverseOf isDirectional reconcileOf pairOf wordsOf listOf plainOf bracketOf loadOf loadAt
 refused = refl

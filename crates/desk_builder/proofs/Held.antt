@@ -17,12 +17,12 @@ use Rattle.feature.specs.Bonds.{codeOf, reverseOf}
 use Rattle.packing.specs.Words.{atomWords, bondWords}
 use Rattle.builder.specs.Limits.{atomLimit}
 use Rattle.builder.specs.State.{Bld, entryWords, unclosed}
-use Rattle.builder.specs.Build.{of, upto, Sources, Outcome, Tables, tables, zeros, firstOpen, toldOf, Ready, buildOf}
+use Rattle.builder.specs.Build.{of, upto, Sources, BuildOutcome, Tables, tables, zeroed, firstOpen, entriesTold, BuildReady, buildOf}
 use Rattle.builder.proofs.Laws.{built-failed, built-done, built-open}
 use Rattle.feature.specs.Every.{every}
 use Rattle.packing.specs.Words.{isAtom}
-use Rattle.desk_state.specs.Standing.{also, sourceAt, kindAt, targetAt, isEntry, isBond, bondsFrom, isPaired, countsStand, isState}
-use Rattle.desk_builder.specs.Build.{Left, leftBy, calledOf, leftOf, trimmed, roomy, buildD, heldOf, BothEnds, graphOf}
+use Rattle.desk_state.specs.Standing.{also, sourceAt, entryKindAt, targetAt, isBuilderEntry, isEntryTo, bondsCounted, isPaired, countsStand, isState}
+use Rattle.desk_builder.specs.Build.{BuildLeft, answerLeaves, builtAnswered, leftOf, trimmed, roomy, buildD, heldOf, EntriesBothEnds, stateGraph}
 use Rattle.desk_state.proofs.Counts.{Counts, first, second, counts}
 use Rattle.feature.proofs.Every.{every-at}
 use Rattle.desk_state.proofs.Ends.{both-ends, even-ends}
@@ -36,26 +36,26 @@ module _ (s k t : ℕ) (es : List ℕ) (i : ℕ) where
   next-source : sourceAt (s ∷ k ∷ t ∷ es) (suc i) ≡ sourceAt es i
   next-source = ap (λ (n : ℕ). getD (s ∷ k ∷ t ∷ es) n 0) (three i)
 
-  next-kind : kindAt (s ∷ k ∷ t ∷ es) (suc i) ≡ kindAt es i
+  next-kind : entryKindAt (s ∷ k ∷ t ∷ es) (suc i) ≡ entryKindAt es i
   next-kind = ap (λ (n : ℕ). getD (s ∷ k ∷ t ∷ es) n 0) {x = suc i * entryWords + 1} {y = suc (suc (suc (i * entryWords + 1)))} (omega arith)
 
   next-target : targetAt (s ∷ k ∷ t ∷ es) (suc i) ≡ targetAt es i
   next-target = ap (λ (n : ℕ). getD (s ∷ k ∷ t ∷ es) n 0) {x = suc i * entryWords + 2} {y = suc (suc (suc (i * entryWords + 2)))} (omega arith)
 
-  next-bond : (a x y : ℕ) → isBond (s ∷ k ∷ t ∷ es) a x y (suc i) ≡ isBond es a x y i
-  unfolding isBond
+  next-bond : (a x y : ℕ) → isEntryTo (s ∷ k ∷ t ∷ es) a x y (suc i) ≡ isEntryTo es a x y i
+  unfolding isEntryTo
   next-bond a x y =
-      ap (λ (n : ℕ). also (eqb n a) (also (eqb (kindAt (s ∷ k ∷ t ∷ es) (suc i)) x) (eqb (targetAt (s ∷ k ∷ t ∷ es) (suc i)) y))) next-source
+      ap (λ (n : ℕ). also (eqb n a) (also (eqb (entryKindAt (s ∷ k ∷ t ∷ es) (suc i)) x) (eqb (targetAt (s ∷ k ∷ t ∷ es) (suc i)) y))) next-source
       ∙ ap (λ (n : ℕ). also (eqb (sourceAt es i) a) (also (eqb n x) (eqb (targetAt (s ∷ k ∷ t ∷ es) (suc i)) y))) next-kind
-      ∙ ap (λ (n : ℕ). also (eqb (sourceAt es i) a) (also (eqb (kindAt es i) x) (eqb n y))) next-target
+      ∙ ap (λ (n : ℕ). also (eqb (sourceAt es i) a) (also (eqb (entryKindAt es i) x) (eqb n y))) next-target
 
 -- the first entry counted, then those after it
-counted-first : (a x y s k t : ℕ) (es : List ℕ) (m : ℕ) → bondsFrom (s ∷ k ∷ t ∷ es) a x y (suc m) ≡ pick (also (eqb s a) (also (eqb k x) (eqb t y))) 1 0 + bondsFrom es a x y m
-unfolding bondsFrom isBond
+counted-first : (a x y s k t : ℕ) (es : List ℕ) (m : ℕ) → bondsCounted (s ∷ k ∷ t ∷ es) a x y (suc m) ≡ pick (also (eqb s a) (also (eqb k x) (eqb t y))) 1 0 + bondsCounted es a x y m
+unfolding bondsCounted isEntryTo
 counted-first a x y s k t es zero = omega arith
 counted-first a x y s k t es (suc m) =
     let ih = counted-first a x y s k t es m in
-    let one : pick {A = ℕ} (isBond (s ∷ k ∷ t ∷ es) a x y (suc m)) 1 0 ≡ pick (isBond es a x y m) 1 0 = ap (λ (q : Bool). pick q 1 0) (next-bond s k t es m a x y) in
+    let one : pick {A = ℕ} (isEntryTo (s ∷ k ∷ t ∷ es) a x y (suc m)) 1 0 ≡ pick (isEntryTo es a x y m) 1 0 = ap (λ (q : Bool). pick q 1 0) (next-bond s k t es m a x y) in
     omega (arith, ih, one)
 
 -- ---- an atom's bonds
@@ -67,8 +67,8 @@ held-first a x y s k t es = split (eqb s a) where
   split false = omega arith
 
 -- as many as are counted among the entries
-pub held-is : (a x y m : ℕ) (es : List ℕ) → m * entryWords ≤ length es → heldOf x y (of a (take (m * entryWords) es)) ≡ bondsFrom es a x y m
-unfolding of heldOf bondsFrom
+pub held-is : (a x y m : ℕ) (es : List ℕ) → m * entryWords ≤ length es → heldOf x y (of a (take (m * entryWords) es)) ≡ bondsCounted es a x y m
+unfolding of heldOf bondsCounted
 held-is a x y zero es h = refl
 held-is a x y (suc m) [] h = absurd (omega arith)
 held-is a x y (suc m) (s ∷ []) h = absurd (omega arith)
@@ -93,13 +93,13 @@ sources-of n (suc m) (s ∷ k ∷ t ∷ es) h all =
 trimmed-length : (n : ℕ) (t : List ℕ) → n ≤ length t → length (trimmed n t) ≡ length t
 unfolding trimmed
 trimmed-length n t h =
-    length-append (take n t) (zeros (drop n t))
+    length-append (take n t) (zeroed (drop n t))
     ∙ omega (arith, length-take-le n t h, length-replicate {A = ℕ} (length (drop n t)) 0, length-drop n t)
 
 -- what a state's entries keep to
 record Facts (b : Bld) : Type 0 where
   counts : Counts (b .st) (length (b .atoms)) (length (b .entries))
-  entries : every (isEntry (b .st) (b .entries)) (b .st .entries) ≡ true
+  entries : every (isBuilderEntry (b .st) (b .entries)) (b .st .entries) ≡ true
   pairs : every (isPaired (b .entries) (b .st .entries)) (b .st .entries) ≡ true
 
 facts : (b : Bld) → isState b ≡ true → Facts b
@@ -108,21 +108,21 @@ facts b h =
     let told = countsStand (b .st) (length (b .atoms)) (length (b .entries)) (length (b .path)) (length (b .rings)) in
     let h1 = second told _ h in
     let h2 = second (every (isAtom (b .atoms)) (b .st .atoms)) _ h1 in
-    let h3 = second (every (isEntry (b .st) (b .entries)) (b .st .entries)) _ h2 in
+    let h3 = second (every (isBuilderEntry (b .st) (b .entries)) (b .st .entries)) _ h2 in
     record {
       counts = counts (b .st) (length (b .atoms)) (length (b .entries)) (length (b .path)) (length (b .rings)) (first told _ h);
-      entries = first (every (isEntry (b .st) (b .entries)) (b .st .entries)) _ h2;
+      entries = first (every (isBuilderEntry (b .st) (b .entries)) (b .st .entries)) _ h2;
       pairs = first (every (isPaired (b .entries) (b .st .entries)) (b .st .entries)) _ h3;
     }
 
 source-at : (b : Bld) → Facts b → (i : ℕ) → i < b .st .entries → sourceAt (b .entries) i < b .st .atoms
-unfolding isEntry
+unfolding isBuilderEntry
 source-at b f i l =
     ltb-true (sourceAt (b .entries) i) (b .st .atoms)
-    (first (ltb (sourceAt (b .entries) i) (b .st .atoms)) _ (every-at (isEntry (b .st) (b .entries)) (b .st .entries) i (f .entries) l))
+    (first (ltb (sourceAt (b .entries) i) (b .st .atoms)) _ (every-at (isBuilderEntry (b .st) (b .entries)) (b .st .entries) i (f .entries) l))
 
 -- the entries that a state tells of hold each bond at both ends
-told-ends : (b : Bld) → Facts b → BothEnds (toldOf (b .st) (b .entries))
+told-ends : (b : Bld) → Facts b → EntriesBothEnds (entriesTold (b .st) (b .entries))
 told-ends b f =
     let room : b .st .entries * entryWords ≤ length (b .entries) = omega (arith, f .counts .entries, f .counts .entry-room) in
     record {
@@ -139,7 +139,7 @@ abbrev startOf : Bld → List ℕ → Tables
 startOf b bonds = tables (trimmed (b .st .atoms * atomWords) (b .atoms)) bonds (replicate atomLimit 0)
 
 module _ (b : Bld) (bonds : List ℕ) where
-  ready : Facts b → b .st .entries * bondWords ≤ length bonds → Ready (startOf b bonds) (b .entries) (b .st)
+  ready : Facts b → b .st .entries * bondWords ≤ length bonds → BuildReady (startOf b bonds) (b .entries) (b .st)
   ready f room =
       let c = f .counts in
       let within : b .st .atoms * atomWords ≤ length (b .atoms) = omega (arith, c .atoms, c .atom-room) in
@@ -168,54 +168,54 @@ module _ (b : Bld) (bonds : List ℕ) where
       unfolding buildD
       goes = rw (holds, room) refl
 
-      is-ready : Ready (startOf b bonds) (b .entries) (b .st)
+      is-ready : BuildReady (startOf b bonds) (b .entries) (b .st)
       unfolding roomy
       is-ready = ready (facts b holds) (leb-true (b .st .entries * bondWords) (length bonds) room)
 
       failing : b .st .failed ≡ true → buildD b bonds .number ≡ 3
-      unfolding leftOf calledOf leftBy
+      unfolding leftOf builtAnswered answerLeaves
       failing e =
-          ap (λ (x : Left). x .number) goes
-          ∙ ap (λ (o : Outcome). leftOf o (b .st) .number) (built-failed (startOf b bonds) (b .entries) (b .st) e)
+          ap (λ (x : BuildLeft). x .number) goes
+          ∙ ap (λ (o : BuildOutcome). leftOf o (b .st) .number) (built-failed (startOf b bonds) (b .entries) (b .st) e)
 
       module _ (joined : b .st .failed ≡ false) where
-        opening : unclosed ≤ firstOpen (upto (b .st .atoms) (toldOf (b .st) (b .entries))) → buildD b bonds .number ≡ 4
-        unfolding leftOf calledOf leftBy
+        opening : unclosed ≤ firstOpen (upto (b .st .atoms) (entriesTold (b .st) (b .entries))) → buildD b bonds .number ≡ 4
+        unfolding leftOf builtAnswered answerLeaves
         opening h =
-            ap (λ (x : Left). x .number) goes
-            ∙ ap (λ (o : Outcome). leftOf o (b .st) .number) (built-open (startOf b bonds) (b .entries) (b .st) is-ready joined h)
+            ap (λ (x : BuildLeft). x .number) goes
+            ∙ ap (λ (o : BuildOutcome). leftOf o (b .st) .number) (built-open (startOf b bonds) (b .entries) (b .st) is-ready joined h)
 
-        closing : firstOpen (upto (b .st .atoms) (toldOf (b .st) (b .entries))) < unclosed → buildD b bonds ≡ graphOf b bonds
-        unfolding leftOf calledOf leftBy
+        closing : firstOpen (upto (b .st .atoms) (entriesTold (b .st) (b .entries))) < unclosed → buildD b bonds ≡ stateGraph b bonds
+        unfolding leftOf builtAnswered answerLeaves
         closing h =
-            goes ∙ ap (λ (o : Outcome). leftOf o (b .st)) (built-done (startOf b bonds) (b .entries) (b .st) is-ready joined h)
+            goes ∙ ap (λ (o : BuildOutcome). leftOf o (b .st)) (built-done (startOf b bonds) (b .entries) (b .st) is-ready joined h)
 
   -- from a state, into a table with room, it is not answered 17
   pub build-other : isState b ≡ true → roomy (b .st) bonds ≡ true → buildD b bonds .number ≢ badTable
   build-other holds room z = by-failure (b .st .failed) refl where
-    by-open : (joined : b .st .failed ≡ false) (q : Bool) → ltb (firstOpen (upto (b .st .atoms) (toldOf (b .st) (b .entries)))) unclosed ≡ q → ⊥
-    by-open joined true e = let is : buildD b bonds .number ≡ 0 = ap (λ (x : Left). x .number) (closing holds room joined (ltb-true _ _ e)) in omega (arith, z, is)
+    by-open : (joined : b .st .failed ≡ false) (q : Bool) → ltb (firstOpen (upto (b .st .atoms) (entriesTold (b .st) (b .entries)))) unclosed ≡ q → ⊥
+    by-open joined true e = let is : buildD b bonds .number ≡ 0 = ap (λ (x : BuildLeft). x .number) (closing holds room joined (ltb-true _ _ e)) in omega (arith, z, is)
     by-open joined false e = omega (arith, z, opening holds room joined (ltb-false _ _ e))
 
     by-failure : (q : Bool) → b .st .failed ≡ q → ⊥
     by-failure true e = omega (arith, z, failing holds room e)
-    by-failure false e = by-open e (ltb (firstOpen (upto (b .st .atoms) (toldOf (b .st) (b .entries)))) unclosed) refl
+    by-failure false e = by-open e (ltb (firstOpen (upto (b .st .atoms) (entriesTold (b .st) (b .entries)))) unclosed) refl
 
   -- a build that is answered 0 leaves the graph of its state, and each bond is held at both ends as reverses
-  pub done-holds : buildD b bonds .number ≡ 0 → (buildD b bonds ≡ graphOf b bonds) × BothEnds (toldOf (b .st) (b .entries))
+  pub done-holds : buildD b bonds .number ≡ 0 → (buildD b bonds ≡ stateGraph b bonds) × EntriesBothEnds (entriesTold (b .st) (b .entries))
   done-holds z = by-state (isState b) refl where
-    by-open : (holds : isState b ≡ true) (room : roomy (b .st) bonds ≡ true) (joined : b .st .failed ≡ false) (q : Bool) → ltb (firstOpen (upto (b .st .atoms) (toldOf (b .st) (b .entries)))) unclosed ≡ q → (buildD b bonds ≡ graphOf b bonds) × BothEnds (toldOf (b .st) (b .entries))
+    by-open : (holds : isState b ≡ true) (room : roomy (b .st) bonds ≡ true) (joined : b .st .failed ≡ false) (q : Bool) → ltb (firstOpen (upto (b .st .atoms) (entriesTold (b .st) (b .entries)))) unclosed ≡ q → (buildD b bonds ≡ stateGraph b bonds) × EntriesBothEnds (entriesTold (b .st) (b .entries))
     by-open holds room joined true e = (closing holds room joined (ltb-true _ _ e), told-ends b (facts b holds))
     by-open holds room joined false e = absurd (omega (arith, z, opening holds room joined (ltb-false _ _ e)))
 
-    by-failure : (holds : isState b ≡ true) (room : roomy (b .st) bonds ≡ true) (q : Bool) → b .st .failed ≡ q → (buildD b bonds ≡ graphOf b bonds) × BothEnds (toldOf (b .st) (b .entries))
+    by-failure : (holds : isState b ≡ true) (room : roomy (b .st) bonds ≡ true) (q : Bool) → b .st .failed ≡ q → (buildD b bonds ≡ stateGraph b bonds) × EntriesBothEnds (entriesTold (b .st) (b .entries))
     by-failure holds room true e = absurd (omega (arith, z, failing holds room e))
-    by-failure holds room false e = by-open holds room e (ltb (firstOpen (upto (b .st .atoms) (toldOf (b .st) (b .entries)))) unclosed) refl
+    by-failure holds room false e = by-open holds room e (ltb (firstOpen (upto (b .st .atoms) (entriesTold (b .st) (b .entries)))) unclosed) refl
 
-    by-room : (holds : isState b ≡ true) (q : Bool) → roomy (b .st) bonds ≡ q → (buildD b bonds ≡ graphOf b bonds) × BothEnds (toldOf (b .st) (b .entries))
+    by-room : (holds : isState b ≡ true) (q : Bool) → roomy (b .st) bonds ≡ q → (buildD b bonds ≡ stateGraph b bonds) × EntriesBothEnds (entriesTold (b .st) (b .entries))
     by-room holds true e = by-failure holds e (b .st .failed) refl
     by-room holds false e = absurd (omega (arith, z, no-room holds e))
 
-    by-state : (q : Bool) → isState b ≡ q → (buildD b bonds ≡ graphOf b bonds) × BothEnds (toldOf (b .st) (b .entries))
+    by-state : (q : Bool) → isState b ≡ q → (buildD b bonds ≡ stateGraph b bonds) × EntriesBothEnds (entriesTold (b .st) (b .entries))
     by-state true e = by-room e (roomy (b .st) bonds) refl
     by-state false e = absurd (omega (arith, z, no-state e))

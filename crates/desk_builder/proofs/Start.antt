@@ -10,11 +10,11 @@ use Rattle.feature.specs.Pick.{pick}
 use Rattle.feature.specs.Every.{every}
 use Rattle.feature.proofs.Every.{every-all}
 use Rattle.desk_numbers.specs.Numbers.{badTable}
-use Rattle.builder.specs.Rings.{numbers}
-use Rattle.builder.specs.State.{bld, startOf, refusedSt}
+use Rattle.builder.specs.Rings.{ringNumberCount}
+use Rattle.builder.specs.State.{bld, freshBuilder, refusedSt}
 use Rattle.builder.specs.declared.builder.Builder.{Builder}
-use Rattle.builder.specs.Build.{zeros}
-use Rattle.desk_state.specs.Standing.{placesIn, slotsIn, isRing, openRings, joinsStand, countsStand, failureStands, isState}
+use Rattle.builder.specs.Build.{zeroed}
+use Rattle.desk_state.specs.Standing.{placesIn, entrySlotsIn, isRing, openRings, joinsStand, countsStand, failureStands, isState}
 use Rattle.desk_builder.specs.Events.{roomsOf, freshOf, startD}
 
 -- ---- no event yet
@@ -27,37 +27,37 @@ zero-at zero i = refl
 zero-at (suc n) zero = refl
 zero-at (suc n) (suc i) = zero-at n i
 
-free-ring : (s : Builder) (e r : List ℕ) (i : ℕ) → isRing s e (zeros r) i ≡ true
+free-ring : (s : Builder) (e r : List ℕ) (i : ℕ) → isRing s e (zeroed r) i ≡ true
 unfolding isRing
 free-ring s e r i = rw (zero-at (length r) i) refl
 
-no-rings : (r : List ℕ) (n : ℕ) → openRings (zeros r) n ≡ 0
+no-rings : (r : List ℕ) (n : ℕ) → openRings (zeroed r) n ≡ 0
 unfolding openRings
 no-rings r zero = refl
 no-rings r (suc n) = rw (zero-at (length r) n, no-rings r n) refl
 
 module _ (a e p r : List ℕ) where
   -- a path with a word for each atom, and a hundred words for the ring numbers, hold a state
-  pub fresh-stands : placesIn (length a) ≤ length p → numbers ≤ length r → isState (freshOf a e p r) ≡ true
+  pub fresh-stands : placesIn (length a) ≤ length p → ringNumberCount ≤ length r → isState (freshOf a e p r) ≡ true
   unfolding isState freshOf roomsOf countsStand joinsStand failureStands
   fresh-stands hp hr =
       simp
-      (eq-eqb (placesIn (length a)) (placesIn (length a)) refl, eq-eqb (slotsIn (length e)) (slotsIn (length e)) refl, le-leb (placesIn (length a)) (length p) hp, le-leb numbers (length (zeros r)) (omega (arith, hr, length-replicate {A = ℕ} (length r) 0)), le-leb 0 (placesIn (length a)) (omega arith), le-leb 0 (slotsIn (length e)) (omega arith), none-below, no-rings r numbers, every-all (isRing (startOf (placesIn (length a)) (slotsIn (length e))) e (zeros r)) numbers (λ i l. free-ring (startOf (placesIn (length a)) (slotsIn (length e))) e r i))
+      (eq-eqb (placesIn (length a)) (placesIn (length a)) refl, eq-eqb (entrySlotsIn (length e)) (entrySlotsIn (length e)) refl, le-leb (placesIn (length a)) (length p) hp, le-leb ringNumberCount (length (zeroed r)) (omega (arith, hr, length-replicate {A = ℕ} (length r) 0)), le-leb 0 (placesIn (length a)) (omega arith), le-leb 0 (entrySlotsIn (length e)) (omega arith), none-below, no-rings r ringNumberCount, every-all (isRing (freshBuilder (placesIn (length a)) (entrySlotsIn (length e))) e (zeroed r)) ringNumberCount (λ i l. free-ring (freshBuilder (placesIn (length a)) (entrySlotsIn (length e))) e r i))
 
   -- a shorter one holds none
   pub short-path : length p < placesIn (length a) → isState (freshOf a e p r) ≡ false
   unfolding isState freshOf roomsOf countsStand
   short-path h =
-      simp (eq-eqb (placesIn (length a)) (placesIn (length a)) refl, eq-eqb (slotsIn (length e)) (slotsIn (length e)) refl, lt-leb (placesIn (length a)) (length p) h)
+      simp (eq-eqb (placesIn (length a)) (placesIn (length a)) refl, eq-eqb (entrySlotsIn (length e)) (entrySlotsIn (length e)) refl, lt-leb (placesIn (length a)) (length p) h)
 
-  pub few-rings : placesIn (length a) ≤ length p → length r < numbers → isState (freshOf a e p r) ≡ false
+  pub few-rings : placesIn (length a) ≤ length p → length r < ringNumberCount → isState (freshOf a e p r) ≡ false
   unfolding isState freshOf roomsOf countsStand
   few-rings hp h =
       simp
-      (eq-eqb (placesIn (length a)) (placesIn (length a)) refl, eq-eqb (slotsIn (length e)) (slotsIn (length e)) refl, le-leb (placesIn (length a)) (length p) hp, lt-leb numbers (length (zeros r)) (omega (arith, h, length-replicate {A = ℕ} (length r) 0)))
+      (eq-eqb (placesIn (length a)) (placesIn (length a)) refl, eq-eqb (entrySlotsIn (length e)) (entrySlotsIn (length e)) refl, le-leb (placesIn (length a)) (length p) hp, lt-leb ringNumberCount (length (zeroed r)) (omega (arith, h, length-replicate {A = ℕ} (length r) 0)))
 
   -- ---- the ways out of a start
-  module _ {n m : ℕ} {b : Builder} (places : n ≡ placesIn (length a)) (slots : m ≡ slotsIn (length e)) (new : b ≡ startOf n m) where
+  module _ {n m : ℕ} {b : Builder} (places : n ≡ placesIn (length a)) (slots : m ≡ entrySlotsIn (length e)) (new : b ≡ freshBuilder n m) where
     rooms-are : b ≡ roomsOf a e
     unfolding roomsOf
     rooms-are = rw (new, places, slots) refl
@@ -69,10 +69,10 @@ module _ (a e p r : List ℕ) where
     pub start-short : {s : Builder} → length p < n → s ≡ refusedSt b badTable 0 → bld a e p r s ≡ startD a e p r
     start-short {s} h is = start-bad s (short-path (omega (arith, places, h))) is
 
-    pub start-few : {s : Builder} → n ≤ length p → length r < numbers → s ≡ refusedSt b badTable 0 → bld a e p r s ≡ startD a e p r
+    pub start-few : {s : Builder} → n ≤ length p → length r < ringNumberCount → s ≡ refusedSt b badTable 0 → bld a e p r s ≡ startD a e p r
     start-few {s} hp h is = start-bad s (few-rings (omega (arith, places, hp)) h) is
 
-    pub start-goes : {x : List ℕ} → n ≤ length p → numbers ≤ length r → x ≡ zeros r → bld a e p x b ≡ startD a e p r
+    pub start-goes : {x : List ℕ} → n ≤ length p → ringNumberCount ≤ length r → x ≡ zeroed r → bld a e p x b ≡ startD a e p r
     unfolding startD freshOf
     start-goes hp hr clears = rw (clears, rooms-are, fresh-stands (omega (arith, places, hp)) hr) refl
 

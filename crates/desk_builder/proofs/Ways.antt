@@ -4,7 +4,7 @@ use mathlib.Core.Path.{_≡_, ap, sym, _∙_}
 use mathlib.Core.Bool.{Bool, true, false, not}
 use lib.ListN.{length}
 use borrow.Author.Tests.{not-true, not-false}
-use Rattle.builder.specs.State.{Bld, bld, refusedSt, refuse, Small}
+use Rattle.builder.specs.State.{Bld, bld, refusedSt, refuse, SmallCounts}
 use Rattle.builder.specs.declared.builder.Builder.{Builder}
 use Rattle.desk_numbers.specs.Numbers.{badTable}
 use Rattle.desk_builder.specs.Events.{anew, judged}
@@ -37,7 +37,7 @@ state-counts b {q} e holds =
     (first (countsStand (b .st) (length (b .atoms)) (length (b .entries)) (length (b .path)) (length (b .rings))) _ (sym e ∙ not-false q holds))
 
 -- and so they are whatever the refusal
-pub small-refused : (b : Bld) {q : Bool} (s : Builder) (n c : ℕ) → q ≡ isState b → not q ≡ false → s ≡ refusedSt (b .st) n c → Small s
+pub small-refused : (b : Bld) {q : Bool} (s : Builder) (n c : ℕ) → q ≡ isState b → not q ≡ false → s ≡ refusedSt (b .st) n c → SmallCounts s
 small-refused b {q} s n c e on is = rw is (same (small b (holds b (sym e ∙ not-false q on)))) where
-  same : Small (b .st) → Small (refusedSt (b .st) n c)
+  same : SmallCounts (b .st) → SmallCounts (refusedSt (b .st) n c)
   same h = record { atoms = h .atoms; entries = h .entries; top = h .top; joins = h .joins }

@@ -11,20 +11,20 @@ use Rattle.feature.specs.Pick.{pick}
 use Rattle.feature.specs.Kinds.{inRange}
 use Rattle.feature.specs.declared.atom_kind.AtomKind.{AtomKind}
 use Rattle.feature.specs.declared.bond_kind.BondKind.{BondKind}
-use Rattle.builder.specs.Rings.{numbers}
-use Rattle.builder.specs.State.{Bld, bld, startOf, refuse, refusedSt, rootOf, extendOf, joinOf, popOf}
+use Rattle.builder.specs.Rings.{ringNumberCount}
+use Rattle.builder.specs.State.{Bld, bld, freshBuilder, refuse, refusedSt, rootOf, extendOf, joinOf, popOf}
 use Rattle.builder.specs.declared.builder.Builder.{Builder}
-use Rattle.builder.specs.Build.{zeros}
-use Rattle.desk_state.specs.Standing.{also, placesIn, slotsIn, isState}
+use Rattle.builder.specs.Build.{zeroed}
+use Rattle.desk_state.specs.Standing.{also, placesIn, entrySlotsIn, isState}
 
 -- ---- the start
 -- no event yet, and room for as many atoms and entries as the tables hold, the limits at most
 unfoldable pub roomsOf : List ℕ → List ℕ → Builder
-roomsOf a e = startOf (placesIn (length a)) (slotsIn (length e))
+roomsOf a e = freshBuilder (placesIn (length a)) (entrySlotsIn (length e))
 
 -- and every ring number free
 unfoldable pub freshOf : List ℕ → List ℕ → List ℕ → List ℕ → Bld
-freshOf a e p r = bld a e p (zeros r) (roomsOf a e)
+freshOf a e p r = bld a e p (zeroed r) (roomsOf a e)
 
 -- 17 with no table changed where that is no state
 unfoldable pub startD : List ℕ → List ℕ → List ℕ → List ℕ → Bld
@@ -48,7 +48,7 @@ unfoldable pub extendD : Bld → BondKind → AtomKind → Bld
 extendD b e k = judged (inRange k) b (extendOf (anew b) e k (b .st .atoms))
 
 unfoldable pub joinD : Bld → BondKind → ℕ → Bld
-joinD b e n = judged (ltb n numbers) b (joinOf (anew b) e n (b .st .atoms))
+joinD b e n = judged (ltb n ringNumberCount) b (joinOf (anew b) e n (b .st .atoms))
 
 unfoldable pub popD : Bld → ℕ → Bld
 popD b n = judged true b (popOf (anew b) n)

@@ -6,7 +6,7 @@ use lib.Dec.{ltb}
 use Rattle.feature.specs.Kinds.{inRange}
 use Rattle.feature.specs.declared.atom_kind.AtomKind.{AtomKind}
 use Rattle.feature.specs.declared.bond_kind.BondKind.{BondKind}
-use Rattle.builder.specs.Rings.{numbers}
+use Rattle.builder.specs.Rings.{ringNumberCount}
 use Rattle.builder.specs.State.{Bld}
 use Rattle.desk_builder.specs.Events.{rootD, extendD, joinD, popD}
 
@@ -26,7 +26,7 @@ callD b (Pop n) = popD b n
 unfoldable pub fits : Call → Bool
 fits (Root k) = inRange k
 fits (Extend e k) = inRange k
-fits (Join e n) = ltb n numbers
+fits (Join e n) = ltb n ringNumberCount
 fits (Pop n) = true
 
 unfoldable pub callsD : Bld → List Call → Bld

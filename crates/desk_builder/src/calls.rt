@@ -3,7 +3,7 @@
 ghost use mathlib.Core.Path.{_≡_};
 ghost use Rattle.builder.specs.State.{bld};
 ghost use Rattle.desk_builder.specs.Events.{startD, rootD, extendD, joinD, popD};
-ghost use Rattle.desk_builder.specs.Build.{leftBy, calledOf, buildD};
+ghost use Rattle.desk_builder.specs.Build.{answerLeaves, builtAnswered, buildD};
 use builder::build::Built;
 use builder::build::clear;
 use builder::builder::Builder;
@@ -141,7 +141,7 @@ pub fn pop(
 }
 
 fn called(r: Built, b: Builder) -> Answer
-    ensures { λ a. ⌜ a ≡ calledOf r (b .atoms) (b .entries) ⌝ }
+    ensures { λ a. ⌜ a ≡ builtAnswered r (b .atoms) (b .entries) ⌝ }
 {
     match r {
         Built::Done => Answer::Done(b.atoms, b.entries),
@@ -160,7 +160,7 @@ pub fn build(
     rings: &[u32],
     b: Builder,
 ) -> Answer
-    ensures { λ r. ⌜ leftBy r (now (atoms .exit)) (now (bonds .exit))
+    ensures { λ r. ⌜ answerLeaves r (now (atoms .exit)) (now (bonds .exit))
         ≡ buildD (bld (now (atoms .entry)) (now (entries .entry)) (now (path .entry)) (now (rings .entry)) b) (now (bonds .entry)) ⌝ }
 {
     if !is_state(atoms, entries, path, rings, b) {

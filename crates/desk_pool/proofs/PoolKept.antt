@@ -16,7 +16,7 @@ use Rattle.packing.proofs.Laws.{sets-beside, sets-in, sets-first}
 use Rattle.join_pool.specs.declared.Pool.{Pool}
 use Rattle.join_pool.specs.declared.Given.{Given}
 use Rattle.join_pool.specs.declared.Given.the-variants.{Number, Full}
-use Rattle.join_pool.specs.Pairs.{highest, slotWords, pool, emptyOf, opens, numberOf, slot, grown, counterOf, nextOf, Hits, hits, openOf, closeOf, calledOf, pairOf, hitOf}
+use Rattle.join_pool.specs.Pairs.{highest, slotWords, pool, emptyOf, opens, openNumber, slot, counterNext, counterOf, nextOf, Hits, hits, openOf, closeOf, openOrClose, hitPair, hitOf}
 use Rattle.desk_pool.specs.Slots.{top, isFree, isOpen, keptFree, isSlot, isFound, isPool}
 use Rattle.feature.specs.Every.{every}
 use Rattle.feature.proofs.Every.{every-at, every-all}
@@ -32,20 +32,20 @@ differ {n} {m} e h = go (ltb m n) refl where
   go false q = absurd (let l = ltb-false m n q in e (omega arith))
 
 -- the number that it finds is open for the pair
-found : (pairs : List ℕ) (lo hi n : ℕ) → (numberOf pairs lo hi n ≡ 0 → ⊥) → (numberOf pairs lo hi n ≤ n) × (opens pairs (numberOf pairs lo hi n) lo hi ≡ true)
-unfolding numberOf
+found : (pairs : List ℕ) (lo hi n : ℕ) → (openNumber pairs lo hi n ≡ 0 → ⊥) → (openNumber pairs lo hi n ≤ n) × (opens pairs (openNumber pairs lo hi n) lo hi ≡ true)
+unfolding openNumber
 found pairs lo hi zero h = absurd (h refl)
 found pairs lo hi (suc n) h = go (opens pairs (suc n) lo hi) refl h (found pairs lo hi n) where
-  go : (q : Bool) → opens pairs (suc n) lo hi ≡ q → (pick q (suc n) (numberOf pairs lo hi n) ≡ 0 → ⊥) → ((numberOf pairs lo hi n ≡ 0 → ⊥) → (numberOf pairs lo hi n ≤ n) × (opens pairs (numberOf pairs lo hi n) lo hi ≡ true)) → (pick (opens pairs (suc n) lo hi) (suc n) (numberOf pairs lo hi n) ≤ suc n) × (opens pairs (pick (opens pairs (suc n) lo hi) (suc n) (numberOf pairs lo hi n)) lo hi ≡ true)
+  go : (q : Bool) → opens pairs (suc n) lo hi ≡ q → (pick q (suc n) (openNumber pairs lo hi n) ≡ 0 → ⊥) → ((openNumber pairs lo hi n ≡ 0 → ⊥) → (openNumber pairs lo hi n ≤ n) × (opens pairs (openNumber pairs lo hi n) lo hi ≡ true)) → (pick (opens pairs (suc n) lo hi) (suc n) (openNumber pairs lo hi n) ≤ suc n) × (opens pairs (pick (opens pairs (suc n) lo hi) (suc n) (openNumber pairs lo hi n)) lo hi ≡ true)
   go true q k ih = rw q (omega arith, q)
   go false q k ih = let i = ih k in rw q (omega (arith, i .0), i .1)
 
 -- and it finds one where a number is open for the pair
-finds : (pairs : List ℕ) (lo hi c n : ℕ) → 0 < n → n ≤ c → opens pairs n lo hi ≡ true → numberOf pairs lo hi c ≡ 0 → ⊥
-unfolding numberOf
+finds : (pairs : List ℕ) (lo hi c n : ℕ) → 0 < n → n ≤ c → opens pairs n lo hi ≡ true → openNumber pairs lo hi c ≡ 0 → ⊥
+unfolding openNumber
 finds pairs lo hi zero n z l o e = omega arith
 finds pairs lo hi (suc c) n z l o e = go (opens pairs (suc c) lo hi) refl (finds pairs lo hi c n z) e where
-  go : (q : Bool) → opens pairs (suc c) lo hi ≡ q → (n ≤ c → opens pairs n lo hi ≡ true → numberOf pairs lo hi c ≡ 0 → ⊥) → pick q (suc c) (numberOf pairs lo hi c) ≡ 0 → ⊥
+  go : (q : Bool) → opens pairs (suc c) lo hi ≡ q → (n ≤ c → opens pairs n lo hi ≡ true → openNumber pairs lo hi c ≡ 0 → ⊥) → pick q (suc c) (openNumber pairs lo hi c) ≡ 0 → ⊥
   go true q ih k = omega arith
   go false q ih k =
       let less = differ {n = suc c} {m = n} (λ s. no (sym q ∙ ap (λ (i : ℕ). opens pairs i lo hi) s ∙ o)) l in
@@ -93,7 +93,7 @@ not-kept p n k = go (eqb n 0) (eqb n (p .spare)) (leb (p .counter) n) refl refl 
   go false false false e f k = (differ (eqb-false n 0 e) (omega arith), leb-false (p .counter) n f)
 
 -- the search for the pair of an open number finds it
-sought : (p : Pool) (pairs : List ℕ) (n lo hi : ℕ) → opens pairs n lo hi ≡ true → isFound p pairs n ≡ true → numberOf pairs lo hi (p .counter) ≡ n
+sought : (p : Pool) (pairs : List ℕ) (n lo hi : ℕ) → opens pairs n lo hi ≡ true → isFound p pairs n ≡ true → openNumber pairs lo hi (p .counter) ≡ n
 unfolding isFound
 sought p pairs n lo hi o h =
     let w = words-of pairs n lo hi o in
@@ -124,7 +124,7 @@ facts p pairs h1 =
 found-one : (p : Pool) (pairs : List ℕ) → Pooled p pairs → (n : ℕ) → n < top + 1 → isFound p pairs n ≡ true
 unfolding isFound
 found-one p pairs h n l = go (isFree pairs n) refl where
-  it : isFree pairs n ≡ false → numberOf pairs (getD pairs (n * slotWords + 1) 0) (getD pairs (n * slotWords + 2) 0) (p .counter) ≡ n
+  it : isFree pairs n ≡ false → openNumber pairs (getD pairs (n * slotWords + 1) 0) (getD pairs (n * slotWords + 2) 0) (p .counter) ≡ n
   it f =
       let k = held p pairs n f (h .each n l) in
       let o = open-pair pairs n (k .1) in
@@ -132,7 +132,7 @@ found-one p pairs h n l = go (isFree pairs n) refl where
       let s = found pairs (getD pairs (n * slotWords + 1) 0) (getD pairs (n * slotWords + 2) 0) (p .counter) (finds pairs (getD pairs (n * slotWords + 1) 0) (getD pairs (n * slotWords + 2) 0) (p .counter) n (b .0) (omega (arith, b .1)) o) in
       h .one _ n (getD pairs (n * slotWords + 1) 0) (getD pairs (n * slotWords + 2) 0) (omega (arith, s .0, h .counter)) l (s .1) o
 
-  go : (q : Bool) → isFree pairs n ≡ q → either (isFree pairs n) (eqb (numberOf pairs (getD pairs (n * slotWords + 1) 0) (getD pairs (n * slotWords + 2) 0) (p .counter)) n) ≡ true
+  go : (q : Bool) → isFree pairs n ≡ q → either (isFree pairs n) (eqb (openNumber pairs (getD pairs (n * slotWords + 1) 0) (getD pairs (n * slotWords + 2) 0) (p .counter)) n) ≡ true
   go true f = rw f
   go false f = rw f (eq-eqb _ _ (it f))
 
@@ -282,7 +282,7 @@ slot-length pairs m x lo hi = length-sets pairs (m * slotWords) (x ∷ lo ∷ hi
 
 -- the counter goes no further than 100
 counter-on : (p : Pool) → p .counter ≤ top → (p .counter ≤ counterOf p) × (counterOf p ≤ top)
-unfolding counterOf grown
+unfolding counterOf counterNext
 counter-on p h =
     by-test (λ (z : ℕ). (p .counter ≤ z) × (z ≤ top)) (eqb (p .spare) 0) {x = pick (ltb highest (p .counter)) (p .counter) (p .counter + 1)} {y = p .counter}
     (λ e. by-test (λ (z : ℕ). (p .counter ≤ z) × (z ≤ top)) (ltb highest (p .counter)) {x = p .counter} {y = p .counter + 1} (λ f. (omega arith, h)) (λ f. let l = ltb-false highest (p .counter) f in (omega arith, omega arith)))
@@ -290,7 +290,7 @@ counter-on p h =
 
 -- the number that an opening takes was not open, and is below the counter afterwards
 next-on : (p : Pool) → p .spare < p .counter → nextOf p ≤ highest → (0 < nextOf p) × (nextOf p < counterOf p)
-unfolding nextOf counterOf grown
+unfolding nextOf counterOf counterNext
 next-on p h l = go (eqb (p .spare) 0) refl l where
   go : (q : Bool) → eqb (p .spare) 0 ≡ q → pick q (p .counter) (p .spare) ≤ highest → (0 < pick (eqb (p .spare) 0) (p .counter) (p .spare)) × (pick (eqb (p .spare) 0) (p .counter) (p .spare) < pick (eqb (p .spare) 0) (pick (ltb highest (p .counter)) (p .counter) (p .counter + 1)) (p .counter))
   go true q k = rw (q, le-ltb highest (p .counter) k) (omega arith, omega arith)
@@ -300,7 +300,7 @@ below-counter : (p : Pool) (pairs : List ℕ) (n lo hi : ℕ) → opens pairs n 
 below-counter p pairs n lo hi o s = not-kept p n (held p pairs n (marked pairs n lo hi o) s .0)
 
 module _ (p : Pool) (pairs : List ℕ) (h : Pooled p pairs) where
-  open-kept : (lo hi : ℕ) → lo ≤ hi → numberOf pairs lo hi (p .counter) ≡ 0 → Keeps pairs (openOf p pairs lo hi)
+  open-kept : (lo hi : ℕ) → lo ≤ hi → openNumber pairs lo hi (p .counter) ≡ 0 → Keeps pairs (openOf p pairs lo hi)
   unfolding openOf
   open-kept lo hi l unheld =
       by-test (λ (z : Hits). Keeps pairs z) (ltb highest (nextOf p)) {x = hits Full pairs} {y = hits (Number (pool (counterOf p) 0) (nextOf p)) (slot pairs (nextOf p) 1 lo hi)} (λ e. refl) (λ e. given (ltb-false highest (nextOf p) e))
@@ -373,23 +373,23 @@ module _ (p : Pool) (pairs : List ℕ) (h : Pooled p pairs) where
       each n k false q on =
           slot-beside p (pool (counterOf p) r) pairs r 0 0 0 n (eqb-false n r q) (fewer p (counterOf p) r n on (λ e. absurd (eqb-false n r q e))) (h .each n k)
 
-pair-kept : (p : Pool) (pairs : List ℕ) (lo hi : ℕ) → Pooled p pairs → lo ≤ hi → Keeps pairs (pairOf p pairs lo hi)
-unfolding pairOf calledOf
+pair-kept : (p : Pool) (pairs : List ℕ) (lo hi : ℕ) → Pooled p pairs → lo ≤ hi → Keeps pairs (hitPair p pairs lo hi)
+unfolding hitPair openOrClose
 pair-kept p pairs lo hi h l =
-    by-test (λ (z : Hits). Keeps pairs z) (eqb (numberOf pairs lo hi (p .counter)) 0) {x = openOf p pairs lo hi} {y = closeOf p pairs (numberOf pairs lo hi (p .counter))}
-    (λ e. open-kept p pairs h lo hi l (eqb-true (numberOf pairs lo hi (p .counter)) 0 e))
-    (λ e. closed (eqb-false (numberOf pairs lo hi (p .counter)) 0 e))
+    by-test (λ (z : Hits). Keeps pairs z) (eqb (openNumber pairs lo hi (p .counter)) 0) {x = openOf p pairs lo hi} {y = closeOf p pairs (openNumber pairs lo hi (p .counter))}
+    (λ e. open-kept p pairs h lo hi l (eqb-true (openNumber pairs lo hi (p .counter)) 0 e))
+    (λ e. closed (eqb-false (openNumber pairs lo hi (p .counter)) 0 e))
   where
-    closed : (numberOf pairs lo hi (p .counter) ≡ 0 → ⊥) → Keeps pairs (closeOf p pairs (numberOf pairs lo hi (p .counter)))
+    closed : (openNumber pairs lo hi (p .counter) ≡ 0 → ⊥) → Keeps pairs (closeOf p pairs (openNumber pairs lo hi (p .counter)))
     closed z =
         let f = found pairs lo hi (p .counter) z in
-        close-kept p pairs h (numberOf pairs lo hi (p .counter)) lo hi z
-        (below-counter p pairs (numberOf pairs lo hi (p .counter)) lo hi (f .1) (h .each (numberOf pairs lo hi (p .counter)) (omega (arith, f .0, h .counter))) .1)
+        close-kept p pairs h (openNumber pairs lo hi (p .counter)) lo hi z
+        (below-counter p pairs (openNumber pairs lo hi (p .counter)) lo hi (f .1) (h .each (openNumber pairs lo hi (p .counter)) (omega (arith, f .0, h .counter))) .1)
 
 pub hit-kept : (p : Pool) (pairs : List ℕ) (a b : ℕ) → isPool p pairs ≡ true → Keeps pairs (hitOf p pairs a b)
 unfolding hitOf
 hit-kept p pairs a b h =
-    by-test (λ (z : Hits). Keeps pairs z) (ltb a b) {x = pairOf p pairs a b} {y = pairOf p pairs b a}
+    by-test (λ (z : Hits). Keeps pairs z) (ltb a b) {x = hitPair p pairs a b} {y = hitPair p pairs b a}
     (λ e. let l = ltb-true a b e in pair-kept p pairs a b (facts p pairs h) (omega arith))
     (λ e. pair-kept p pairs b a (facts p pairs h) (ltb-false a b e))
 

@@ -22,7 +22,7 @@ handedBy g =
     (pick (eqb (g .told .number) ringNumbers) handed.RingNumbers handed.BadTable)
 
 known : (a b : ℕ) (r : Handed) (l : List ℕ) → handedBy (slots.gives a b r l) ≡ r
-unfolding handedBy slots.toldOf slots.stateIn
+unfolding handedBy slots.handedTold slots.poolWords
 known a b (handed.Number p n) l = refl
 known a b handed.RingNumbers l = refl
 known a b handed.BadTable l = refl
@@ -49,6 +49,6 @@ pub pool-17 : (p : Pool) (pairs : List ℕ) (a b : ℕ) → slots.isPool p pairs
 unfolding slots.hitD
 pool-17 p pairs a b h = simp h
 
-pub pool-bad : (a b : ℕ) → slots.toldOf a b handed.BadTable ≡ told badTable (0 ∷ [])
-unfolding slots.toldOf
+pub pool-bad : (a b : ℕ) → slots.handedTold a b handed.BadTable ≡ told badTable (0 ∷ [])
+unfolding slots.handedTold
 pool-bad a b = refl

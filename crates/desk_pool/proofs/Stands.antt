@@ -8,7 +8,7 @@ use lib.Dec.{leb, eqb}
 use borrow.Author.Tests.{eq-eqb, ne-eqb}
 use Rattle.join_pool.specs.declared.Pool.{Pool}
 use Rattle.join_pool.specs.declared.Given.{Given}
-use Rattle.join_pool.specs.Pairs.{slotWords, numberOf, hits, hitOf}
+use Rattle.join_pool.specs.Pairs.{slotWords, openNumber, hits, hitOf}
 use Rattle.desk_pool.specs.declared.Handed.{Handed}
 use Rattle.desk_pool.specs.declared.Handed.the-variants as handed
 use Rattle.desk_pool.specs.Slots.{isFree, keptFree, isFound, isPool, handedOf, gives, givenBy, hitD}
@@ -21,7 +21,7 @@ pub kept-last : (p : Pool) (n : ℕ) → (n ≡ 0 → ⊥) → (n ≡ p .spare �
 unfolding keptFree
 kept-last p n e f = simp (ne-eqb _ _ e, ne-eqb _ _ f)
 
-pub found-last : (p : Pool) (pairs : List ℕ) (n lo hi r : ℕ) → isFree pairs n ≡ false → lo ≡ getD pairs (n * slotWords + 1) 0 → hi ≡ getD pairs (n * slotWords + 2) 0 → r ≡ numberOf pairs lo hi (p .counter) → eqb r n ≡ isFound p pairs n
+pub found-last : (p : Pool) (pairs : List ℕ) (n lo hi r : ℕ) → isFree pairs n ≡ false → lo ≡ getD pairs (n * slotWords + 1) 0 → hi ≡ getD pairs (n * slotWords + 2) 0 → r ≡ openNumber pairs lo hi (p .counter) → eqb r n ≡ isFound p pairs n
 unfolding isFound
 found-last p pairs n lo hi r f e g h = simp (f, ← e, ← g, ← h)
 

@@ -15,7 +15,7 @@ use Rattle.feature.specs.Pick.{pick, both, either}
 use Rattle.join_pool.specs.declared.Pool.{Pool}
 use Rattle.join_pool.specs.declared.Given.{Given}
 use Rattle.join_pool.specs.declared.Given.the-variants as given
-use Rattle.join_pool.specs.Pairs.{slotWords, numberOf as numberFor, Hits, hitOf}
+use Rattle.join_pool.specs.Pairs.{slotWords, openNumber as numberFor, Hits, hitOf}
 use Rattle.desk_pool.specs.declared.Handed.{Handed}
 use Rattle.desk_pool.specs.declared.Handed.the-variants.{Number, RingNumbers, BadTable}
 use Rattle.feature.specs.Every.{every}
@@ -64,16 +64,16 @@ handedOf (given.Number p n) = Number p n
 handedOf given.Full = RingNumbers
 
 -- an answer in the scope's numbers, where the call is for the atoms a and b
-unfoldable pub toldOf : ℕ → ℕ → Handed → Told
-toldOf a b (Number p n) = told done (n ∷ [])
-toldOf a b RingNumbers = told ringNumbers (a ∷ b ∷ [])
-toldOf a b BadTable = told badTable (0 ∷ [])
+unfoldable pub handedTold : ℕ → ℕ → Handed → Told
+handedTold a b (Number p n) = told done (n ∷ [])
+handedTold a b RingNumbers = told ringNumbers (a ∷ b ∷ [])
+handedTold a b BadTable = told badTable (0 ∷ [])
 
 -- the numbers of the pool that it hands back; a refusal hands back none
-unfoldable pub stateIn : Handed → List ℕ
-stateIn (Number p n) = p .counter ∷ p .spare ∷ []
-stateIn RingNumbers = []
-stateIn BadTable = []
+unfoldable pub poolWords : Handed → List ℕ
+poolWords (Number p n) = p .counter ∷ p .spare ∷ []
+poolWords RingNumbers = []
+poolWords BadTable = []
 
 -- ---- the call
 -- what it answers for the atoms a and b, the pool that it hands back and the words that it leaves
@@ -83,7 +83,7 @@ pub record Gives : Type 0 where
   pub left : List ℕ
 
 abbrev pub gives : ℕ → ℕ → Handed → List ℕ → Gives
-gives a b r pairs = record { told = toldOf a b r; state = stateIn r; left = pairs }
+gives a b r pairs = record { told = handedTold a b r; state = poolWords r; left = pairs }
 
 unfoldable pub givenBy : ℕ → ℕ → Hits → Gives
 givenBy a b h = gives a b (handedOf (h .answer)) (h .left)

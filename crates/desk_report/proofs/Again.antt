@@ -16,7 +16,7 @@ use Rattle.join_pool.specs.declared.Pool.{Pool}
 use Rattle.desk_report.specs.declared.state.AsBuilder.the-variants as builder
 use Rattle.desk_report.specs.declared.state.AsWriter.the-variants as writer
 use Rattle.desk_report.specs.declared.state.AsPool.the-variants as pool
-use Rattle.desk_report.specs.State.{narrow, builderIn, writerIn, poolIn, wordsOf, writerList, poolList}
+use Rattle.desk_report.specs.State.{narrow, builderIn, writerIn, poolIn, builderWords, writerList, poolList}
 
 two-words : (n : ℕ) → ltb (suc (suc n)) 2 ≡ false
 two-words n = le-ltb (suc (suc n)) 2 (omega arith)
@@ -37,6 +37,6 @@ flagged : (f : Bool) → (ltb 1 (pick f 1 0) ≡ false) × (eqb (pick f 1 0) 1 �
 flagged true = (refl, refl)
 flagged false = (refl, refl)
 
-pub builder-again : (a b c d e f g h i j k : ℕ) (rest : List ℕ) (s : Builder) → leb narrow (s .refusal) ≡ false → leb narrow (s .closing) ≡ false → leb narrow (s .opening) ≡ false → builderIn (sets (a ∷ b ∷ c ∷ d ∷ e ∷ f ∷ g ∷ h ∷ i ∷ j ∷ k ∷ rest) 0 (wordsOf s)) ≡ builder.Is s
-unfolding builderIn wordsOf
+pub builder-again : (a b c d e f g h i j k : ℕ) (rest : List ℕ) (s : Builder) → leb narrow (s .refusal) ≡ false → leb narrow (s .closing) ≡ false → leb narrow (s .opening) ≡ false → builderIn (sets (a ∷ b ∷ c ∷ d ∷ e ∷ f ∷ g ∷ h ∷ i ∷ j ∷ k ∷ rest) 0 (builderWords s)) ≡ builder.Is s
+unfolding builderIn builderWords
 builder-again a b c d e f g h i j k rest s x y z = simp (eleven-words (length rest), x, flagged (s .failed) .0, y, z, flagged (s .failed) .1)

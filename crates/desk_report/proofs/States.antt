@@ -10,10 +10,10 @@ use Rattle.feature.specs.Pick.{pick}
 use Rattle.builder.specs.State.{state}
 use Rattle.builder.specs.declared.builder.Builder.{Builder}
 use Rattle.desk_report.specs.declared.state.AsBuilder.the-variants.{Is}
-use Rattle.desk_report.specs.State.{builderSize, narrow, builderIn, wordsOf}
+use Rattle.desk_report.specs.State.{builderSize, narrow, builderIn, builderWords}
 
-pub laid-builder : (b : Builder) (l x y z u v : List ℕ) (f : ℕ) → x ≡ sets l 0 (b .refusal ∷ b .carried ∷ b .places ∷ []) → y ≡ sets x 3 (b .slots ∷ b .atoms ∷ b .entries ∷ []) → f ≡ pick (b .failed) 1 0 → z ≡ sets y 6 (b .top ∷ b .joins ∷ f ∷ []) → u ≡ set z 9 (b .closing) → v ≡ set u 10 (b .opening) → v ≡ sets l 0 (wordsOf b)
-unfolding wordsOf
+pub laid-builder : (b : Builder) (l x y z u v : List ℕ) (f : ℕ) → x ≡ sets l 0 (b .refusal ∷ b .carried ∷ b .places ∷ []) → y ≡ sets x 3 (b .slots ∷ b .atoms ∷ b .entries ∷ []) → f ≡ pick (b .failed) 1 0 → z ≡ sets y 6 (b .top ∷ b .joins ∷ f ∷ []) → u ≡ set z 9 (b .closing) → v ≡ set u 10 (b .opening) → v ≡ sets l 0 (builderWords b)
+unfolding builderWords
 laid-builder b l x y z u v f e g h i j k =
     k
     ∙ ap (λ (r : List ℕ). set r 10 (b .opening)) j

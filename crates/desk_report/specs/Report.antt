@@ -10,7 +10,7 @@ use Rattle.write.specs.declared.answer.Written.{Written}
 use Rattle.write.specs.Numbers as write
 use Rattle.builder.specs.declared.builder.Builder.{Builder}
 use Rattle.desk_builder.specs.declared.calls.Answer as calls
-use Rattle.desk_builder.specs.Build.{Left, leftBy}
+use Rattle.desk_builder.specs.Build.{BuildLeft, answerLeaves}
 use Rattle.desk_writer.specs.declared.Said.{Said}
 use Rattle.desk_pool.specs.declared.Handed.{Handed}
 use Rattle.desk_atom.specs.declared.Begins.{Begins}
@@ -33,11 +33,11 @@ telling t = carrying (t .number) (t .values)
 
 -- of the read call; 0 carries the atoms and the bond entries
 unfoldable pub ofRead : Answer → Report
-ofRead a = telling (read.tells a)
+ofRead a = telling (read.readTold a)
 
 -- of the write call and the walk order; 0 carries the bytes written, or the atoms walked
 unfoldable pub ofWritten : Written → Report
-ofWritten w = telling (write.tells w)
+ofWritten w = telling (write.writtenTold w)
 
 -- ---- the single calls
 -- of words that stand for no state, no atom or no bond
@@ -49,19 +49,19 @@ unfoldable pub ofEvent : Builder → Report
 ofEvent b = report (b .refusal) (b .carried) 0
 
 -- of a build; 0 carries the atoms and the bond entries
-abbrev pub ofLeft : Left → Report
+abbrev pub ofLeft : BuildLeft → Report
 ofLeft l = carrying (l .number) (l .carries)
 
 unfoldable pub ofBuilt : calls.Answer → Report
-ofBuilt a = ofLeft (leftBy a [] [])
+ofBuilt a = ofLeft (answerLeaves a [] [])
 
 -- of a writer's event; 0 carries the length of the line
 abbrev pub ofSaid : Said → Report
-ofSaid s = telling (pieces.toldOf s)
+ofSaid s = telling (pieces.saidTold s)
 
 -- of the pool's call for the atoms a and b; 0 carries the ring number
 abbrev pub ofHanded : ℕ → ℕ → Handed → Report
-ofHanded a b h = telling (slots.toldOf a b h)
+ofHanded a b h = telling (slots.handedTold a b h)
 
 -- of reading one atom; 0 carries the place after it
 abbrev pub ofBegins : Begins → Report

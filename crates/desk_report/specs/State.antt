@@ -53,8 +53,8 @@ poolIn w =
     (pool.Is (record { counter = getD w 0 0; spare = getD w 1 0 }))))
 
 -- ---- the words of a state
-unfoldable pub wordsOf : Builder → List ℕ
-wordsOf b =
+unfoldable pub builderWords : Builder → List ℕ
+builderWords b =
     b .refusal ∷ b .carried ∷ b .places ∷ b .slots ∷ b .atoms ∷ b .entries ∷ b .top ∷ b .joins ∷ pick (b .failed) 1 0 ∷ b .closing ∷ b .opening ∷ []
 
 unfoldable pub writerList : Writer → List ℕ

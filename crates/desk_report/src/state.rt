@@ -4,7 +4,7 @@ ghost use mathlib.Core.Path.{_≡_};
 ghost use lib.ListN.{getD};
 ghost use lib.Seq.{sets};
 ghost use Rattle.feature.specs.Pick.{pick};
-ghost use Rattle.desk_report.specs.State.{builderIn, writerIn, poolIn, wordsOf, writerList, poolList};
+ghost use Rattle.desk_report.specs.State.{builderIn, writerIn, poolIn, builderWords, writerList, poolList};
 use crate::answer::put;
 use crate::answer::put_row;
 use builder::builder::Builder;
@@ -126,7 +126,7 @@ fn flag(b: bool) -> u64
 }
 
 pub fn lay_builder(lent: &mut [u64], b: Builder)
-    ensures { λ _. ⌜ now (lent .exit) ≡ sets (now (lent .entry)) 0 (wordsOf b) ⌝ }
+    ensures { λ _. ⌜ now (lent .exit) ≡ sets (now (lent .entry)) 0 (builderWords b) ⌝ }
 {
     put_row(lent, 0, b.refusal as u64, b.carried as u64, b.places as u64);
     put_row(lent, 3, b.slots as u64, b.atoms as u64, b.entries as u64);

@@ -9,10 +9,10 @@ use borrow.Author.Tests.{leb-true, ltb-true, ltb-false, eqb-true}
 use Rattle.feature.specs.Pick.{pick}
 use Rattle.packing.specs.Words.{atomWords}
 use Rattle.builder.specs.Limits.{atomLimit, bondLimit, lesserOf}
-use Rattle.builder.specs.Rings.{numbers}
+use Rattle.builder.specs.Rings.{ringNumberCount}
 use Rattle.builder.specs.State.{entryWords}
 use Rattle.builder.specs.declared.builder.Builder.{Builder}
-use Rattle.desk_state.specs.Standing.{also, placesIn, slotsIn, countsStand}
+use Rattle.desk_state.specs.Standing.{also, placesIn, entrySlotsIn, countsStand}
 
 pub no : false ≡ true → ⊥
 no e = let z : _≡_ {A = ℕ} 0 1 = cc in omega arith
@@ -36,7 +36,7 @@ lesser-most limit lent = go (ltb lent limit) refl where
 -- for tables of la and le words
 pub record Counts (s : Builder) (la le : ℕ) : Type 0 where
   pub places-is : s .places ≡ placesIn la
-  pub slots-is : s .slots ≡ slotsIn le
+  pub slots-is : s .slots ≡ entrySlotsIn le
   pub places : s .places ≤ atomLimit
   pub slots : s .slots ≤ bondLimit
   pub atom-room : s .places * atomWords ≤ la
@@ -49,13 +49,13 @@ pub counts : (s : Builder) (la le lp lr : ℕ) → countsStand s la le lp lr ≡
 unfolding countsStand
 counts s la le lp lr h1 =
     let h2 = second (eqb (s .places) (placesIn la)) _ h1 in
-    let h3 = second (eqb (s .slots) (slotsIn le)) _ h2 in
+    let h3 = second (eqb (s .slots) (entrySlotsIn le)) _ h2 in
     let h4 = second (leb (s .places) lp) _ h3 in
-    let h5 = second (leb numbers lr) _ h4 in
+    let h5 = second (leb ringNumberCount lr) _ h4 in
     let h6 = second (leb (s .atoms) (s .places)) _ h5 in
     let h7 = second (leb (s .entries) (s .slots)) _ h6 in
     let p : s .places ≡ placesIn la = eqb-true _ _ (first (eqb (s .places) (placesIn la)) _ h1) in
-    let l : s .slots ≡ slotsIn le = eqb-true _ _ (first (eqb (s .slots) (slotsIn le)) _ h2) in
+    let l : s .slots ≡ entrySlotsIn le = eqb-true _ _ (first (eqb (s .slots) (entrySlotsIn le)) _ h2) in
     let mp = lesser-most atomLimit (la / atomWords) in
     let ml = lesser-most bondLimit (le / entryWords) in
     record {

@@ -15,7 +15,7 @@ use Rattle.feature.specs.declared.bond_kind.BondKind.{BondKind}
 use Rattle.feature.specs.declared.bond_kind.BondKind.the-variants as bonds
 use Rattle.packing.proofs.Laws.{sets-beside, sets-in, sets-first}
 use Rattle.builder.specs.State.{unclosed, entryWords, entryList}
-use Rattle.desk_state.specs.Standing.{also, sourceAt, kindAt, targetAt, isBond, bondsFrom, leastOpen}
+use Rattle.desk_state.specs.Standing.{also, sourceAt, entryKindAt, targetAt, isEntryTo, bondsCounted, leastOpen}
 use Rattle.desk_state.proofs.Ends.{count-step, reverse-twice}
 
 pub by-eq : {X : Type 0} (a b : ℕ) → (a ≡ b → X) → (a ≢ b → X) → X
@@ -79,35 +79,35 @@ hit-open s c x a k t h l = rw (ne-eqb x t (λ e. omega arith)) (none (eqb s a) (
 -- ---- tables that agree
 pub record Agree (e g : List ℕ) (i : ℕ) : Type 0 where
   pub source : sourceAt g i ≡ sourceAt e i
-  pub kind : kindAt g i ≡ kindAt e i
+  pub kind : entryKindAt g i ≡ entryKindAt e i
   pub target : targetAt g i ≡ targetAt e i
 
-bond-hit : (e : List ℕ) (a k t i : ℕ) → pick {A = ℕ} (isBond e a k t i) 1 0 ≡ hit (sourceAt e i) (kindAt e i) (targetAt e i) a k t
-unfolding hit isBond
+bond-hit : (e : List ℕ) (a k t i : ℕ) → pick {A = ℕ} (isEntryTo e a k t i) 1 0 ≡ hit (sourceAt e i) (entryKindAt e i) (targetAt e i) a k t
+unfolding hit isEntryTo
 bond-hit e a k t i = refl
 
 hit-is : {s c x s' c' x' : ℕ} (a k t : ℕ) → s' ≡ s → c' ≡ c → x' ≡ x → hit s' c' x' a k t ≡ hit s c x a k t
 hit-is a k t e f g = rw (e, f, g) refl
 
-pub count-more : (e : List ℕ) (a k t m : ℕ) → bondsFrom e a k t (m + 1) ≡ bondsFrom e a k t m + hit (sourceAt e m) (kindAt e m) (targetAt e m) a k t
-count-more e a k t m = count-step e a k t m ∙ ap (λ (n : ℕ). bondsFrom e a k t m + n) (bond-hit e a k t m)
+pub count-more : (e : List ℕ) (a k t m : ℕ) → bondsCounted e a k t (m + 1) ≡ bondsCounted e a k t m + hit (sourceAt e m) (entryKindAt e m) (targetAt e m) a k t
+count-more e a k t m = count-step e a k t m ∙ ap (λ (n : ℕ). bondsCounted e a k t m + n) (bond-hit e a k t m)
 
-pub count-same : (e g : List ℕ) (a k t m : ℕ) → ((i : ℕ) → i < m → Agree e g i) → bondsFrom g a k t m ≡ bondsFrom e a k t m
-unfolding bondsFrom
+pub count-same : (e g : List ℕ) (a k t m : ℕ) → ((i : ℕ) → i < m → Agree e g i) → bondsCounted g a k t m ≡ bondsCounted e a k t m
+unfolding bondsCounted
 count-same e g a k t zero h = refl
 count-same e g a k t (suc m) h =
     let w = h m (omega arith) in
     omega (arith, count-same e g a k t m (λ i l. h i (omega arith)), bond-hit e a k t m, bond-hit g a k t m, hit-is a k t (w .source) (w .kind) (w .target))
 
 -- but for one entry
-pub count-but : (e g : List ℕ) (a k t p m : ℕ) → p < m → ((i : ℕ) → i ≢ p → Agree e g i) → bondsFrom g a k t m + hit (sourceAt e p) (kindAt e p) (targetAt e p) a k t ≡ bondsFrom e a k t m + hit (sourceAt g p) (kindAt g p) (targetAt g p) a k t
-unfolding bondsFrom
+pub count-but : (e g : List ℕ) (a k t p m : ℕ) → p < m → ((i : ℕ) → i ≢ p → Agree e g i) → bondsCounted g a k t m + hit (sourceAt e p) (entryKindAt e p) (targetAt e p) a k t ≡ bondsCounted e a k t m + hit (sourceAt g p) (entryKindAt g p) (targetAt g p) a k t
+unfolding bondsCounted
 count-but e g a k t p zero l h = absurd (omega arith)
 count-but e g a k t p (suc m) l h =
     by-eq m p
     (λ q. let low = count-same e g a k t m (λ i r. h i (λ z. omega arith)) in
-    let x = ap (λ (n : ℕ). hit (sourceAt e n) (kindAt e n) (targetAt e n) a k t) q in
-    let y = ap (λ (n : ℕ). hit (sourceAt g n) (kindAt g n) (targetAt g n) a k t) q in
+    let x = ap (λ (n : ℕ). hit (sourceAt e n) (entryKindAt e n) (targetAt e n) a k t) q in
+    let y = ap (λ (n : ℕ). hit (sourceAt g n) (entryKindAt g n) (targetAt g n) a k t) q in
     omega (arith, low, x, y, bond-hit e a k t m, bond-hit g a k t m))
     (λ n. let w = h m n in
     let ih = count-but e g a k t p m (omega (arith, n)) h in
@@ -121,14 +121,14 @@ least-same e g (suc m) h = rw (h m (omega arith), least-same e g m (λ i l. h i 
 -- ---- what entries keep to: n atoms, j joins, m entries
 pub record Plain (n j : ℕ) (e : List ℕ) (m : ℕ) : Type 0 where
   pub source : (i : ℕ) → i < m → sourceAt e i < n
-  pub kind : (i : ℕ) → i < m → (k : BondKind) × (kindAt e i ≡ codeOf k)
+  pub kind : (i : ℕ) → i < m → (k : BondKind) × (entryKindAt e i ≡ codeOf k)
   pub target : (i : ℕ) → i < m → targetAt e i < unclosed → targetAt e i < n
   pub waits : (i : ℕ) → i < m → unclosed ≤ targetAt e i → targetAt e i < unclosed + j
   pub later : (i : ℕ) → i < m → unclosed ≤ targetAt e i → leastOpen e i ≤ targetAt e i
 
 pub record Pairs (e : List ℕ) (m : ℕ) : Type 0 where
-  pub ends : (a t : ℕ) (k : BondKind) → a < unclosed → t < unclosed → bondsFrom e a (codeOf k) t m ≡ bondsFrom e t (codeOf (reverseOf k)) a m
-  pub even : (a : ℕ) (k : BondKind) → a < unclosed → reverseOf k ≡ k → bondsFrom e a (codeOf k) a m % 2 ≡ 0
+  pub ends : (a t : ℕ) (k : BondKind) → a < unclosed → t < unclosed → bondsCounted e a (codeOf k) t m ≡ bondsCounted e t (codeOf (reverseOf k)) a m
+  pub even : (a : ℕ) (k : BondKind) → a < unclosed → reverseOf k ≡ k → bondsCounted e a (codeOf k) a m % 2 ≡ 0
 
 -- all open targets are below the next
 pub least-below : (n j : ℕ) (e : List ℕ) (m i : ℕ) → Plain n j e m → i ≤ m → leastOpen e i ≤ unclosed + j
@@ -175,7 +175,7 @@ module _ (e : List ℕ) (m s c x : ℕ) (room : (m + 1) * entryWords ≤ length 
   push-source : sourceAt (push e m s c x) m ≡ s
   push-source = sets-first e (entryList s c x) (m * entryWords) (omega arith) (lit< tt)
 
-  push-kind : kindAt (push e m s c x) m ≡ c
+  push-kind : entryKindAt (push e m s c x) m ≡ c
   push-kind = sets-in e (entryList s c x) (m * entryWords) 1 (omega arith) (lit< tt)
 
   pub push-target : targetAt (push e m s c x) m ≡ x
@@ -189,7 +189,7 @@ module _ (e : List ℕ) (m s c x : ℕ) (room : (m + 1) * entryWords ≤ length 
         target = sets-beside e (entryList s c x) (m * entryWords) (i * entryWords + 2) (inl (omega arith));
       }
 
-  pub push-count : (a k t : ℕ) → bondsFrom (push e m s c x) a k t (m + 1) ≡ bondsFrom e a k t m + hit s c x a k t
+  pub push-count : (a k t : ℕ) → bondsCounted (push e m s c x) a k t (m + 1) ≡ bondsCounted e a k t m + hit s c x a k t
   push-count a k t =
       omega (arith, count-more (push e m s c x) a k t m, count-same e (push e m s c x) a k t m push-before, hit-is a k t push-source push-kind push-target)
 
@@ -221,7 +221,7 @@ module _ (e : List ℕ) (p c x : ℕ) (room : (p + 1) * entryWords ≤ length e)
   fill-source : sourceAt (fill e p c x) p ≡ sourceAt e p
   fill-source = sets-beside e (c ∷ x ∷ []) (p * entryWords + 1) (p * entryWords) (inl (omega arith))
 
-  fill-kind : kindAt (fill e p c x) p ≡ c
+  fill-kind : entryKindAt (fill e p c x) p ≡ c
   fill-kind = sets-first e (c ∷ x ∷ []) (p * entryWords + 1) (omega arith) (lit< tt)
 
   fill-target : targetAt (fill e p c x) p ≡ x
@@ -244,9 +244,9 @@ module _ (e : List ℕ) (p c x : ℕ) (room : (p + 1) * entryWords ≤ length e)
       }
 
   module _ (m : ℕ) (within : p < m) (was : unclosed ≤ targetAt e p) (low : x < unclosed) where
-    pub fill-count : (a k t : ℕ) → t < unclosed → bondsFrom (fill e p c x) a k t m ≡ bondsFrom e a k t m + hit (sourceAt e p) c x a k t
+    pub fill-count : (a k t : ℕ) → t < unclosed → bondsCounted (fill e p c x) a k t m ≡ bondsCounted e a k t m + hit (sourceAt e p) c x a k t
     fill-count a k t h =
-        omega (arith, count-but e (fill e p c x) a k t p m within fill-beside, hit-open (sourceAt e p) (kindAt e p) (targetAt e p) a k t was h, hit-is a k t fill-source fill-kind fill-target)
+        omega (arith, count-but e (fill e p c x) a k t p m within fill-beside, hit-open (sourceAt e p) (entryKindAt e p) (targetAt e p) a k t was h, hit-is a k t fill-source fill-kind fill-target)
 
     -- what is open after it is no less late
     least-less : (n j : ℕ) → Plain n j e m → (i : ℕ) → i ≤ m → leastOpen (fill e p c x) i ≤ leastOpen e i
@@ -284,7 +284,7 @@ module _ (e : List ℕ) (p c x : ℕ) (room : (p + 1) * entryWords ≤ length e)
 
 -- ---- pairs
 -- a bond's two entries
-pub pairs-two : (e g : List ℕ) (m w s x : ℕ) (c d : BondKind) → d ≡ reverseOf c → ((a t : ℕ) (k : BondKind) → t < unclosed → bondsFrom g a (codeOf k) t w ≡ bondsFrom e a (codeOf k) t m + hit s (codeOf c) x a (codeOf k) t + hit x (codeOf d) s a (codeOf k) t) → Pairs e m → Pairs g w
+pub pairs-two : (e g : List ℕ) (m w s x : ℕ) (c d : BondKind) → d ≡ reverseOf c → ((a t : ℕ) (k : BondKind) → t < unclosed → bondsCounted g a (codeOf k) t w ≡ bondsCounted e a (codeOf k) t m + hit s (codeOf c) x a (codeOf k) t + hit x (codeOf d) s a (codeOf k) t) → Pairs e m → Pairs g w
 pairs-two e g m w s x c d back more h =
     record {
       ends = λ a t k ha ht.
@@ -301,7 +301,7 @@ pairs-two e g m w s x c d back more h =
     two a t k = hit-back x d s a k t ∙ ap (λ (y : BondKind). hit s (codeOf y) x t (codeOf (reverseOf k)) a) (ap reverseOf back ∙ reverse-twice c)
 
 -- an open one
-pub pairs-open : (e g : List ℕ) (m w s c x : ℕ) → unclosed ≤ x → ((a k t : ℕ) → bondsFrom g a k t w ≡ bondsFrom e a k t m + hit s c x a k t) → Pairs e m → Pairs g w
+pub pairs-open : (e g : List ℕ) (m w s c x : ℕ) → unclosed ≤ x → ((a k t : ℕ) → bondsCounted g a k t w ≡ bondsCounted e a k t m + hit s c x a k t) → Pairs e m → Pairs g w
 pairs-open e g m w s c x h more p =
     record {
       ends = λ a t k ha ht. omega (arith, p .ends a t k ha ht, more a (codeOf k) t, more t (codeOf (reverseOf k)) a, hit-open s c x a (codeOf k) t h ht, hit-open s c x t (codeOf (reverseOf k)) a h ha);

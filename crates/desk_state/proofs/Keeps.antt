@@ -18,9 +18,9 @@ use Rattle.feature.specs.declared.bond_kind.BondKind.{BondKind}
 use Rattle.packing.specs.Words.{atomWords, listOf, loadAt, isHeld, isAtom}
 use Rattle.packing.proofs.Laws.{load-stored, load-beside}
 use Rattle.builder.specs.Limits.{atomLimit, bondLimit}
-use Rattle.builder.specs.Rings.{numbers}
+use Rattle.builder.specs.Rings.{ringNumberCount}
 use Rattle.builder.specs.State.{unclosed, entryWords, entryList}
-use Rattle.desk_state.specs.Standing.{sourceAt, targetAt, openRings, placesIn, slotsIn}
+use Rattle.desk_state.specs.Standing.{sourceAt, targetAt, openRings, placesIn, entrySlotsIn}
 use Rattle.desk_state.proofs.Grown.{by-eq, Plain, Pairs, least-below, plain-more, push, push-count, push-plain, push-before, push-target, fill, fill-count, fill-plain, fill-beside, pairs-two, pairs-open}
 
 -- ---- how many ring numbers are open
@@ -61,13 +61,13 @@ pred-below x m h l = omega arith
 -- ---- what is kept to: rooms, atoms, entries, path and joins
 pub record Keeps (places slots n m top j : ℕ) (a e p r : List ℕ) : Type 0 where
   pub places-is : places ≡ placesIn (length a)
-  pub slots-is : slots ≡ slotsIn (length e)
+  pub slots-is : slots ≡ entrySlotsIn (length e)
   pub most-places : places ≤ atomLimit
   pub most-slots : slots ≤ bondLimit
   pub atom-room : places * atomWords ≤ length a
   pub entry-room : slots * entryWords ≤ length e
   pub path-room : places ≤ length p
-  pub ring-room : numbers ≤ length r
+  pub ring-room : ringNumberCount ≤ length r
   pub within : n ≤ places
   pub listed : m ≤ slots
   pub short : top ≤ n
@@ -75,9 +75,9 @@ pub record Keeps (places slots n m top j : ℕ) (a e p r : List ℕ) : Type 0 wh
   pub plain : Plain n j e m
   pub pairs : Pairs e m
   pub steps : (i : ℕ) → i < top → getD p i 0 < n
-  pub each : (i : ℕ) → i < numbers → getD r i 0 ≢ 0 → (getD r i 0 ≤ m) × (unclosed ≤ targetAt e (getD r i 0 - 1))
-  pub apart : (i k : ℕ) → i < k → k < numbers → getD r k 0 ≢ 0 → getD r i 0 ≢ getD r k 0
-  pub few : j + openRings r numbers ≤ m * 2
+  pub each : (i : ℕ) → i < ringNumberCount → getD r i 0 ≢ 0 → (getD r i 0 ≤ m) × (unclosed ≤ targetAt e (getD r i 0 - 1))
+  pub apart : (i k : ℕ) → i < k → k < ringNumberCount → getD r k 0 ≢ 0 → getD r i 0 ≢ getD r k 0
+  pub few : j + openRings r ringNumberCount ≤ m * 2
 
 module _ (places slots n m top j : ℕ) (a e p r : List ℕ) (h : Keeps places slots n m top j a e p r) where
   -- an atom more, with what entries it brings
@@ -86,7 +86,7 @@ module _ (places slots n m top j : ℕ) (a e p r : List ℕ) (h : Keeps places s
   keeps-enter k w g ok room size more fits plain pairs same =
       record {
         places-is = h .places-is ∙ ap (λ (x : ℕ). placesIn x) (sym (length-sets a (n * atomWords) (listOf k)));
-        slots-is = h .slots-is ∙ ap (λ (x : ℕ). slotsIn x) (sym size);
+        slots-is = h .slots-is ∙ ap (λ (x : ℕ). entrySlotsIn x) (sym size);
         most-places = h .most-places;
         most-slots = h .most-slots;
         atom-room = omega (arith, h .atom-room, length-sets a (n * atomWords) (listOf k));
@@ -135,7 +135,7 @@ module _ (places slots n m top j : ℕ) (a e p r : List ℕ) (h : Keeps places s
       (λ i l. push-before f (m + 1) n (codeOf (reverseOf c)) s r2 i (omega arith) .target ∙ push-before e m s (codeOf c) n r1 i l .target)
 
   -- a ring number set: the entries may be others
-  module _ (q v : ℕ) (below : q < numbers) where
+  module _ (q v : ℕ) (below : q < ringNumberCount) where
     long : q < length r
     long = omega (arith, h .ring-room)
 
@@ -146,7 +146,7 @@ module _ (places slots n m top j : ℕ) (a e p r : List ℕ) (h : Keeps places s
     beside i d = getD-set-other r q i v 0 d
 
     -- no two of them alike, if none was v
-    apart-set : (v ≢ 0 → (i : ℕ) → i < numbers → getD r i 0 ≢ v) → (i k : ℕ) → i < k → k < numbers → getD (set r q v) k 0 ≢ 0 → getD (set r q v) i 0 ≢ getD (set r q v) k 0
+    apart-set : (v ≢ 0 → (i : ℕ) → i < ringNumberCount → getD r i 0 ≢ v) → (i k : ℕ) → i < k → k < ringNumberCount → getD (set r q v) k 0 ≢ 0 → getD (set r q v) i 0 ≢ getD (set r q v) k 0
     apart-set new i k l b z y =
         by-eq k q
         (λ d. let u : getD (set r q v) k 0 ≡ v = ap (λ (x : ℕ). getD (set r q v) x 0) d ∙ there in
@@ -157,11 +157,11 @@ module _ (places slots n m top j : ℕ) (a e p r : List ℕ) (h : Keeps places s
         new (λ y0. z (sym y ∙ u ∙ y0)) k b (sym t ∙ sym y ∙ u))
         (λ o. h .apart i k l b (λ y0. z (beside k d ∙ y0)) (sym (beside i o) ∙ y ∙ beside k d)))
 
-    keeps-join : (w : ℕ) (g : List ℕ) → length g ≡ length e → w ≤ slots → Plain n (j + 1) g w → Pairs g w → ((i : ℕ) → i < numbers → getD (set r q v) i 0 ≢ 0 → (getD (set r q v) i 0 ≤ w) × (unclosed ≤ targetAt g (getD (set r q v) i 0 - 1))) → (v ≢ 0 → (i : ℕ) → i < numbers → getD r i 0 ≢ v) → j + 1 + openRings (set r q v) numbers ≤ w * 2 → Keeps places slots n w top (j + 1) a g p (set r q v)
+    keeps-join : (w : ℕ) (g : List ℕ) → length g ≡ length e → w ≤ slots → Plain n (j + 1) g w → Pairs g w → ((i : ℕ) → i < ringNumberCount → getD (set r q v) i 0 ≢ 0 → (getD (set r q v) i 0 ≤ w) × (unclosed ≤ targetAt g (getD (set r q v) i 0 - 1))) → (v ≢ 0 → (i : ℕ) → i < ringNumberCount → getD r i 0 ≢ v) → j + 1 + openRings (set r q v) ringNumberCount ≤ w * 2 → Keeps places slots n w top (j + 1) a g p (set r q v)
     keeps-join w g size fits plain pairs each new few =
         record {
           places-is = h .places-is;
-          slots-is = h .slots-is ∙ ap (λ (x : ℕ). slotsIn x) (sym size);
+          slots-is = h .slots-is ∙ ap (λ (x : ℕ). entrySlotsIn x) (sym size);
           most-places = h .most-places;
           most-slots = h .most-slots;
           atom-room = h .atom-room;
@@ -181,11 +181,11 @@ module _ (places slots n m top j : ℕ) (a e p r : List ℕ) (h : Keeps places s
         }
 
   -- a free number opened
-  pub keeps-open : (q : ℕ) (c : BondKind) (s : ℕ) → q < numbers → getD r q 0 ≡ 0 → m + 1 ≤ slots → s < n → Keeps places slots n (m + 1) top (j + 1) a (push e m s (codeOf c) (unclosed + j)) p (set r q (m + 1))
+  pub keeps-open : (q : ℕ) (c : BondKind) (s : ℕ) → q < ringNumberCount → getD r q 0 ≡ 0 → m + 1 ≤ slots → s < n → Keeps places slots n (m + 1) top (j + 1) a (push e m s (codeOf c) (unclosed + j)) p (set r q (m + 1))
   keeps-open q c s below free fits hs =
       let g = push e m s (codeOf c) (unclosed + j) in
       let room : (m + 1) * entryWords ≤ length e = omega (arith, h .entry-room) in
-      let count = open-set r q (m + 1) numbers (long q (m + 1) below) below in
+      let count = open-set r q (m + 1) ringNumberCount (long q (m + 1) below) below in
       let o : one (m + 1) ≡ 1 = one-some (m + 1) (λ z. omega arith) in
       keeps-join q (m + 1) below (m + 1) g (length-sets e (m * entryWords) (entryList s (codeOf c) (unclosed + j))) fits
       (push-plain e m s (codeOf c) (unclosed + j) room n (j + 1) c (plain-more n j n (j + 1) e m (omega arith) (omega arith) (h .plain)) hs refl (λ u. absurd (omega arith)) (λ u. (omega arith, least-below n j e m m (h .plain) (omega arith))))
@@ -202,9 +202,9 @@ module _ (places slots n m top j : ℕ) (a e p r : List ℕ) (h : Keeps places s
       (omega (arith, count, o, h .few, ap one free, one-none))
 
   -- one closed: its kinds agree, or fail
-  module _ (q : ℕ) (below : q < numbers) (held : getD r q 0 ≢ 0) where
-    freed : openRings (set r q 0) numbers + 1 ≡ openRings r numbers
-    freed = omega (arith, open-set r q 0 numbers (long q 0 below) below, one-some (getD r q 0) held, one-none)
+  module _ (q : ℕ) (below : q < ringNumberCount) (held : getD r q 0 ≢ 0) where
+    freed : openRings (set r q 0) ringNumberCount + 1 ≡ openRings r ringNumberCount
+    freed = omega (arith, open-set r q 0 ringNumberCount (long q 0 below) below, one-some (getD r q 0) held, one-none)
 
     pub keeps-fail : Keeps places slots n m top (j + 1) a e p (set r q 0)
     keeps-fail =
@@ -249,7 +249,7 @@ module _ (places slots n m top j : ℕ) (a e p r : List ℕ) (h : Keeps places s
         (λ z. absurd (z refl))
         (omega (arith, freed, h .few))
       where
-        distinct : (i : ℕ) → i < numbers → i ≢ q → getD r i 0 ≢ 0 → getD r i 0 ≢ getD r q 0
+        distinct : (i : ℕ) → i < ringNumberCount → i ≢ q → getD r i 0 ≢ 0 → getD r i 0 ≢ getD r q 0
         distinct i l v nz x = go (ltb i q) refl where
           go : (t : Bool) → ltb i q ≡ t → ⊥
           go true is = h .apart i q (ltb-true i q is) below held x

@@ -10,7 +10,7 @@ use lib.Dec.{eqb, ltb, leb}
 use borrow.Author.Tests.{eqb-true, eqb-false, eq-eqb, ne-eqb, lt-ltb, le-ltb, ltb-true, ltb-false, leb-true, leb-false, le-leb}
 use Rattle.feature.specs.Pick.{pick, neither}
 use Rattle.feature.specs.Every.{every}
-use Rattle.feature.specs.Kinds.{noConfiguration, noHydrogens, th1, th2, marked, inRange, invertBracket, invertOf}
+use Rattle.feature.specs.Kinds.{noConfiguration, noHydrogens, th1, th2, withConfiguration, inRange, invertBracket, invertOf}
 use Rattle.feature.specs.Bonds.{codeOf, kindOf, isDirectional, reverseOf, reconcileOf}
 use Rattle.feature.specs.declared.atom_kind.BracketAtom.{BracketAtom}
 use Rattle.feature.specs.declared.atom_kind.AtomKind.{AtomKind}
@@ -26,13 +26,13 @@ use Rattle.feature.specs.declared.bond_kind.Reconciled.the-variants.{Both, Fail
 use Rattle.feature.proofs.Cases.{by-test}
 use Rattle.feature.proofs.Every.{every-at, every-all}
 use Rattle.feature.proofs.Ranges.{good, ranged}
-use Rattle.packing.specs.Words.{isAtom, bondOf, entryOf}
+use Rattle.packing.specs.Words.{isAtom, entryOfWords, entryCoded}
 use Rattle.packing.proofs.Laws.{bond-only}
 use Rattle.builder.specs.Limits.{atomLimit, bondLimit}
-use Rattle.builder.specs.Rings.{numbers}
-use Rattle.builder.specs.State.{Bld, bld, unclosed, Small, refuse, lastOf, entered, rootOf, bonded, extendedBy, extendOf, openedOf, openedAt, openingOf, openingKind, failedSt, closedBy, joinOf, popOf}
+use Rattle.builder.specs.Rings.{ringNumberCount}
+use Rattle.builder.specs.State.{Bld, bld, unclosed, SmallCounts, refuse, lastOf, entered, rootOf, bonded, extendedBy, extendOf, openedOf, openedAt, openingOf, openingKind, failedSt, closedBy, joinOf, popOf}
 use Rattle.builder.specs.declared.builder.Builder.{Builder}
-use Rattle.desk_state.specs.Standing.{also, isKind, sourceAt, kindAt, targetAt, isTarget, isEntry, bondsFrom, turnedOf, isOwn, isMatched, isPaired, leastOpen, isLater, isStep, isApart, isRing, openRings, joinsStand, placesIn, slotsIn, countsStand, failureStands, isState}
+use Rattle.desk_state.specs.Standing.{also, isKind, sourceAt, entryKindAt, targetAt, isTarget, isBuilderEntry, bondsCounted, turnedOf, isOwn, isMatched, isPaired, leastOpen, isLater, isStep, isApart, isRing, openRings, joinsStand, placesIn, entrySlotsIn, countsStand, failureStands, isState}
 use Rattle.desk_state.specs.Chains.{Between}
 use Rattle.desk_state.proofs.Counts.{no, first, second, counts}
 use Rattle.desk_state.proofs.Ends.{turned-code, reverse-twice, to-matched, both-ends, even-ends}
@@ -45,10 +45,10 @@ all-two a b e f = rw (e, f) refl
 
 -- ---- kinds
 kind-code : (n : ℕ) → isKind (kindOf n) ≡ true → (k : BondKind) × (n ≡ codeOf k)
-unfolding isKind bondOf entryOf
+unfolding isKind entryOfWords entryCoded
 kind-code n h = go (kindOf n) refl h where
   go : (q : Coded) → kindOf n ≡ q → isKind q ≡ true → (k : BondKind) × (n ≡ codeOf k)
-  go (coded.Kind k) e i = (k, bond-only n 0 k 0 (ap (λ (x : Coded). entryOf x 0) e) .0)
+  go (coded.Kind k) e i = (k, bond-only n 0 k 0 (ap (λ (x : Coded). entryCoded x 0) e) .0)
   go coded.Bad e i = absurd (no i)
 
 code-kind : (k : BondKind) → isKind (kindOf (codeOf k)) ≡ true
@@ -64,43 +64,43 @@ code-kind bonds.Down = refl
 
 -- ---- entries
 -- entries that stand are between atoms
-pub between : (s : Builder) (e : List ℕ) (m : ℕ) → m ≤ bondLimit → s .atoms ≤ atomLimit → every (isEntry s e) m ≡ true → Between e m (s .atoms)
-unfolding isEntry isTarget
+pub between : (s : Builder) (e : List ℕ) (m : ℕ) → m ≤ bondLimit → s .atoms ≤ atomLimit → every (isBuilderEntry s e) m ≡ true → Between e m (s .atoms)
+unfolding isBuilderEntry isTarget
 between s e m few most all =
     record {
       few = few;
       most = most;
-      kind = λ i l. kind-code (kindAt e i) (first (isKind (kindOf (kindAt e i))) _ (second (ltb (sourceAt e i) (s .atoms)) _ (at i l)));
+      kind = λ i l. kind-code (entryKindAt e i) (first (isKind (kindOf (entryKindAt e i))) _ (second (ltb (sourceAt e i) (s .atoms)) _ (at i l)));
       source = λ i l. ltb-true _ _ (first (ltb (sourceAt e i) (s .atoms)) _ (at i l));
-      target = λ i l u. ltb-true _ _ (subst (λ (q : Bool). pick q (ltb (targetAt e i) (s .atoms)) (ltb (targetAt e i - unclosed) (s .joins)) ≡ true) (lt-ltb (targetAt e i) unclosed u) (second (isKind (kindOf (kindAt e i))) _ (second (ltb (sourceAt e i) (s .atoms)) _ (at i l))));
+      target = λ i l u. ltb-true _ _ (subst (λ (q : Bool). pick q (ltb (targetAt e i) (s .atoms)) (ltb (targetAt e i - unclosed) (s .joins)) ≡ true) (lt-ltb (targetAt e i) unclosed u) (second (isKind (kindOf (entryKindAt e i))) _ (second (ltb (sourceAt e i) (s .atoms)) _ (at i l))));
     }
   where
-    at : (i : ℕ) → i < m → isEntry s e i ≡ true
-    at i l = every-at (isEntry s e) m i all l
+    at : (i : ℕ) → i < m → isBuilderEntry s e i ≡ true
+    at i l = every-at (isBuilderEntry s e) m i all l
 
 module _ (s : Builder) (e : List ℕ) (m : ℕ) where
-  to-plain : every (isEntry s e) m ≡ true → every (isLater e) m ≡ true → Plain (s .atoms) (s .joins) e m
-  unfolding isEntry isTarget isLater
+  to-plain : every (isBuilderEntry s e) m ≡ true → every (isLater e) m ≡ true → Plain (s .atoms) (s .joins) e m
+  unfolding isBuilderEntry isTarget isLater
   to-plain all late =
       record {
         source = λ i l. ltb-true _ _ (first (ltb (sourceAt e i) (s .atoms)) _ (at i l));
-        kind = λ i l. kind-code (kindAt e i) (first (isKind (kindOf (kindAt e i))) _ (second (ltb (sourceAt e i) (s .atoms)) _ (at i l)));
+        kind = λ i l. kind-code (entryKindAt e i) (first (isKind (kindOf (entryKindAt e i))) _ (second (ltb (sourceAt e i) (s .atoms)) _ (at i l)));
         target = λ i l u. ltb-true _ _ (subst (λ (q : Bool). pick q (ltb (targetAt e i) (s .atoms)) (ltb (targetAt e i - unclosed) (s .joins)) ≡ true) (lt-ltb (targetAt e i) unclosed u) (third i l));
         waits = λ i l u. let z = ltb-true (targetAt e i - unclosed) (s .joins) (subst (λ (q : Bool). pick q (ltb (targetAt e i) (s .atoms)) (ltb (targetAt e i - unclosed) (s .joins)) ≡ true) (le-ltb (targetAt e i) unclosed u) (third i l)) in omega (arith, z, u);
         later = λ i l u. leb-true _ _ (subst (λ (q : Bool). pick q (leb (leastOpen e i) (targetAt e i)) true ≡ true) (le-leb unclosed (targetAt e i) u) (every-at (isLater e) m i late l));
       }
     where
-      at : (i : ℕ) → i < m → isEntry s e i ≡ true
-      at i l = every-at (isEntry s e) m i all l
+      at : (i : ℕ) → i < m → isBuilderEntry s e i ≡ true
+      at i l = every-at (isBuilderEntry s e) m i all l
 
       third : (i : ℕ) → i < m → isTarget s (targetAt e i) ≡ true
-      third i l = second (isKind (kindOf (kindAt e i))) _ (second (ltb (sourceAt e i) (s .atoms)) _ (at i l))
+      third i l = second (isKind (kindOf (entryKindAt e i))) _ (second (ltb (sourceAt e i) (s .atoms)) _ (at i l))
 
-  of-plain : Plain (s .atoms) (s .joins) e m → (i : ℕ) → i < m → isEntry s e i ≡ true
-  unfolding isEntry isTarget
+  of-plain : Plain (s .atoms) (s .joins) e m → (i : ℕ) → i < m → isBuilderEntry s e i ≡ true
+  unfolding isBuilderEntry isTarget
   of-plain h i l =
       all-two (ltb (sourceAt e i) (s .atoms)) _ (lt-ltb _ _ (h .source i l))
-      (all-two (isKind (kindOf (kindAt e i))) _ (ap (λ (c : ℕ). isKind (kindOf c)) (h .kind i l .1) ∙ code-kind (h .kind i l .0)) (go (ltb (targetAt e i) unclosed) refl))
+      (all-two (isKind (kindOf (entryKindAt e i))) _ (ap (λ (c : ℕ). isKind (kindOf c)) (h .kind i l .1) ∙ code-kind (h .kind i l .0)) (go (ltb (targetAt e i) unclosed) refl))
     where
       go : (q : Bool) → ltb (targetAt e i) unclosed ≡ q → pick q (ltb (targetAt e i) (s .atoms)) (ltb (targetAt e i - unclosed) (s .joins)) ≡ true
       go true is = lt-ltb _ _ (h .target i l (ltb-true _ _ is))
@@ -122,22 +122,22 @@ module _ (s : Builder) (e : List ℕ) (m : ℕ) where
     low : sourceAt e i < unclosed
     low = omega (arith, h .source i l)
 
-    alike : targetAt e i < unclosed → bondsFrom e (sourceAt e i) (kindAt e i) (targetAt e i) m ≡ bondsFrom e (targetAt e i) (turnedOf (kindOf (kindAt e i))) (sourceAt e i) m
+    alike : targetAt e i < unclosed → bondsCounted e (sourceAt e i) (entryKindAt e i) (targetAt e i) m ≡ bondsCounted e (targetAt e i) (turnedOf (kindOf (entryKindAt e i))) (sourceAt e i) m
     alike u =
-        subst (λ (c : ℕ). bondsFrom e (sourceAt e i) c (targetAt e i) m ≡ bondsFrom e (targetAt e i) (turnedOf (kindOf c)) (sourceAt e i) m) (sym (h .kind i l .1))
-        (p .ends (sourceAt e i) (targetAt e i) k low u ∙ ap (λ (c : ℕ). bondsFrom e (targetAt e i) c (sourceAt e i) m) (sym (turned-code k)))
+        subst (λ (c : ℕ). bondsCounted e (sourceAt e i) c (targetAt e i) m ≡ bondsCounted e (targetAt e i) (turnedOf (kindOf c)) (sourceAt e i) m) (sym (h .kind i l .1))
+        (p .ends (sourceAt e i) (targetAt e i) k low u ∙ ap (λ (c : ℕ). bondsCounted e (targetAt e i) c (sourceAt e i) m) (sym (turned-code k)))
 
-    twice : also (eqb (sourceAt e i) (targetAt e i)) (eqb (kindAt e i) (turnedOf (kindOf (kindAt e i)))) ≡ true → bondsFrom e (sourceAt e i) (kindAt e i) (targetAt e i) m % 2 ≡ 0
+    twice : also (eqb (sourceAt e i) (targetAt e i)) (eqb (entryKindAt e i) (turnedOf (kindOf (entryKindAt e i)))) ≡ true → bondsCounted e (sourceAt e i) (entryKindAt e i) (targetAt e i) m % 2 ≡ 0
     twice own =
         let st : sourceAt e i ≡ targetAt e i = eqb-true _ _ (first (eqb (sourceAt e i) (targetAt e i)) _ own) in
-        let kk : kindAt e i ≡ turnedOf (kindOf (kindAt e i)) = eqb-true _ _ (second (eqb (sourceAt e i) (targetAt e i)) _ own) in
+        let kk : entryKindAt e i ≡ turnedOf (kindOf (entryKindAt e i)) = eqb-true _ _ (second (eqb (sourceAt e i) (targetAt e i)) _ own) in
         let back : reverseOf k ≡ k = same-code (reverseOf k) k (sym (sym (h .kind i l .1) ∙ kk ∙ ap (λ (c : ℕ). turnedOf (kindOf c)) (h .kind i l .1) ∙ turned-code k)) in
-        subst (λ (t : ℕ). bondsFrom e (sourceAt e i) (kindAt e i) t m % 2 ≡ 0) st
-        (subst (λ (c : ℕ). bondsFrom e (sourceAt e i) c (sourceAt e i) m % 2 ≡ 0) (sym (h .kind i l .1)) (p .even (sourceAt e i) k low back))
+        subst (λ (t : ℕ). bondsCounted e (sourceAt e i) (entryKindAt e i) t m % 2 ≡ 0) st
+        (subst (λ (c : ℕ). bondsCounted e (sourceAt e i) c (sourceAt e i) m % 2 ≡ 0) (sym (h .kind i l .1)) (p .even (sourceAt e i) k low back))
 
-    go : (q : Bool) → leb unclosed (targetAt e i) ≡ q → pick q true (isMatched (also (eqb (sourceAt e i) (targetAt e i)) (eqb (kindAt e i) (turnedOf (kindOf (kindAt e i))))) (bondsFrom e (sourceAt e i) (kindAt e i) (targetAt e i) m) (bondsFrom e (targetAt e i) (turnedOf (kindOf (kindAt e i))) (sourceAt e i) m)) ≡ true
+    go : (q : Bool) → leb unclosed (targetAt e i) ≡ q → pick q true (isMatched (also (eqb (sourceAt e i) (targetAt e i)) (eqb (entryKindAt e i) (turnedOf (kindOf (entryKindAt e i))))) (bondsCounted e (sourceAt e i) (entryKindAt e i) (targetAt e i) m) (bondsCounted e (targetAt e i) (turnedOf (kindOf (entryKindAt e i))) (sourceAt e i) m)) ≡ true
     go true is = refl
-    go false is = to-matched (also (eqb (sourceAt e i) (targetAt e i)) (eqb (kindAt e i) (turnedOf (kindOf (kindAt e i))))) _ _ (alike (leb-false _ _ is)) twice
+    go false is = to-matched (also (eqb (sourceAt e i) (targetAt e i)) (eqb (entryKindAt e i) (turnedOf (kindOf (entryKindAt e i))))) _ _ (alike (leb-false _ _ is)) twice
 
 -- ---- ring numbers
 module _ (s : Builder) (e r : List ℕ) where
@@ -174,13 +174,13 @@ pub record Holds (b : Bld) : Type 0 where
   pub keeps : KeepsOf b
   pub failing : Failing (b .st)
 
-rooms : (s : Builder) (la le lp lr : ℕ) → countsStand s la le lp lr ≡ true → (s .places ≤ lp) × (numbers ≤ lr)
+rooms : (s : Builder) (la le lp lr : ℕ) → countsStand s la le lp lr ≡ true → (s .places ≤ lp) × (ringNumberCount ≤ lr)
 unfolding countsStand
 rooms s la le lp lr h1 =
     let h2 = second (eqb (s .places) (placesIn la)) _ h1 in
-    let h3 = second (eqb (s .slots) (slotsIn le)) _ h2 in
+    let h3 = second (eqb (s .slots) (entrySlotsIn le)) _ h2 in
     let h4 = second (leb (s .places) lp) _ h3 in
-    (leb-true _ _ (first (leb (s .places) lp) _ h3), leb-true _ _ (first (leb numbers lr) _ h4))
+    (leb-true _ _ (first (leb (s .places) lp) _ h3), leb-true _ _ (first (leb ringNumberCount lr) _ h4))
 
 to-failing : (s : Builder) → failureStands s ≡ true → Failing s
 unfolding failureStands
@@ -204,15 +204,15 @@ holds b h =
     let told = countsStand s (length (b .atoms)) (length e) (length (b .path)) (length (b .rings)) in
     let h1 = second told _ h in
     let h2 = second (every (isAtom (b .atoms)) (s .atoms)) _ h1 in
-    let h3 = second (every (isEntry s e) m) _ h2 in
+    let h3 = second (every (isBuilderEntry s e) m) _ h2 in
     let h4 = second (every (isPaired e m) m) _ h3 in
     let h5 = second (every (isLater e) m) _ h4 in
     let h6 = second (every (isStep s (b .path)) (s .top)) _ h5 in
-    let h7 = second (every (isRing s e (b .rings)) numbers) _ h6 in
+    let h7 = second (every (isRing s e (b .rings)) ringNumberCount) _ h6 in
     let c = counts s (length (b .atoms)) (length e) (length (b .path)) (length (b .rings)) (first told _ h) in
     let w = rooms s (length (b .atoms)) (length e) (length (b .path)) (length (b .rings)) (first told _ h) in
     let paired = first (every (isPaired e m) m) _ h3 in
-    let ring = first (every (isRing s e (b .rings)) numbers) _ h6 in
+    let ring = first (every (isRing s e (b .rings)) ringNumberCount) _ h6 in
     record {
       keeps = record {
         places-is = c .places-is;
@@ -227,18 +227,18 @@ holds b h =
         listed = c .entries;
         short = c .top;
         atoms = λ i l. every-at (isAtom (b .atoms)) (s .atoms) i (first (every (isAtom (b .atoms)) (s .atoms)) _ h1) l;
-        plain = to-plain s e m (first (every (isEntry s e) m) _ h2) (first (every (isLater e) m) _ h4);
+        plain = to-plain s e m (first (every (isBuilderEntry s e) m) _ h2) (first (every (isLater e) m) _ h4);
         pairs = record { ends = both-ends e m paired; even = even-ends e m paired };
         steps = λ i l. ltb-true _ _ (every-at (isStep s (b .path)) (s .top) i (first (every (isStep s (b .path)) (s .top)) _ h5) l);
         each = λ i l z.
-            let t = ring-at s e (b .rings) i (every-at (isRing s e (b .rings)) numbers i ring l) z in
+            let t = ring-at s e (b .rings) i (every-at (isRing s e (b .rings)) ringNumberCount i ring l) z in
             (leb-true _ _ (first (leb (getD (b .rings) i 0) m) _ t), leb-true _ _ (first (leb unclosed (targetAt e (getD (b .rings) i 0 - 1))) _ (second (leb (getD (b .rings) i 0) m) _ t)));
         apart = λ i k l u z.
-            let t = ring-at s e (b .rings) k (every-at (isRing s e (b .rings)) numbers k ring u) z in
+            let t = ring-at s e (b .rings) k (every-at (isRing s e (b .rings)) ringNumberCount k ring u) z in
             ring-apart s e (b .rings) k i (every-at (isApart (b .rings) k) k i (second (leb unclosed (targetAt e (getD (b .rings) k 0 - 1))) _ (second (leb (getD (b .rings) k 0) m) _ t)) l);
-        few = leb-true _ _ (first (leb (s .joins + openRings (b .rings) numbers) (m * 2)) _ h7);
+        few = leb-true _ _ (first (leb (s .joins + openRings (b .rings) ringNumberCount) (m * 2)) _ h7);
       };
-      failing = to-failing s (second (leb (s .joins + openRings (b .rings) numbers) (m * 2)) _ h7);
+      failing = to-failing s (second (leb (s .joins + openRings (b .rings) ringNumberCount) (m * 2)) _ h7);
     }
 
 pub stands : (b : Bld) → Holds b → isState b ≡ true
@@ -250,23 +250,23 @@ stands b w =
     let h = w .keeps in
     all-two (countsStand s (length (b .atoms)) (length e) (length (b .path)) (length (b .rings))) _
     (all-two (eqb (s .places) (placesIn (length (b .atoms)))) _ (eq-eqb _ _ (h .places-is))
-    (all-two (eqb (s .slots) (slotsIn (length e))) _ (eq-eqb _ _ (h .slots-is))
+    (all-two (eqb (s .slots) (entrySlotsIn (length e))) _ (eq-eqb _ _ (h .slots-is))
     (all-two (leb (s .places) (length (b .path))) _ (le-leb _ _ (h .path-room))
-    (all-two (leb numbers (length (b .rings))) _ (le-leb _ _ (h .ring-room))
+    (all-two (leb ringNumberCount (length (b .rings))) _ (le-leb _ _ (h .ring-room))
     (all-two (leb (s .atoms) (s .places)) _ (le-leb _ _ (h .within))
     (all-two (leb (s .entries) (s .slots)) _ (le-leb _ _ (h .listed))
     (le-leb (s .top) (s .atoms) (h .short))))))))
     (all-two (every (isAtom (b .atoms)) (s .atoms)) _ (every-all (isAtom (b .atoms)) (s .atoms) (h .atoms))
-    (all-two (every (isEntry s e) m) _ (every-all (isEntry s e) m (of-plain s e m (h .plain)))
+    (all-two (every (isBuilderEntry s e) m) _ (every-all (isBuilderEntry s e) m (of-plain s e m (h .plain)))
     (all-two (every (isPaired e m) m) _ (every-all (isPaired e m) m (of-pairs s e m (h .plain) (h .pairs) (omega (arith, h .within, h .most-places))))
     (all-two (every (isLater e) m) _ (every-all (isLater e) m (of-later s e m (h .plain)))
     (all-two (every (isStep s (b .path)) (s .top)) _ (every-all (isStep s (b .path)) (s .top) (λ i l. lt-ltb _ _ (h .steps i l)))
-    (all-two (every (isRing s e (b .rings)) numbers) _ (every-all (isRing s e (b .rings)) numbers (λ n l. of-ring s e (b .rings) n (h .each n l) (λ i u z. h .apart i n u l z)))
-    (all-two (leb (s .joins + openRings (b .rings) numbers) (m * 2)) _ (le-leb _ _ (h .few))
+    (all-two (every (isRing s e (b .rings)) ringNumberCount) _ (every-all (isRing s e (b .rings)) ringNumberCount (λ n l. of-ring s e (b .rings) n (h .each n l) (λ i u z. h .apart i n u l z)))
+    (all-two (leb (s .joins + openRings (b .rings) ringNumberCount) (m * 2)) _ (le-leb _ _ (h .few))
     (of-failing s (w .failing)))))))))
 
 -- so few of each that no sum with them wraps
-pub small : (b : Bld) → Holds b → Small (b .st)
+pub small : (b : Bld) → Holds b → SmallCounts (b .st)
 small b w =
     let h = w .keeps in
     record {
@@ -282,10 +282,10 @@ abbrev RangeKept : Inverted → Type 0
 RangeKept Refused = Unit {0}
 RangeKept (Turned t) = inRange t ≡ true
 
-marked-range : (b : BracketAtom) (c : ℕ) → c ≤ th2 → inRange (Bracket b) ≡ true → inRange (Bracket (marked b c)) ≡ true
+marked-range : (b : BracketAtom) (c : ℕ) → c ≤ th2 → inRange (Bracket b) ≡ true → inRange (Bracket (withConfiguration b c)) ≡ true
 marked-range b c l h =
     let g = good (Bracket b) h in
-    ranged (Bracket (marked b c))
+    ranged (Bracket (withConfiguration b c))
     (record { isotope = g .isotope; symbol = g .symbol; configuration = omega arith; hydrogens = g .hydrogens; charge = g .charge; map = g .map })
 
 invert-range : (k : AtomKind) → inRange k ≡ true → RangeKept (invertOf k)
@@ -370,7 +370,7 @@ module _ (b : Bld) (h : Holds b) where
       (λ f. extended-holds c (invertOf k) (invert-range k ok) (eqb-false _ _ z) (leb-false _ _ r) (ltb-false _ _ f))))
 
   -- ring numbers
-  module _ (n : ℕ) (below : n < numbers) (some : b .st .top ≢ 0) where
+  module _ (n : ℕ) (below : n < ringNumberCount) (some : b .st .top ≢ 0) where
     opened-holds : (c : BondKind) → getD (b .rings) n 0 ≡ 0 → b .st .entries + 1 ≤ b .st .slots → Holds (openedOf b c n)
     unfolding openedOf
     opened-holds c free fits =
@@ -399,7 +399,7 @@ module _ (b : Bld) (h : Holds b) where
           failing = h .failing;
         })
 
-  pub join-holds : (c : BondKind) (n place : ℕ) → n < numbers → Holds (joinOf b c n place)
+  pub join-holds : (c : BondKind) (n place : ℕ) → n < ringNumberCount → Holds (joinOf b c n place)
   unfolding joinOf
   join-holds c n place below =
       by-test Holds (eqb (b .st .top) 0) (λ e. refuse-holds _ 0)

@@ -18,15 +18,15 @@ use Rattle.feature.specs.declared.bond_kind.BondKind.{BondKind}
 use Rattle.feature.specs.declared.bond_kind.BondKind.the-variants as bonds
 use Rattle.builder.specs.Limits.{atomLimit, bondLimit}
 use Rattle.builder.specs.State.{unclosed}
-use Rattle.desk_state.specs.Standing.{also, sourceAt, kindAt, targetAt, bondsFrom, turnedOf, isOwn, isMatched, isPaired}
-use Rattle.desk_state.specs.Chains.{isOf, lastAt, Linked, kinds, cellOf, Within, Sound, ownAt, outCell, backCell, moreOf, putOf, canTake, takeOf, valAt, Laid, Taken, Blank, Good}
+use Rattle.desk_state.specs.Standing.{also, sourceAt, entryKindAt, targetAt, bondsCounted, turnedOf, isOwn, isMatched, isPaired}
+use Rattle.desk_state.specs.Chains.{isOf, lastAt, Linked, bondKindCount, cellOf, HasCount, Sound, ownAt, outCell, backCell, moreOf, putOf, canTake, takeOf, valAt, CountedAfter, Taken, NoneCounted, BondsMatch}
 use Rattle.desk_state.proofs.Counts.{no, first, second}
 use Rattle.desk_state.proofs.Ends.{turned-code, reverse-twice, to-matched}
 use Rattle.desk_state.proofs.Grown.{by-eq, same-code}
 use Rattle.desk_state.proofs.Links.{last-le, last-same, last-is, word-source, of-closed, IsBond, adds, adds-one, adds-none, count-suc, count-zero, count-most, out-last, back-last}
 
 -- ---- cells
-pub code-most : (k : BondKind) → (1 ≤ codeOf k) × (codeOf k ≤ kinds)
+pub code-most : (k : BondKind) → (1 ≤ codeOf k) × (codeOf k ≤ bondKindCount)
 unfolding codeOf
 code-most bonds.Elided = (omega arith, omega arith)
 code-most bonds.Single = (omega arith, omega arith)
@@ -37,7 +37,7 @@ code-most bonds.Aromatic = (omega arith, omega arith)
 code-most bonds.Up = (omega arith, omega arith)
 code-most bonds.Down = (omega arith, omega arith)
 
-cells-differ : (t u x y : ℕ) → 1 ≤ x → x ≤ kinds → 1 ≤ y → y ≤ kinds → cellOf t x ≡ cellOf u y → (t ≡ u) × (x ≡ y)
+cells-differ : (t u x y : ℕ) → 1 ≤ x → x ≤ bondKindCount → 1 ≤ y → y ≤ bondKindCount → cellOf t x ≡ cellOf u y → (t ≡ u) × (x ≡ y)
 cells-differ t u x y a b c d e = (omega arith, omega arith)
 
 same-cell : (t u : ℕ) (j k : BondKind) → cellOf t (codeOf j) ≡ cellOf u (codeOf k) → (t ≡ u) × (j ≡ k)
@@ -45,7 +45,7 @@ same-cell t u j k e =
     let z = cells-differ t u (codeOf j) (codeOf k) (code-most j .0) (code-most j .1) (code-most k .0) (code-most k .1) e in
     (z .0, same-code j k (z .1))
 
-in-room : (size t : ℕ) (k : BondKind) → Within size t → cellOf t (codeOf k) < size
+in-room : (size t : ℕ) (k : BondKind) → HasCount size t → cellOf t (codeOf k) < size
 in-room size t k w = omega (arith, w .1, code-most k .1)
 
 -- ---- bonds that are their own reverse
@@ -70,10 +70,10 @@ own-back a t k not = go (isOwn t (codeOf (reverseOf k)) a) refl where
 -- ---- entries that are not paired
 module _ (e : List ℕ) (n i : ℕ) (below : i < n) (closed : targetAt e i < unclosed) where
   abbrev here : ℕ
-  here = bondsFrom e (sourceAt e i) (kindAt e i) (targetAt e i) n
+  here = bondsCounted e (sourceAt e i) (entryKindAt e i) (targetAt e i) n
 
   abbrev there : ℕ
-  there = bondsFrom e (targetAt e i) (turnedOf (kindOf (kindAt e i))) (sourceAt e i) n
+  there = bondsCounted e (targetAt e i) (turnedOf (kindOf (entryKindAt e i))) (sourceAt e i) n
 
   unpaired : here ≢ there → isPaired e n i ≡ false
   unfolding isPaired isMatched
@@ -96,14 +96,14 @@ paired-open : (e : List ℕ) (n i : ℕ) → unclosed ≤ targetAt e i → isPai
 unfolding isPaired
 paired-open e n i u = rw (le-leb unclosed (targetAt e i) u) refl
 
-paired-closed : (e : List ℕ) (n i : ℕ) → targetAt e i < unclosed → isMatched (isOwn (sourceAt e i) (kindAt e i) (targetAt e i)) (bondsFrom e (sourceAt e i) (kindAt e i) (targetAt e i) n) (bondsFrom e (targetAt e i) (turnedOf (kindOf (kindAt e i))) (sourceAt e i) n) ≡ true → isPaired e n i ≡ true
+paired-closed : (e : List ℕ) (n i : ℕ) → targetAt e i < unclosed → isMatched (isOwn (sourceAt e i) (entryKindAt e i) (targetAt e i)) (bondsCounted e (sourceAt e i) (entryKindAt e i) (targetAt e i) n) (bondsCounted e (targetAt e i) (turnedOf (kindOf (entryKindAt e i))) (sourceAt e i) n) ≡ true → isPaired e n i ≡ true
 unfolding isPaired
 paired-closed e n i l m = rw (lt-leb unclosed (targetAt e i) l) m
 
 -- nothing is left of the entries from a but of the first p
 abbrev pub Level : List ℕ → ℕ → ℕ → ℕ → List ℕ → Type 0
 Level e n a p d =
-    (t : ℕ) (k : BondKind) → Within (length d) t → bondsFrom e a (codeOf k) t p < bondsFrom e a (codeOf k) t n → valAt d t k ≡ 0
+    (t : ℕ) (k : BondKind) → HasCount (length d) t → bondsCounted e a (codeOf k) t p < bondsCounted e a (codeOf k) t n → valAt d t k ≡ 0
 
 -- ---- along a chain
 -- where a walk stands: at the last entry of its atom among the first p
@@ -136,15 +136,15 @@ stands-next e column a n i head next {p} h s is =
 
 -- ---- the entries from a
 module _ (e : List ℕ) (n a : ℕ) (d : List ℕ) (sound : Sound e n (length d)) where
-  pub laid-first : (p : ℕ) → p ≡ lastAt e 0 a n → Blank d → Laid e n a p d
+  pub laid-first : (p : ℕ) → p ≡ lastAt e 0 a n → NoneCounted d → CountedAfter e n a p d
   laid-first p is blank =
       record {
         own = λ t k w o. let z = start t k (w .0) in omega (arith, blank t k w, z);
         other = λ t k w o. omega (arith, blank t k w, start t k (w .0));
       }
     where
-      start : (t : ℕ) (k : BondKind) → t < atomLimit → bondsFrom e a (codeOf k) t p ≡ bondsFrom e a (codeOf k) t n
-      start t k l = ap (bondsFrom e a (codeOf k) t) is ∙ out-last e a (codeOf k) t n (omega arith)
+      start : (t : ℕ) (k : BondKind) → t < atomLimit → bondsCounted e a (codeOf k) t p ≡ bondsCounted e a (codeOf k) t n
+      start t k l = ap (bondsCounted e a (codeOf k) t) is ∙ out-last e a (codeOf k) t n (omega arith)
 
   module _ (i : ℕ) (entry : Entry e 0 a n i) where
     source-is : sourceAt e i ≡ a
@@ -153,13 +153,13 @@ module _ (e : List ℕ) (n a : ℕ) (d : List ℕ) (sound : Sound e n (length d)
     abbrev k : BondKind
     k = sound .kind i (entry .below) .0
 
-    kind-is : kindAt e i ≡ codeOf k
+    kind-is : entryKindAt e i ≡ codeOf k
     kind-is = sound .kind i (entry .below) .1
 
     abbrev t : ℕ
     t = targetAt e i
 
-    target-in : Within (length d) t
+    target-in : HasCount (length d) t
     target-in = sound .ends i (entry .below) (entry .closed) .1
 
     cell-is : outCell e i ≡ cellOf t (codeOf k)
@@ -169,15 +169,15 @@ module _ (e : List ℕ) (n a : ℕ) (d : List ℕ) (sound : Sound e n (length d)
     bond = record { source = source-is; kind = kind-is; target = refl }
 
     own-is : ownAt e i ≡ isOwn a (codeOf k) t
-    own-is = ap (λ (s : ℕ). isOwn s (kindAt e i) t) source-is ∙ ap (λ (c : ℕ). isOwn a c t) kind-is
+    own-is = ap (λ (s : ℕ). isOwn s (entryKindAt e i) t) source-is ∙ ap (λ (c : ℕ). isOwn a c t) kind-is
 
-    here-is : bondsFrom e (sourceAt e i) (kindAt e i) (targetAt e i) n ≡ bondsFrom e a (codeOf k) t n
-    here-is = ap (λ (s : ℕ). bondsFrom e s (kindAt e i) t n) source-is ∙ ap (λ (c : ℕ). bondsFrom e a c t n) kind-is
+    here-is : bondsCounted e (sourceAt e i) (entryKindAt e i) (targetAt e i) n ≡ bondsCounted e a (codeOf k) t n
+    here-is = ap (λ (s : ℕ). bondsCounted e s (entryKindAt e i) t n) source-is ∙ ap (λ (c : ℕ). bondsCounted e a c t n) kind-is
 
-    there-is : bondsFrom e (targetAt e i) (turnedOf (kindOf (kindAt e i))) (sourceAt e i) n ≡ bondsFrom e t (codeOf (reverseOf k)) a n
+    there-is : bondsCounted e (targetAt e i) (turnedOf (kindOf (entryKindAt e i))) (sourceAt e i) n ≡ bondsCounted e t (codeOf (reverseOf k)) a n
     there-is =
-        ap (λ (s : ℕ). bondsFrom e t (turnedOf (kindOf (kindAt e i))) s n) source-is
-        ∙ ap (λ (c : ℕ). bondsFrom e t c a n) (ap (λ (c : ℕ). turnedOf (kindOf c)) kind-is ∙ turned-code k)
+        ap (λ (s : ℕ). bondsCounted e t (turnedOf (kindOf (entryKindAt e i))) s n) source-is
+        ∙ ap (λ (c : ℕ). bondsCounted e t c a n) (ap (λ (c : ℕ). turnedOf (kindOf c)) kind-is ∙ turned-code k)
 
     -- another cell is not its
     other-cell : (u : ℕ) (j : BondKind) → cellOf u (codeOf j) ≢ outCell e i → adds e a (codeOf j) u i ≡ 0
@@ -185,12 +185,12 @@ module _ (e : List ℕ) (n a : ℕ) (d : List ℕ) (sound : Sound e n (length d)
         adds-none e a (codeOf j) u i (λ b. ne (ap (λ (x : ℕ). cellOf x (codeOf j)) (sym (b .target)) ∙ ap (cellOf t) (sym (b .kind))))
 
     -- the counts before it, and after it
-    step : (u : ℕ) (j : BondKind) (p : ℕ) → u < atomLimit → p ≡ lastAt e 0 a i → bondsFrom e a (codeOf j) u (suc i) ≡ bondsFrom e a (codeOf j) u p + adds e a (codeOf j) u i
+    step : (u : ℕ) (j : BondKind) (p : ℕ) → u < atomLimit → p ≡ lastAt e 0 a i → bondsCounted e a (codeOf j) u (suc i) ≡ bondsCounted e a (codeOf j) u p + adds e a (codeOf j) u i
     step u j p l is =
         count-suc e a (codeOf j) u i
-        ∙ ap (λ (x : ℕ). x + adds e a (codeOf j) u i) (sym (ap (bondsFrom e a (codeOf j) u) is ∙ out-last e a (codeOf j) u i (omega arith)))
+        ∙ ap (λ (x : ℕ). x + adds e a (codeOf j) u i) (sym (ap (bondsCounted e a (codeOf j) u) is ∙ out-last e a (codeOf j) u i (omega arith)))
 
-    pub put-fits : Laid e n a (suc i) d → getD d (outCell e i) 0 < bondLimit
+    pub put-fits : CountedAfter e n a (suc i) d → getD d (outCell e i) 0 < bondLimit
     put-fits h = go (isOwn a (codeOf k) t) refl where
       v : getD d (outCell e i) 0 ≡ valAt d t k
       v = ap (λ (x : ℕ). getD d x 0) cell-is
@@ -211,7 +211,7 @@ module _ (e : List ℕ) (n a : ℕ) (d : List ℕ) (sound : Sound e n (length d)
     unfolding moreOf
     more-other v = refl
 
-    module _ (h : Laid e n a (suc i) d) (p : ℕ) (next : p ≡ lastAt e 0 a i) where
+    module _ (h : CountedAfter e n a (suc i) d) (p : ℕ) (next : p ≡ lastAt e 0 a i) where
       abbrev after : ℕ
       after = moreOf (ownAt e i) (getD d (outCell e i) 0)
 
@@ -221,7 +221,7 @@ module _ (e : List ℕ) (n a : ℕ) (d : List ℕ) (sound : Sound e n (length d)
       size : length d' ≡ length d
       size = length-set d (outCell e i) after
 
-      in-d : (u : ℕ) → Within (length d') u → Within (length d) u
+      in-d : (u : ℕ) → HasCount (length d') u → HasCount (length d) u
       in-d u w = (w .0, omega (arith, w .1, size))
 
       there-val : valAt d' t k ≡ moreOf (isOwn a (codeOf k) t) (valAt d t k)
@@ -234,32 +234,32 @@ module _ (e : List ℕ) (n a : ℕ) (d : List ℕ) (sound : Sound e n (length d)
       else-val : (u : ℕ) (j : BondKind) → cellOf u (codeOf j) ≢ outCell e i → valAt d' u j ≡ valAt d u j
       else-val u j ne = getD-set-other d (outCell e i) (cellOf u (codeOf j)) after 0 ne
 
-      laid-own : (u : ℕ) (j : BondKind) → Within (length d) u → isOwn a (codeOf j) u ≡ true → valAt d' u j ≡ (bondsFrom e a (codeOf j) u n + bondsFrom e a (codeOf j) u p) % 2
+      laid-own : (u : ℕ) (j : BondKind) → HasCount (length d) u → isOwn a (codeOf j) u ≡ true → valAt d' u j ≡ (bondsCounted e a (codeOf j) u n + bondsCounted e a (codeOf j) u p) % 2
       laid-own u j w o =
           by-eq (cellOf u (codeOf j)) (outCell e i)
           (λ c. let z = same-cell u t j k (c ∙ cell-is) in
           let o' : isOwn a (codeOf k) t ≡ true = ap (λ (x : ℕ). isOwn a (codeOf k) x) (sym (z .0)) ∙ ap (λ (x : BondKind). isOwn a (codeOf x) u) (sym (z .1)) ∙ o in
-          let s : bondsFrom e a (codeOf k) t (suc i) ≡ bondsFrom e a (codeOf k) t p + 1 = step t k p (target-in .0) next ∙ ap (λ (x : ℕ). bondsFrom e a (codeOf k) t p + x) (adds-one e a (codeOf k) t i bond) in
-          let r : valAt d' t k ≡ (bondsFrom e a (codeOf k) t n + bondsFrom e a (codeOf k) t p) % 2 = there-val ∙ ap (λ (q : Bool). moreOf q (valAt d t k)) o' ∙ more-own (valAt d t k) (bondsFrom e a (codeOf k) t n) (bondsFrom e a (codeOf k) t p) (h .own t k target-in o' ∙ ap (λ (x : ℕ). (bondsFrom e a (codeOf k) t n + x) % 2) s) in
-          subst (λ (x : ℕ). valAt d' x j ≡ (bondsFrom e a (codeOf j) x n + bondsFrom e a (codeOf j) x p) % 2) (sym (z .0))
-          (subst (λ (x : BondKind). valAt d' t x ≡ (bondsFrom e a (codeOf x) t n + bondsFrom e a (codeOf x) t p) % 2) (sym (z .1)) r))
-          (λ c. else-val u j c ∙ h .own u j w o ∙ ap (λ (x : ℕ). (bondsFrom e a (codeOf j) u n + x) % 2) (step u j p (w .0) next ∙ plus-none (bondsFrom e a (codeOf j) u p) _ (other-cell u j c)))
+          let s : bondsCounted e a (codeOf k) t (suc i) ≡ bondsCounted e a (codeOf k) t p + 1 = step t k p (target-in .0) next ∙ ap (λ (x : ℕ). bondsCounted e a (codeOf k) t p + x) (adds-one e a (codeOf k) t i bond) in
+          let r : valAt d' t k ≡ (bondsCounted e a (codeOf k) t n + bondsCounted e a (codeOf k) t p) % 2 = there-val ∙ ap (λ (q : Bool). moreOf q (valAt d t k)) o' ∙ more-own (valAt d t k) (bondsCounted e a (codeOf k) t n) (bondsCounted e a (codeOf k) t p) (h .own t k target-in o' ∙ ap (λ (x : ℕ). (bondsCounted e a (codeOf k) t n + x) % 2) s) in
+          subst (λ (x : ℕ). valAt d' x j ≡ (bondsCounted e a (codeOf j) x n + bondsCounted e a (codeOf j) x p) % 2) (sym (z .0))
+          (subst (λ (x : BondKind). valAt d' t x ≡ (bondsCounted e a (codeOf x) t n + bondsCounted e a (codeOf x) t p) % 2) (sym (z .1)) r))
+          (λ c. else-val u j c ∙ h .own u j w o ∙ ap (λ (x : ℕ). (bondsCounted e a (codeOf j) u n + x) % 2) (step u j p (w .0) next ∙ plus-none (bondsCounted e a (codeOf j) u p) _ (other-cell u j c)))
         where
           plus-none : (x y : ℕ) → y ≡ 0 → x + y ≡ x
           plus-none x y z = omega arith
 
-      laid-other : (u : ℕ) (j : BondKind) → Within (length d) u → isOwn a (codeOf j) u ≡ false → valAt d' u j + bondsFrom e a (codeOf j) u p ≡ bondsFrom e a (codeOf j) u n
+      laid-other : (u : ℕ) (j : BondKind) → HasCount (length d) u → isOwn a (codeOf j) u ≡ false → valAt d' u j + bondsCounted e a (codeOf j) u p ≡ bondsCounted e a (codeOf j) u n
       laid-other u j w o =
           by-eq (cellOf u (codeOf j)) (outCell e i)
           (λ c. let z = same-cell u t j k (c ∙ cell-is) in
           let o' : isOwn a (codeOf k) t ≡ false = ap (λ (x : ℕ). isOwn a (codeOf k) x) (sym (z .0)) ∙ ap (λ (x : BondKind). isOwn a (codeOf x) u) (sym (z .1)) ∙ o in
           let v : valAt d' t k ≡ valAt d t k + 1 = there-val ∙ ap (λ (q : Bool). moreOf q (valAt d t k)) o' ∙ more-other (valAt d t k) in
-          let r : valAt d' t k + bondsFrom e a (codeOf k) t p ≡ bondsFrom e a (codeOf k) t n = omega (arith, v, h .other t k target-in o', step t k p (target-in .0) next, adds-one e a (codeOf k) t i bond) in
-          subst (λ (x : ℕ). valAt d' x j + bondsFrom e a (codeOf j) x p ≡ bondsFrom e a (codeOf j) x n) (sym (z .0))
-          (subst (λ (x : BondKind). valAt d' t x + bondsFrom e a (codeOf x) t p ≡ bondsFrom e a (codeOf x) t n) (sym (z .1)) r))
+          let r : valAt d' t k + bondsCounted e a (codeOf k) t p ≡ bondsCounted e a (codeOf k) t n = omega (arith, v, h .other t k target-in o', step t k p (target-in .0) next, adds-one e a (codeOf k) t i bond) in
+          subst (λ (x : ℕ). valAt d' x j + bondsCounted e a (codeOf j) x p ≡ bondsCounted e a (codeOf j) x n) (sym (z .0))
+          (subst (λ (x : BondKind). valAt d' t x + bondsCounted e a (codeOf x) t p ≡ bondsCounted e a (codeOf x) t n) (sym (z .1)) r))
           (λ c. omega (arith, else-val u j c, h .other u j w o, step u j p (w .0) next, other-cell u j c))
 
-      pub laid-next : Laid e n a p (putOf e i d)
+      pub laid-next : CountedAfter e n a p (putOf e i d)
       unfolding putOf
       laid-next = record { own = λ u j w o. laid-own u j (in-d u w) o; other = λ u j w o. laid-other u j (in-d u w) o }
 
@@ -285,19 +285,19 @@ module _ (e : List ℕ) (n a : ℕ) (d : List ℕ) (sound : Sound e n (length d)
 
   pub level-first : {p : ℕ} → p ≡ lastAt e 0 a n → Level e n a p d
   level-first is u j w l =
-      absurd (omega (arith, l, ap (bondsFrom e a (codeOf j) u) is, out-last e a (codeOf j) u n (omega (arith, w .0))))
+      absurd (omega (arith, l, ap (bondsCounted e a (codeOf j) u) is, out-last e a (codeOf j) u n (omega (arith, w .0))))
 
-  pub level-end : Level e n a 0 d → Taken e n a 0 d → Blank d
-  level-end h taken u j w = some (ltb 0 (bondsFrom e a (codeOf j) u n)) refl where
-    none : bondsFrom e a (codeOf j) u n ≤ 0 → (q : Bool) → isOwn a (codeOf j) u ≡ q → valAt d u j ≡ 0
-    none z true o = taken .own u j w o ∙ ap (λ (x : ℕ). x % 2) {x = bondsFrom e a (codeOf j) u n} {y = 0} (omega arith)
+  pub level-end : Level e n a 0 d → Taken e n a 0 d → NoneCounted d
+  level-end h taken u j w = some (ltb 0 (bondsCounted e a (codeOf j) u n)) refl where
+    none : bondsCounted e a (codeOf j) u n ≤ 0 → (q : Bool) → isOwn a (codeOf j) u ≡ q → valAt d u j ≡ 0
+    none z true o = taken .own u j w o ∙ ap (λ (x : ℕ). x % 2) {x = bondsCounted e a (codeOf j) u n} {y = 0} (omega arith)
     none z false o = omega (arith, z, taken .other u j w o, count-zero e u (codeOf (reverseOf j)) a)
 
-    some : (q : Bool) → ltb 0 (bondsFrom e a (codeOf j) u n) ≡ q → valAt d u j ≡ 0
-    some true is = h u j w (omega (arith, ltb-true 0 (bondsFrom e a (codeOf j) u n) is, count-zero e a (codeOf j) u))
+    some : (q : Bool) → ltb 0 (bondsCounted e a (codeOf j) u n) ≡ q → valAt d u j ≡ 0
+    some true is = h u j w (omega (arith, ltb-true 0 (bondsCounted e a (codeOf j) u n) is, count-zero e a (codeOf j) u))
     some false is = none (ltb-false _ _ is) (isOwn a (codeOf j) u) refl
 
-  pub good-from : Taken e n a 0 d → Blank d → Good e n a (length d)
+  pub good-from : Taken e n a 0 d → NoneCounted d → BondsMatch e n a (length d)
   good-from taken blank =
       record {
         own = λ t k w o. sym (taken .own t k w o) ∙ blank t k w;
@@ -306,11 +306,11 @@ module _ (e : List ℕ) (n a : ℕ) (d : List ℕ) (sound : Sound e n (length d)
 
 -- ---- the entries to a
 module _ (e : List ℕ) (n a : ℕ) (d : List ℕ) (sound : Sound e n (length d)) (low : a < atomLimit) where
-  pub taken-first : {p : ℕ} → p ≡ lastAt e 2 a n → Laid e n a 0 d → Taken e n a p d
+  pub taken-first : {p : ℕ} → p ≡ lastAt e 2 a n → CountedAfter e n a 0 d → Taken e n a p d
   taken-first {p} is h =
       record {
-        own = λ t k w o. h .own t k w o ∙ ap (λ (x : ℕ). x % 2) {x = bondsFrom e a (codeOf k) t n + bondsFrom e a (codeOf k) t 0} {y = bondsFrom e a (codeOf k) t n} (omega (arith, count-zero e a (codeOf k) t));
-        other = λ t k w o. omega (arith, h .other t k w o, count-zero e a (codeOf k) t, ap (bondsFrom e t (codeOf (reverseOf k)) a) is, back-last e a (codeOf (reverseOf k)) t n (omega (arith, low)));
+        own = λ t k w o. h .own t k w o ∙ ap (λ (x : ℕ). x % 2) {x = bondsCounted e a (codeOf k) t n + bondsCounted e a (codeOf k) t 0} {y = bondsCounted e a (codeOf k) t n} (omega (arith, count-zero e a (codeOf k) t));
+        other = λ t k w o. omega (arith, h .other t k w o, count-zero e a (codeOf k) t, ap (bondsCounted e t (codeOf (reverseOf k)) a) is, back-last e a (codeOf (reverseOf k)) t n (omega (arith, low)));
       }
 
   module _ (i : ℕ) (entry : Entry e 2 a n i) where
@@ -323,29 +323,29 @@ module _ (e : List ℕ) (n a : ℕ) (d : List ℕ) (sound : Sound e n (length d)
     abbrev c : BondKind
     c = sound .kind i (entry .below) .0
 
-    code-is : kindAt e i ≡ codeOf c
+    code-is : entryKindAt e i ≡ codeOf c
     code-is = sound .kind i (entry .below) .1
 
-    source-in : Within (length d) s
+    source-in : HasCount (length d) s
     source-in = sound .ends i (entry .below) (entry .closed) .0
 
-    turned-is : turnedOf (kindOf (kindAt e i)) ≡ codeOf (reverseOf c)
+    turned-is : turnedOf (kindOf (entryKindAt e i)) ≡ codeOf (reverseOf c)
     turned-is = ap (λ (x : ℕ). turnedOf (kindOf x)) code-is ∙ turned-code c
 
     place-is : backCell e i ≡ cellOf s (codeOf (reverseOf c))
     place-is = ap (cellOf s) turned-is
 
     self-is : ownAt e i ≡ isOwn s (codeOf c) a
-    self-is = ap (λ (x : ℕ). isOwn s (kindAt e i) x) target-is ∙ ap (λ (x : ℕ). isOwn s x a) code-is
+    self-is = ap (λ (x : ℕ). isOwn s (entryKindAt e i) x) target-is ∙ ap (λ (x : ℕ). isOwn s x a) code-is
 
     like : IsBond e s (codeOf c) a i
     like = record { source = refl; kind = code-is; target = target-is }
 
-    like-is : bondsFrom e (sourceAt e i) (kindAt e i) (targetAt e i) n ≡ bondsFrom e s (codeOf c) a n
-    like-is = ap (λ (x : ℕ). bondsFrom e s (kindAt e i) x n) target-is ∙ ap (λ (x : ℕ). bondsFrom e s x a n) code-is
+    like-is : bondsCounted e (sourceAt e i) (entryKindAt e i) (targetAt e i) n ≡ bondsCounted e s (codeOf c) a n
+    like-is = ap (λ (x : ℕ). bondsCounted e s (entryKindAt e i) x n) target-is ∙ ap (λ (x : ℕ). bondsCounted e s x a n) code-is
 
-    unlike-is : bondsFrom e (targetAt e i) (turnedOf (kindOf (kindAt e i))) (sourceAt e i) n ≡ bondsFrom e a (codeOf (reverseOf c)) s n
-    unlike-is = ap (λ (x : ℕ). bondsFrom e x (turnedOf (kindOf (kindAt e i))) s n) target-is ∙ ap (λ (x : ℕ). bondsFrom e a x s n) turned-is
+    unlike-is : bondsCounted e (targetAt e i) (turnedOf (kindOf (entryKindAt e i))) (sourceAt e i) n ≡ bondsCounted e a (codeOf (reverseOf c)) s n
+    unlike-is = ap (λ (x : ℕ). bondsCounted e x (turnedOf (kindOf (entryKindAt e i))) s n) target-is ∙ ap (λ (x : ℕ). bondsCounted e a x s n) turned-is
 
     -- another place is not its
     other-place : (u : ℕ) (j : BondKind) → cellOf u (codeOf j) ≢ backCell e i → adds e u (codeOf (reverseOf j)) a i ≡ 0
@@ -353,10 +353,10 @@ module _ (e : List ℕ) (n a : ℕ) (d : List ℕ) (sound : Sound e n (length d)
         adds-none e u (codeOf (reverseOf j)) a i
         (λ b. ne (ap (λ (x : ℕ). cellOf x (codeOf j)) (sym (b .source)) ∙ ap (cellOf s) (sym (ap (λ (x : ℕ). turnedOf (kindOf x)) (b .kind) ∙ turned-code (reverseOf j) ∙ ap codeOf (reverse-twice j)))))
 
-    back-step : (u : ℕ) (j : BondKind) (p : ℕ) → p ≡ lastAt e 2 a i → bondsFrom e u (codeOf (reverseOf j)) a (suc i) ≡ bondsFrom e u (codeOf (reverseOf j)) a p + adds e u (codeOf (reverseOf j)) a i
+    back-step : (u : ℕ) (j : BondKind) (p : ℕ) → p ≡ lastAt e 2 a i → bondsCounted e u (codeOf (reverseOf j)) a (suc i) ≡ bondsCounted e u (codeOf (reverseOf j)) a p + adds e u (codeOf (reverseOf j)) a i
     back-step u j p is =
         count-suc e u (codeOf (reverseOf j)) a i
-        ∙ ap (λ (x : ℕ). x + adds e u (codeOf (reverseOf j)) a i) (sym (ap (bondsFrom e u (codeOf (reverseOf j)) a) is ∙ back-last e a (codeOf (reverseOf j)) u i (omega (arith, low))))
+        ∙ ap (λ (x : ℕ). x + adds e u (codeOf (reverseOf j)) a i) (sym (ap (bondsCounted e u (codeOf (reverseOf j)) a) is ∙ back-last e a (codeOf (reverseOf j)) u i (omega (arith, low))))
 
     other-own : ownAt e i ≡ false → isOwn a (codeOf (reverseOf c)) s ≡ false
     other-own not = own-back s a c (sym self-is ∙ not)
@@ -364,7 +364,7 @@ module _ (e : List ℕ) (n a : ℕ) (d : List ℕ) (sound : Sound e n (length d)
     pub take-fails : Taken e n a (suc i) d → ownAt e i ≡ false → getD d (backCell e i) 0 ≡ 0 → every (isPaired e n) n ≡ false
     take-fails h not none =
         let v : valAt d s (reverseOf c) ≡ 0 = ap (λ (x : ℕ). getD d x 0) (sym place-is) ∙ none in
-        let twice : (m : ℕ) → bondsFrom e s (codeOf (reverseOf (reverseOf c))) a m ≡ bondsFrom e s (codeOf c) a m = λ m. ap (λ (x : BondKind). bondsFrom e s (codeOf x) a m) (reverse-twice c) in
+        let twice : (m : ℕ) → bondsCounted e s (codeOf (reverseOf (reverseOf c))) a m ≡ bondsCounted e s (codeOf c) a m = λ m. ap (λ (x : BondKind). bondsCounted e s (codeOf x) a m) (reverse-twice c) in
         differ-fails e n i (entry .below) (entry .closed)
         (λ z. omega (arith, v, h .other s (reverseOf c) source-in (other-own not), twice n, twice (suc i), count-suc e s (codeOf c) a i, adds-one e s (codeOf c) a i like, z, like-is, unlike-is))
 
@@ -390,7 +390,7 @@ module _ (e : List ℕ) (n a : ℕ) (d : List ℕ) (sound : Sound e n (length d)
         less-size : length less ≡ length d
         less-size = length-set d (backCell e i) (getD d (backCell e i) 0 - 1)
 
-        in-less : (u : ℕ) → Within (length less) u → Within (length d) u
+        in-less : (u : ℕ) → HasCount (length less) u → HasCount (length d) u
         in-less u w = (w .0, omega (arith, w .1, less-size))
 
         less-else : (u : ℕ) (j : BondKind) → cellOf u (codeOf j) ≢ backCell e i → valAt less u j ≡ valAt d u j
@@ -440,26 +440,26 @@ module _ (e : List ℕ) (n a : ℕ) (d : List ℕ) (sound : Sound e n (length d)
       go false is z = by-held is (eqb (getD d (backCell e i) 0) 0) refl z
 
 -- ---- all atoms
-pub all-good : (e : List ℕ) (n size : ℕ) → Sound e n size → ((i : ℕ) → i < n → targetAt e i < unclosed → Good e n (sourceAt e i) size) → every (isPaired e n) n ≡ true
+pub all-good : (e : List ℕ) (n size : ℕ) → Sound e n size → ((i : ℕ) → i < n → targetAt e i < unclosed → BondsMatch e n (sourceAt e i) size) → every (isPaired e n) n ≡ true
 all-good e n size sound good = every-all (isPaired e n) n (λ i l. paired i l (ltb (targetAt e i) unclosed) refl) where
-  matched : (i : ℕ) → i < n → targetAt e i < unclosed → isMatched (isOwn (sourceAt e i) (kindAt e i) (targetAt e i)) (bondsFrom e (sourceAt e i) (kindAt e i) (targetAt e i) n) (bondsFrom e (targetAt e i) (turnedOf (kindOf (kindAt e i))) (sourceAt e i) n) ≡ true
+  matched : (i : ℕ) → i < n → targetAt e i < unclosed → isMatched (isOwn (sourceAt e i) (entryKindAt e i) (targetAt e i)) (bondsCounted e (sourceAt e i) (entryKindAt e i) (targetAt e i) n) (bondsCounted e (targetAt e i) (turnedOf (kindOf (entryKindAt e i))) (sourceAt e i) n) ≡ true
   matched i l closed =
       let a = sourceAt e i in
       let t = targetAt e i in
       let k = sound .kind i l .0 in
       let w = sound .ends i l closed .1 in
-      subst (λ (x : ℕ). isMatched (isOwn a x t) (bondsFrom e a x t n) (bondsFrom e t (turnedOf (kindOf x)) a n) ≡ true) (sym (sound .kind i l .1))
-      (subst (λ (x : ℕ). isMatched (isOwn a (codeOf k) t) (bondsFrom e a (codeOf k) t n) (bondsFrom e t x a n) ≡ true) (sym (turned-code k))
+      subst (λ (x : ℕ). isMatched (isOwn a x t) (bondsCounted e a x t n) (bondsCounted e t (turnedOf (kindOf x)) a n) ≡ true) (sym (sound .kind i l .1))
+      (subst (λ (x : ℕ). isMatched (isOwn a (codeOf k) t) (bondsCounted e a (codeOf k) t n) (bondsCounted e t x a n) ≡ true) (sym (turned-code k))
       (by-own a t k w (good i l closed) (isOwn a (codeOf k) t) refl))
     where
-      by-own : (a t : ℕ) (k : BondKind) → Within size t → Good e n a size → (q : Bool) → isOwn a (codeOf k) t ≡ q → isMatched (isOwn a (codeOf k) t) (bondsFrom e a (codeOf k) t n) (bondsFrom e t (codeOf (reverseOf k)) a n) ≡ true
+      by-own : (a t : ℕ) (k : BondKind) → HasCount size t → BondsMatch e n a size → (q : Bool) → isOwn a (codeOf k) t ≡ q → isMatched (isOwn a (codeOf k) t) (bondsCounted e a (codeOf k) t n) (bondsCounted e t (codeOf (reverseOf k)) a n) ≡ true
       by-own a t k w g true o =
           let z = own-parts a t k o in
-          to-matched (isOwn a (codeOf k) t) (bondsFrom e a (codeOf k) t n) (bondsFrom e t (codeOf (reverseOf k)) a n)
-          (ap (λ (x : BondKind). bondsFrom e a (codeOf x) t n) (sym (z .1)) ∙ ap (λ (x : ℕ). bondsFrom e x (codeOf (reverseOf k)) t n) (z .0) ∙ ap (λ (x : ℕ). bondsFrom e t (codeOf (reverseOf k)) x n) (sym (z .0)))
+          to-matched (isOwn a (codeOf k) t) (bondsCounted e a (codeOf k) t n) (bondsCounted e t (codeOf (reverseOf k)) a n)
+          (ap (λ (x : BondKind). bondsCounted e a (codeOf x) t n) (sym (z .1)) ∙ ap (λ (x : ℕ). bondsCounted e x (codeOf (reverseOf k)) t n) (z .0) ∙ ap (λ (x : ℕ). bondsCounted e t (codeOf (reverseOf k)) x n) (sym (z .0)))
           (λ y. g .own t k w o)
       by-own a t k w g false o =
-          to-matched (isOwn a (codeOf k) t) (bondsFrom e a (codeOf k) t n) (bondsFrom e t (codeOf (reverseOf k)) a n) (g .other t k w o) (λ y. absurd (no (sym o ∙ y)))
+          to-matched (isOwn a (codeOf k) t) (bondsCounted e a (codeOf k) t n) (bondsCounted e t (codeOf (reverseOf k)) a n) (g .other t k w o) (λ y. absurd (no (sym o ∙ y)))
 
   paired : (i : ℕ) → i < n → (q : Bool) → ltb (targetAt e i) unclosed ≡ q → isPaired e n i ≡ true
   paired i l true is = paired-closed e n i (ltb-true _ _ is) (matched i l (ltb-true _ _ is))

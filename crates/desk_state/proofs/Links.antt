@@ -14,7 +14,7 @@ use lib.Dec.{eqb, ltb}
 use borrow.Author.Tests.{eqb-true, eq-eqb, ne-eqb, ltb-true, ltb-false, lt-ltb, le-ltb}
 use Rattle.feature.specs.Pick.{pick}
 use Rattle.builder.specs.State.{unclosed, entryWords}
-use Rattle.desk_state.specs.Standing.{sourceAt, kindAt, targetAt, isBond, bondsFrom}
+use Rattle.desk_state.specs.Standing.{sourceAt, entryKindAt, targetAt, isEntryTo, bondsCounted}
 use Rattle.desk_state.specs.Chains.{wordAt, isOf, lastAt, Linked, Loose, headWith, nextWith}
 use Rattle.desk_state.proofs.Counts.{no, first, second}
 use Rattle.desk_state.proofs.Grown.{by-eq}
@@ -75,61 +75,61 @@ to-of e column a i l w = rw (lt-ltb (targetAt e i) unclosed l) (eq-eqb (wordAt e
 -- ---- bonds counted along a chain
 pub record IsBond (e : List ℕ) (a k t i : ℕ) : Type 0 where
   pub source : sourceAt e i ≡ a
-  pub kind : kindAt e i ≡ k
+  pub kind : entryKindAt e i ≡ k
   pub target : targetAt e i ≡ t
 
-pub bond-is : (e : List ℕ) (a k t i : ℕ) → isBond e a k t i ≡ true → IsBond e a k t i
-unfolding isBond
+pub bond-is : (e : List ℕ) (a k t i : ℕ) → isEntryTo e a k t i ≡ true → IsBond e a k t i
+unfolding isEntryTo
 bond-is e a k t i h =
     let rest = second (eqb (sourceAt e i) a) _ h in
     record {
       source = eqb-true _ _ (first (eqb (sourceAt e i) a) _ h);
-      kind = eqb-true _ _ (first (eqb (kindAt e i) k) _ rest);
-      target = eqb-true _ _ (second (eqb (kindAt e i) k) _ rest);
+      kind = eqb-true _ _ (first (eqb (entryKindAt e i) k) _ rest);
+      target = eqb-true _ _ (second (eqb (entryKindAt e i) k) _ rest);
     }
 
-pub is-bond : (e : List ℕ) (a k t i : ℕ) → IsBond e a k t i → isBond e a k t i ≡ true
-unfolding isBond
+pub is-bond : (e : List ℕ) (a k t i : ℕ) → IsBond e a k t i → isEntryTo e a k t i ≡ true
+unfolding isEntryTo
 is-bond e a k t i h =
-    rw (eq-eqb (sourceAt e i) a (h .source), eq-eqb (kindAt e i) k (h .kind)) (eq-eqb (targetAt e i) t (h .target))
+    rw (eq-eqb (sourceAt e i) a (h .source), eq-eqb (entryKindAt e i) k (h .kind)) (eq-eqb (targetAt e i) t (h .target))
 
 -- what an entry adds
 abbrev pub adds : List ℕ → ℕ → ℕ → ℕ → ℕ → ℕ
-adds e a k t i = pick (isBond e a k t i) 1 0
+adds e a k t i = pick (isEntryTo e a k t i) 1 0
 
 pub adds-one : (e : List ℕ) (a k t i : ℕ) → IsBond e a k t i → adds e a k t i ≡ 1
 adds-one e a k t i h = ap (λ (q : Bool). pick q 1 0) (is-bond e a k t i h)
 
 pub adds-none : (e : List ℕ) (a k t i : ℕ) → (IsBond e a k t i → ⊥) → adds e a k t i ≡ 0
-adds-none e a k t i h = go (isBond e a k t i) refl where
-  go : (q : Bool) → isBond e a k t i ≡ q → adds e a k t i ≡ 0
+adds-none e a k t i h = go (isEntryTo e a k t i) refl where
+  go : (q : Bool) → isEntryTo e a k t i ≡ q → adds e a k t i ≡ 0
   go true is = absurd (h (bond-is e a k t i is))
   go false is = ap (λ (q : Bool). pick q 1 0) is
 
-pub count-suc : (e : List ℕ) (a k t m : ℕ) → bondsFrom e a k t (suc m) ≡ bondsFrom e a k t m + adds e a k t m
-unfolding bondsFrom
+pub count-suc : (e : List ℕ) (a k t m : ℕ) → bondsCounted e a k t (suc m) ≡ bondsCounted e a k t m + adds e a k t m
+unfolding bondsCounted
 count-suc e a k t m = refl
 
-pub count-zero : (e : List ℕ) (a k t : ℕ) → bondsFrom e a k t 0 ≡ 0
-unfolding bondsFrom
+pub count-zero : (e : List ℕ) (a k t : ℕ) → bondsCounted e a k t 0 ≡ 0
+unfolding bondsCounted
 count-zero e a k t = refl
 
-pub count-most : (e : List ℕ) (a k t m : ℕ) → bondsFrom e a k t m ≤ m
+pub count-most : (e : List ℕ) (a k t m : ℕ) → bondsCounted e a k t m ≤ m
 count-most e a k t zero = omega (arith, count-zero e a k t)
-count-most e a k t (suc m) = go (isBond e a k t m) refl (count-most e a k t m) where
-  go : (q : Bool) → isBond e a k t m ≡ q → bondsFrom e a k t m ≤ m → bondsFrom e a k t (suc m) ≤ suc m
+count-most e a k t (suc m) = go (isEntryTo e a k t m) refl (count-most e a k t m) where
+  go : (q : Bool) → isEntryTo e a k t m ≡ q → bondsCounted e a k t m ≤ m → bondsCounted e a k t (suc m) ≤ suc m
   go true is ih = omega (arith, ih, count-suc e a k t m, ap (λ (q : Bool). pick {A = ℕ} q 1 0) is)
   go false is ih = omega (arith, ih, count-suc e a k t m, ap (λ (q : Bool). pick {A = ℕ} q 1 0) is)
 
 -- those from a, and those to a
-pub out-last : (e : List ℕ) (a k t m : ℕ) → t < unclosed → bondsFrom e a k t (lastAt e 0 a m) ≡ bondsFrom e a k t m
+pub out-last : (e : List ℕ) (a k t m : ℕ) → t < unclosed → bondsCounted e a k t (lastAt e 0 a m) ≡ bondsCounted e a k t m
 out-last e a k t m l =
-    count-last e 0 a (bondsFrom e a k t) (adds e a k t) (count-suc e a k t)
+    count-last e 0 a (bondsCounted e a k t) (adds e a k t) (count-suc e a k t)
     (λ i not. adds-none e a k t i (λ h. no (sym not ∙ to-of e 0 a i (omega (arith, l, h .target)) (word-source e i ∙ h .source)))) m
 
-pub back-last : (e : List ℕ) (a k t m : ℕ) → a < unclosed → bondsFrom e t k a (lastAt e 2 a m) ≡ bondsFrom e t k a m
+pub back-last : (e : List ℕ) (a k t m : ℕ) → a < unclosed → bondsCounted e t k a (lastAt e 2 a m) ≡ bondsCounted e t k a m
 back-last e a k t m l =
-    count-last e 2 a (bondsFrom e t k a) (adds e t k a) (count-suc e t k a)
+    count-last e 2 a (bondsCounted e t k a) (adds e t k a) (count-suc e t k a)
     (λ i not. adds-none e t k a i (λ h. no (sym not ∙ to-of e 2 a i (omega (arith, l, h .target)) (h .target)))) m
 
 -- ---- one entry more in its chain

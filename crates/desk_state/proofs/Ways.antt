@@ -12,14 +12,14 @@ use Rattle.feature.specs.Bonds.{kindOf, codeOf}
 use Rattle.feature.specs.Every.{every}
 use Rattle.builder.specs.Limits.{atomLimit, bondLimit}
 use Rattle.builder.specs.State.{unclosed}
-use Rattle.desk_state.specs.Standing.{sourceAt, kindAt, targetAt, turnedOf, isOwn, isPaired}
-use Rattle.desk_state.specs.Chains.{wordAt, Linked, Loose, kinds, cellOf, Sound, ownAt, outCell, backCell, moreOf, putOf, canTake, takeOf, Laid, Taken, Blank, Good, Judged, Between, Ready}
+use Rattle.desk_state.specs.Standing.{sourceAt, entryKindAt, targetAt, turnedOf, isOwn, isPaired}
+use Rattle.desk_state.specs.Chains.{wordAt, Linked, Loose, bondKindCount, cellOf, Sound, ownAt, outCell, backCell, moreOf, putOf, canTake, takeOf, CountedAfter, Taken, NoneCounted, BondsMatch, Judged, Between, ChainsReady}
 use Rattle.desk_state.proofs.Counts.{no}
 use Rattle.desk_state.proofs.Grown.{by-eq}
 use Rattle.desk_state.proofs.Links.{word-source}
 use Rattle.desk_state.proofs.Levels.{Stands, Level, entry-at, stands-next, put-fits, laid-next, taken-next, cannot-take, level-next, level-fails, good-from, all-good}
 
-module _ (e : List ℕ) (i : ℕ) (d : List ℕ) {s k t : ℕ} (is-s : s ≡ sourceAt e i) (is-k : k ≡ kindAt e i) (is-t : t ≡ targetAt e i) {own : Bool} (is-own : own ≡ isOwn s k t) where
+module _ (e : List ℕ) (i : ℕ) (d : List ℕ) {s k t : ℕ} (is-s : s ≡ sourceAt e i) (is-k : k ≡ entryKindAt e i) (is-t : t ≡ targetAt e i) {own : Bool} (is-own : own ≡ isOwn s k t) where
   own-here : own ≡ ownAt e i
   own-here = is-own ∙ rw (is-s, is-k, is-t) refl
 
@@ -54,7 +54,7 @@ module _ (e : List ℕ) (i : ℕ) (d : List ℕ) {s k t : ℕ} (is-s : s ≡ sou
         (rw (not-own, y) refl, x ∙ rw (not-own, y, cell-here, held-here) refl)
 
 -- the count before it is put
-pub put-less : (e : List ℕ) (i : ℕ) (d : List ℕ) {k t v : ℕ} → k ≡ kindAt e i → t ≡ targetAt e i → v ≡ getD d (cellOf t k) 0 → getD d (outCell e i) 0 < bondLimit → v < bondLimit
+pub put-less : (e : List ℕ) (i : ℕ) (d : List ℕ) {k t v : ℕ} → k ≡ entryKindAt e i → t ≡ targetAt e i → v ≡ getD d (cellOf t k) 0 → getD d (outCell e i) 0 < bondLimit → v < bondLimit
 put-less e i d is-k is-t is-v h = rw (is-v, is-k, is-t) h
 
 -- ---- judgements
@@ -85,15 +85,15 @@ module _ (e : List ℕ) (n a : ℕ) (head next : List ℕ) {p : ℕ} (held : p �
       let z = stands-next e column a n (p - 1) head next link (at-one column s) is in
       (z .1, omega (arith, z .2, held))
 
-  pub put-room : (d : List ℕ) → Sound e n (length d) → Stands e 0 a n p → Laid e n a p d → (p - 1 ≤ bondLimit) × (getD d (outCell e (p - 1)) 0 < bondLimit)
+  pub put-room : (d : List ℕ) → Sound e n (length d) → Stands e 0 a n p → CountedAfter e n a p d → (p - 1 ≤ bondLimit) × (getD d (outCell e (p - 1)) 0 < bondLimit)
   put-room d sound s h =
-      (omega (arith, s .within, sound .few), put-fits e n a d sound (p - 1) (entry-at e 0 a n (p - 1) (at-one 0 s)) (subst (λ (x : ℕ). Laid e n a x d) (from-one p held) h))
+      (omega (arith, s .within, sound .few), put-fits e n a d sound (p - 1) (entry-at e 0 a n (p - 1) (at-one 0 s)) (subst (λ (x : ℕ). CountedAfter e n a x d) (from-one p held) h))
 
-  pub put-turn : {q : ℕ} (d d' : List ℕ) → Sound e n (length d) → Linked e 0 n head next → Stands e 0 a n p → Laid e n a p d → d' ≡ putOf e (p - 1) d → q ≡ getD next (p - 1) 0 → Laid e n a q d'
+  pub put-turn : {q : ℕ} (d d' : List ℕ) → Sound e n (length d) → Linked e 0 n head next → Stands e 0 a n p → CountedAfter e n a p d → d' ≡ putOf e (p - 1) d → q ≡ getD next (p - 1) 0 → CountedAfter e n a q d'
   put-turn {q} d d' sound link s h x is =
       let z = stands-next e 0 a n (p - 1) head next link (at-one 0 s) is in
-      subst (λ (y : List ℕ). Laid e n a q y) (sym x)
-      (laid-next e n a d sound (p - 1) (entry-at e 0 a n (p - 1) (at-one 0 s)) (subst (λ (y : ℕ). Laid e n a y d) (from-one p held) h) q (z .0))
+      subst (λ (y : List ℕ). CountedAfter e n a q y) (sym x)
+      (laid-next e n a d sound (p - 1) (entry-at e 0 a n (p - 1) (at-one 0 s)) (subst (λ (y : ℕ). CountedAfter e n a y d) (from-one p held) h) q (z .0))
 
   pub take-turn : {q : ℕ} (d d' : List ℕ) → Sound e n (length d) → a < atomLimit → Linked e 2 n head next → Stands e 2 a n p → Taken e n a p d → canTake e (p - 1) d ≡ true → d' ≡ takeOf e (p - 1) d → q ≡ getD next (p - 1) 0 → Taken e n a q d'
   take-turn {q} d d' sound low link s h can x is =
@@ -115,7 +115,7 @@ module _ (e : List ℕ) (n a : ℕ) (head next : List ℕ) {p : ℕ} (held : p �
       says-no (level-fails e n a d sound (p - 1) (entry-at e 0 a n (p - 1) (at-one 0 s)) h some)
 
 -- ---- an atom, and all of them
-pub between-sound : {e : List ℕ} {n atoms size : ℕ} → Between e n atoms → atoms * kinds < size → Sound e n size
+pub between-sound : {e : List ℕ} {n atoms size : ℕ} → Between e n atoms → atoms * bondKindCount < size → Sound e n size
 between-sound h room =
     record {
       few = h .few;
@@ -123,22 +123,22 @@ between-sound h room =
       ends = λ i l c. ((omega (arith, h .source i l, h .most), omega (arith, h .source i l, room)), (omega (arith, h .target i l c, h .most), omega (arith, h .target i l c, room)));
     }
 
-pub ready-sound : {e : List ℕ} {n atoms : ℕ} {first before last after d : List ℕ} → Ready e n atoms first before last after d → Sound e n (length d)
+pub ready-sound : {e : List ℕ} {n atoms : ℕ} {first before last after d : List ℕ} → ChainsReady e n atoms first before last after d → Sound e n (length d)
 ready-sound h = between-sound (h .between) (h .counts)
 
-pub ready-again : {e : List ℕ} {n atoms : ℕ} {first before last after d d' : List ℕ} → Ready e n atoms first before last after d → length d' ≡ length d → Blank d' → Ready e n atoms first before last after d'
+pub ready-again : {e : List ℕ} {n atoms : ℕ} {first before last after d d' : List ℕ} → ChainsReady e n atoms first before last after d → length d' ≡ length d → NoneCounted d' → ChainsReady e n atoms first before last after d'
 ready-again h size blank =
     record { between = h .between; from = h .from; to = h .to; firsts = h .firsts; lasts = h .lasts; counts = omega (arith, h .counts, size); blank = blank }
 
-pub level-all : {e : List ℕ} {n a : ℕ} {d : List ℕ} {r : Bool} → Sound e n (length d) → Taken e n a 0 d → Judged r e n (Blank d) → Judged r e n (Blank d × Good e n a (length d))
+pub level-all : {e : List ℕ} {n a : ℕ} {d : List ℕ} {r : Bool} → Sound e n (length d) → Taken e n a 0 d → Judged r e n (NoneCounted d) → Judged r e n (NoneCounted d × BondsMatch e n a (length d))
 level-all {e} {n} {a} {d} sound taken j =
     record { bad = j .bad; good = λ z. (j .good z, good-from e n a d sound taken (j .good z)) }
 
-pub good-next : (e : List ℕ) (n a size : ℕ) → ((x : ℕ) → x < a → Good e n x size) → Good e n a size → (x : ℕ) → x < a + 1 → Good e n x size
+pub good-next : (e : List ℕ) (n a size : ℕ) → ((x : ℕ) → x < a → BondsMatch e n x size) → BondsMatch e n a size → (x : ℕ) → x < a + 1 → BondsMatch e n x size
 good-next e n a size before here x l =
-    by-eq x a (λ q. subst (λ (y : ℕ). Good e n y size) (sym q) here) (λ q. before x (omega (arith, l, q)))
+    by-eq x a (λ q. subst (λ (y : ℕ). BondsMatch e n y size) (sym q) here) (λ q. before x (omega (arith, l, q)))
 
-pub all-stand : {e : List ℕ} {n atoms : ℕ} {first before last after d : List ℕ} {a : ℕ} → Ready e n atoms first before last after d → atoms ≤ a → ((x : ℕ) → x < a → Good e n x (length d)) → true ≡ every (isPaired e n) n
+pub all-stand : {e : List ℕ} {n atoms : ℕ} {first before last after d : List ℕ} {a : ℕ} → ChainsReady e n atoms first before last after d → atoms ≤ a → ((x : ℕ) → x < a → BondsMatch e n x (length d)) → true ≡ every (isPaired e n) n
 all-stand {e} {n} {d = d} h l good =
     sym (all-good e n (length d) (ready-sound h) (λ i b c. good (sourceAt e i) (omega (arith, l, h .between .source i b))))
 
@@ -164,7 +164,7 @@ module _ {e : List ℕ} {n atoms : ℕ} (h : Between e n atoms) (x y : ℕ) (roo
   pub loose-to : Loose e 2 n (replicate x 0) (replicate y 0)
   loose-to = loose 2 (λ i l c. h .target i l c)
 
-  pub ready : (size : ℕ) {first before last after : List ℕ} → length first ≡ length {A = ℕ} (replicate x 0) → length last ≡ length {A = ℕ} (replicate x 0) → Linked e 0 n first before → Linked e 2 n last after → atoms * kinds < size → Ready e n atoms first before last after (replicate size 0)
+  pub ready : (size : ℕ) {first before last after : List ℕ} → length first ≡ length {A = ℕ} (replicate x 0) → length last ≡ length {A = ℕ} (replicate x 0) → Linked e 0 n first before → Linked e 2 n last after → atoms * bondKindCount < size → ChainsReady e n atoms first before last after (replicate size 0)
   ready size f l from to fits =
       record {
         between = h;

@@ -12,7 +12,7 @@ use Rattle.feature.specs.Bonds.{codeOf, kindOf, reverseOf}
 use Rattle.feature.specs.declared.bond_kind.BondKind.{BondKind}
 use Rattle.builder.specs.Limits.{atomLimit, bondLimit}
 use Rattle.builder.specs.State.{entryWords, unclosed}
-use Rattle.desk_state.specs.Standing.{also, sourceAt, kindAt, targetAt, bondsFrom, turnedOf, isOwn, isPaired}
+use Rattle.desk_state.specs.Standing.{also, sourceAt, entryKindAt, targetAt, bondsCounted, turnedOf, isOwn, isPaired}
 
 -- ---- chains
 -- a word of entry i
@@ -50,31 +50,31 @@ nextWith e column i head next =
 
 -- ---- counts
 -- the numbers of the kinds are 1 to 8
-abbrev pub kinds : ℕ
-kinds = 8
+abbrev pub bondKindCount : ℕ
+bondKindCount = 8
 
 -- where bonds to t, or from t, of a kind are counted
 abbrev pub cellOf : ℕ → ℕ → ℕ
-cellOf t k = t * kinds + k
+cellOf t k = t * bondKindCount + k
 
 -- so many counts have room for those of t
-abbrev pub Within : ℕ → ℕ → Type 0
-Within size t = (t < atomLimit) × (cellOf t kinds < size)
+abbrev pub HasCount : ℕ → ℕ → Type 0
+HasCount size t = (t < atomLimit) × (cellOf t bondKindCount < size)
 
 -- what is known of n entries where there are so many counts
 pub record Sound (e : List ℕ) (n size : ℕ) : Type 0 where
   pub few : n ≤ bondLimit
-  pub kind : (i : ℕ) → i < n → (k : BondKind) × (kindAt e i ≡ codeOf k)
-  pub ends : (i : ℕ) → i < n → targetAt e i < unclosed → Within size (sourceAt e i) × Within size (targetAt e i)
+  pub kind : (i : ℕ) → i < n → (k : BondKind) × (entryKindAt e i ≡ codeOf k)
+  pub ends : (i : ℕ) → i < n → targetAt e i < unclosed → HasCount size (sourceAt e i) × HasCount size (targetAt e i)
 
 abbrev pub ownAt : List ℕ → ℕ → Bool
-ownAt e i = isOwn (sourceAt e i) (kindAt e i) (targetAt e i)
+ownAt e i = isOwn (sourceAt e i) (entryKindAt e i) (targetAt e i)
 
 abbrev pub outCell : List ℕ → ℕ → ℕ
-outCell e i = cellOf (targetAt e i) (kindAt e i)
+outCell e i = cellOf (targetAt e i) (entryKindAt e i)
 
 abbrev pub backCell : List ℕ → ℕ → ℕ
-backCell e i = cellOf (sourceAt e i) (turnedOf (kindOf (kindAt e i)))
+backCell e i = cellOf (sourceAt e i) (turnedOf (kindOf (entryKindAt e i)))
 
 -- one bond more: where it is its own reverse, only whether their number is odd is counted
 unfoldable pub moreOf : Bool → ℕ → ℕ
@@ -97,23 +97,23 @@ abbrev pub valAt : List ℕ → ℕ → BondKind → ℕ
 valAt d t k = getD d (cellOf t (codeOf k)) 0
 
 -- the entries from a counted, but for the first p
-pub record Laid (e : List ℕ) (n a p : ℕ) (d : List ℕ) : Type 0 where
-  pub own : (t : ℕ) (k : BondKind) → Within (length d) t → isOwn a (codeOf k) t ≡ true → valAt d t k ≡ (bondsFrom e a (codeOf k) t n + bondsFrom e a (codeOf k) t p) % 2
-  pub other : (t : ℕ) (k : BondKind) → Within (length d) t → isOwn a (codeOf k) t ≡ false → valAt d t k + bondsFrom e a (codeOf k) t p ≡ bondsFrom e a (codeOf k) t n
+pub record CountedAfter (e : List ℕ) (n a p : ℕ) (d : List ℕ) : Type 0 where
+  pub own : (t : ℕ) (k : BondKind) → HasCount (length d) t → isOwn a (codeOf k) t ≡ true → valAt d t k ≡ (bondsCounted e a (codeOf k) t n + bondsCounted e a (codeOf k) t p) % 2
+  pub other : (t : ℕ) (k : BondKind) → HasCount (length d) t → isOwn a (codeOf k) t ≡ false → valAt d t k + bondsCounted e a (codeOf k) t p ≡ bondsCounted e a (codeOf k) t n
 
 -- and those to a taken off, but for the first p
 pub record Taken (e : List ℕ) (n a p : ℕ) (d : List ℕ) : Type 0 where
-  pub own : (t : ℕ) (k : BondKind) → Within (length d) t → isOwn a (codeOf k) t ≡ true → valAt d t k ≡ bondsFrom e a (codeOf k) t n % 2
-  pub other : (t : ℕ) (k : BondKind) → Within (length d) t → isOwn a (codeOf k) t ≡ false → valAt d t k + bondsFrom e t (codeOf (reverseOf k)) a n ≡ bondsFrom e a (codeOf k) t n + bondsFrom e t (codeOf (reverseOf k)) a p
+  pub own : (t : ℕ) (k : BondKind) → HasCount (length d) t → isOwn a (codeOf k) t ≡ true → valAt d t k ≡ bondsCounted e a (codeOf k) t n % 2
+  pub other : (t : ℕ) (k : BondKind) → HasCount (length d) t → isOwn a (codeOf k) t ≡ false → valAt d t k + bondsCounted e t (codeOf (reverseOf k)) a n ≡ bondsCounted e a (codeOf k) t n + bondsCounted e t (codeOf (reverseOf k)) a p
 
 -- nothing is counted
-abbrev pub Blank : List ℕ → Type 0
-Blank d = (t : ℕ) (k : BondKind) → Within (length d) t → valAt d t k ≡ 0
+abbrev pub NoneCounted : List ℕ → Type 0
+NoneCounted d = (t : ℕ) (k : BondKind) → HasCount (length d) t → valAt d t k ≡ 0
 
 -- what is asked of the entries from a
-pub record Good (e : List ℕ) (n a size : ℕ) : Type 0 where
-  pub own : (t : ℕ) (k : BondKind) → Within size t → isOwn a (codeOf k) t ≡ true → bondsFrom e a (codeOf k) t n % 2 ≡ 0
-  pub other : (t : ℕ) (k : BondKind) → Within size t → isOwn a (codeOf k) t ≡ false → bondsFrom e a (codeOf k) t n ≡ bondsFrom e t (codeOf (reverseOf k)) a n
+pub record BondsMatch (e : List ℕ) (n a size : ℕ) : Type 0 where
+  pub own : (t : ℕ) (k : BondKind) → HasCount size t → isOwn a (codeOf k) t ≡ true → bondsCounted e a (codeOf k) t n % 2 ≡ 0
+  pub other : (t : ℕ) (k : BondKind) → HasCount size t → isOwn a (codeOf k) t ≡ false → bondsCounted e a (codeOf k) t n ≡ bondsCounted e t (codeOf (reverseOf k)) a n
 
 -- a judgement: a no is right, and a yes says so much
 pub record Judged (r : Bool) (e : List ℕ) (n : ℕ) (X : Type 0) : Type 0 where
@@ -124,7 +124,7 @@ pub record Judged (r : Bool) (e : List ℕ) (n : ℕ) (X : Type 0) : Type 0 wher
 pub record Between (e : List ℕ) (n atoms : ℕ) : Type 0 where
   pub few : n ≤ bondLimit
   pub most : atoms ≤ atomLimit
-  pub kind : (i : ℕ) → i < n → (k : BondKind) × (kindAt e i ≡ codeOf k)
+  pub kind : (i : ℕ) → i < n → (k : BondKind) × (entryKindAt e i ≡ codeOf k)
   pub source : (i : ℕ) → i < n → sourceAt e i < atoms
   pub target : (i : ℕ) → i < n → targetAt e i < unclosed → targetAt e i < atoms
 
@@ -133,11 +133,11 @@ abbrev pub fewBonds : ℕ
 fewBonds = 256
 
 -- both chains linked, and the counts for so many atoms
-pub record Ready (e : List ℕ) (n atoms : ℕ) (first before last after d : List ℕ) : Type 0 where
+pub record ChainsReady (e : List ℕ) (n atoms : ℕ) (first before last after d : List ℕ) : Type 0 where
   pub between : Between e n atoms
   pub from : Linked e 0 n first before
   pub to : Linked e 2 n last after
   pub firsts : atoms ≤ length first
   pub lasts : atoms ≤ length last
-  pub counts : atoms * kinds < length d
-  pub blank : Blank d
+  pub counts : atoms * bondKindCount < length d
+  pub blank : NoneCounted d

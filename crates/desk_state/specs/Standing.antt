@@ -15,7 +15,7 @@ use Rattle.feature.specs.declared.bond_kind.Coded.{Coded}
 use Rattle.feature.specs.declared.bond_kind.Coded.the-variants as coded
 use Rattle.packing.specs.Words.{atomWords, isAtom}
 use Rattle.builder.specs.Limits.{atomLimit, bondLimit, lesserOf}
-use Rattle.builder.specs.Rings.{numbers}
+use Rattle.builder.specs.Rings.{ringNumberCount}
 use Rattle.builder.specs.State.{Bld, entryWords, unclosed}
 use Rattle.builder.specs.declared.builder.Builder.{Builder}
 
@@ -31,8 +31,8 @@ isKind coded.Bad = false
 abbrev pub sourceAt : List ℕ → ℕ → ℕ
 sourceAt e i = getD e (i * entryWords) 0
 
-abbrev pub kindAt : List ℕ → ℕ → ℕ
-kindAt e i = getD e (i * entryWords + 1) 0
+abbrev pub entryKindAt : List ℕ → ℕ → ℕ
+entryKindAt e i = getD e (i * entryWords + 1) 0
 
 abbrev pub targetAt : List ℕ → ℕ → ℕ
 targetAt e i = getD e (i * entryWords + 2) 0
@@ -41,23 +41,23 @@ targetAt e i = getD e (i * entryWords + 2) 0
 unfoldable pub isTarget : Builder → ℕ → Bool
 isTarget s t = pick (ltb t unclosed) (ltb t (s .atoms)) (ltb (t - unclosed) (s .joins))
 
-unfoldable pub isEntry : Builder → List ℕ → ℕ → Bool
-isEntry s e i =
+unfoldable pub isBuilderEntry : Builder → List ℕ → ℕ → Bool
+isBuilderEntry s e i =
     also (ltb (sourceAt e i) (s .atoms))
-    (also (isKind (kindOf (kindAt e i)))
+    (also (isKind (kindOf (entryKindAt e i)))
     (isTarget s (targetAt e i)))
 
 -- entry i goes from a to t and its kind is k, all as numbers
-unfoldable pub isBond : List ℕ → ℕ → ℕ → ℕ → ℕ → Bool
-isBond e a k t i =
+unfoldable pub isEntryTo : List ℕ → ℕ → ℕ → ℕ → ℕ → Bool
+isEntryTo e a k t i =
     also (eqb (sourceAt e i) a)
-    (also (eqb (kindAt e i) k)
+    (also (eqb (entryKindAt e i) k)
     (eqb (targetAt e i) t))
 
 -- how many of the first m do
-unfoldable pub bondsFrom : List ℕ → ℕ → ℕ → ℕ → ℕ → ℕ
-bondsFrom e a k t zero = 0
-bondsFrom e a k t (suc m) = bondsFrom e a k t m + pick (isBond e a k t m) 1 0
+unfoldable pub bondsCounted : List ℕ → ℕ → ℕ → ℕ → ℕ → ℕ
+bondsCounted e a k t zero = 0
+bondsCounted e a k t (suc m) = bondsCounted e a k t m + pick (isEntryTo e a k t m) 1 0
 
 -- the number of a kind from the other end
 unfoldable pub turnedOf : Coded → ℕ
@@ -77,9 +77,9 @@ isMatched own here there = also (eqb here there) (pick own (eqb (here % 2) 0) tr
 unfoldable pub isPaired : List ℕ → ℕ → ℕ → Bool
 isPaired e m i =
     pick (leb unclosed (targetAt e i)) true
-    (isMatched (isOwn (sourceAt e i) (kindAt e i) (targetAt e i))
-    (bondsFrom e (sourceAt e i) (kindAt e i) (targetAt e i) m)
-    (bondsFrom e (targetAt e i) (turnedOf (kindOf (kindAt e i))) (sourceAt e i) m))
+    (isMatched (isOwn (sourceAt e i) (entryKindAt e i) (targetAt e i))
+    (bondsCounted e (sourceAt e i) (entryKindAt e i) (targetAt e i) m)
+    (bondsCounted e (targetAt e i) (turnedOf (kindOf (entryKindAt e i))) (sourceAt e i) m))
 
 -- the least target of an open entry after the first m: one more than that of the last open one
 unfoldable pub leastOpen : List ℕ → ℕ → ℕ
@@ -113,22 +113,22 @@ openRings r (suc n) = openRings r n + pick (eqb (getD r n 0) 0) 0 1
 -- a join opens an entry, or closes what one opened: there are no more joins, with those to come of the open ring numbers,
 -- than two for each entry
 unfoldable pub joinsStand : Builder → List ℕ → Bool
-joinsStand s r = leb (s .joins + openRings r numbers) (s .entries * 2)
+joinsStand s r = leb (s .joins + openRings r ringNumberCount) (s .entries * 2)
 
 -- for how many atoms and for how many entries tables of so many words have room
 abbrev pub placesIn : ℕ → ℕ
 placesIn la = lesserOf atomLimit (la / atomWords)
 
-abbrev pub slotsIn : ℕ → ℕ
-slotsIn le = lesserOf bondLimit (le / entryWords)
+abbrev pub entrySlotsIn : ℕ → ℕ
+entrySlotsIn le = lesserOf bondLimit (le / entryWords)
 
 -- the rooms and the counts, for tables of so many words: atoms, entries, path and ring numbers
 unfoldable pub countsStand : Builder → ℕ → ℕ → ℕ → ℕ → Bool
 countsStand s la le lp lr =
     also (eqb (s .places) (placesIn la))
-    (also (eqb (s .slots) (slotsIn le))
+    (also (eqb (s .slots) (entrySlotsIn le))
     (also (leb (s .places) lp)
-    (also (leb numbers lr)
+    (also (leb ringNumberCount lr)
     (also (leb (s .atoms) (s .places))
     (also (leb (s .entries) (s .slots))
     (leb (s .top) (s .atoms)))))))
@@ -142,10 +142,10 @@ unfoldable pub isState : Bld → Bool
 isState b =
     also (countsStand (b .st) (length (b .atoms)) (length (b .entries)) (length (b .path)) (length (b .rings)))
     (also (every (isAtom (b .atoms)) (b .st .atoms))
-    (also (every (isEntry (b .st) (b .entries)) (b .st .entries))
+    (also (every (isBuilderEntry (b .st) (b .entries)) (b .st .entries))
     (also (every (isPaired (b .entries) (b .st .entries)) (b .st .entries))
     (also (every (isLater (b .entries)) (b .st .entries))
     (also (every (isStep (b .st) (b .path)) (b .st .top))
-    (also (every (isRing (b .st) (b .entries) (b .rings)) numbers)
+    (also (every (isRing (b .st) (b .entries) (b .rings)) ringNumberCount)
     (also (joinsStand (b .st) (b .rings))
     (failureStands (b .st)))))))))

@@ -7,7 +7,7 @@ ghost use mathlib.Core.Bool.{true};
 ghost use Rattle.feature.specs.Pick.{pick};
 ghost use Rattle.feature.specs.Every.{every};
 ghost use Rattle.builder.specs.Limits.{bondLimit};
-ghost use Rattle.builder.specs.Rings.{numbers};
+ghost use Rattle.builder.specs.Rings.{ringNumberCount};
 ghost use Rattle.builder.specs.State.{unclosed};
 ghost use Rattle.desk_state.specs.Standing.{isLater, isApart, openRings, joinsStand};
 use crate::state::TARGET;
@@ -92,7 +92,7 @@ fn open_at(rings: &[u32], n: usize) -> usize
 }
 
 fn open_rings(rings: &[u32]) -> usize
-    ensures { λ r. ⌜ r ≡ openRings (now (rings .entry)) numbers ⌝ }
+    ensures { λ r. ⌜ r ≡ openRings (now (rings .entry)) ringNumberCount ⌝ }
 {
     let mut count: usize = 0;
     let mut n: usize = 0;

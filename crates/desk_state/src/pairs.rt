@@ -11,7 +11,7 @@ ghost use Rattle.feature.specs.Bonds.{kindOf};
 ghost use Rattle.feature.specs.Every.{every};
 ghost use Rattle.builder.specs.Limits.{atomLimit, bondLimit, fewAtoms};
 ghost use Rattle.desk_state.specs.Standing.{turnedOf, isOwn, isPaired};
-ghost use Rattle.desk_state.specs.Chains.{outCell, moreOf, putOf, canTake, takeOf, Linked, Sound, Laid, Taken, Blank, Good, Judged, Between, Ready, fewBonds};
+ghost use Rattle.desk_state.specs.Chains.{outCell, moreOf, putOf, canTake, takeOf, Linked, Sound, CountedAfter, Taken, NoneCounted, BondsMatch, Judged, Between, ChainsReady, fewBonds};
 use crate::chains::link;
 use crate::state::KIND;
 use crate::state::TARGET;
@@ -85,8 +85,8 @@ fn put_one(entries: &[u32], i: usize, counts: &mut [u32])
 
 // All entries from an atom, of n.
 fn put(entries: &[u32], n: usize, a: usize, head: &[u32], next: &[u32], counts: &mut [u32])
-    requires { ⌜ Sound (now entries) n (length (now counts)) × Linked (now entries) 0 n (now head) (now next) × (a < length (now head)) × Blank (now counts) ⌝ }
-    ensures { λ _. ⌜ Laid (now (entries .entry)) n a 0 (now (counts .exit)) ⌝ }
+    requires { ⌜ Sound (now entries) n (length (now counts)) × Linked (now entries) 0 n (now head) (now next) × (a < length (now head)) × NoneCounted (now counts) ⌝ }
+    ensures { λ _. ⌜ CountedAfter (now (entries .entry)) n a 0 (now (counts .exit)) ⌝ }
 {
     let mut p = look(head, a);
     while p != 0 {
@@ -120,7 +120,7 @@ fn take_one(entries: &[u32], i: usize, counts: &mut [u32]) -> bool
 
 // All entries to an atom, of n.
 fn take(entries: &[u32], n: usize, a: usize, head: &[u32], next: &[u32], counts: &mut [u32]) -> bool
-    requires { ⌜ Sound (now entries) n (length (now counts)) × Linked (now entries) 2 n (now head) (now next) × (a < length (now head)) × (a < atomLimit) × Laid (now entries) n a 0 (now counts) ⌝ }
+    requires { ⌜ Sound (now entries) n (length (now counts)) × Linked (now entries) 2 n (now head) (now next) × (a < length (now head)) × (a < atomLimit) × CountedAfter (now entries) n a 0 (now counts) ⌝ }
     ensures { λ r. ⌜ Judged r (now (entries .entry)) n (Taken (now (entries .entry)) n a 0 (now (counts .exit))) ⌝ }
 {
     let mut p = look(head, a);
@@ -148,7 +148,7 @@ fn left_of(entries: &[u32], i: usize, counts: &[u32]) -> u32
 // Whether nothing is left where the entries from an atom were put.
 fn is_level(entries: &[u32], n: usize, a: usize, head: &[u32], next: &[u32], counts: &[u32]) -> bool
     requires { ⌜ Sound (now entries) n (length (now counts)) × Linked (now entries) 0 n (now head) (now next) × (a < length (now head)) × Taken (now entries) n a 0 (now counts) ⌝ }
-    ensures { λ r. ⌜ Judged r (now (entries .entry)) n (Blank (now (counts .entry))) ⌝ }
+    ensures { λ r. ⌜ Judged r (now (entries .entry)) n (NoneCounted (now (counts .entry))) ⌝ }
 {
     let mut p = look(head, a);
     while p != 0 {
@@ -173,8 +173,8 @@ fn is_level_at(
     after: &[u32],
     counts: &mut [u32],
 ) -> bool
-    requires { ⌜ Ready (now entries) n atoms (now first) (now before) (now last) (now after) (now counts) × (a < atoms) ⌝ }
-    ensures { λ r. ⌜ Judged r (now (entries .entry)) n (Blank (now (counts .exit)) × Good (now (entries .entry)) n a (length (now (counts .exit)))) ⌝ }
+    requires { ⌜ ChainsReady (now entries) n atoms (now first) (now before) (now last) (now after) (now counts) × (a < atoms) ⌝ }
+    ensures { λ r. ⌜ Judged r (now (entries .entry)) n (NoneCounted (now (counts .exit)) × BondsMatch (now (entries .entry)) n a (length (now (counts .exit)))) ⌝ }
 {
     put(entries, n, a, first, before, counts);
     if !take(entries, n, a, last, after, counts) {
@@ -194,7 +194,7 @@ fn are_level(
     after: &[u32],
     counts: &mut [u32],
 ) -> bool
-    requires { ⌜ Ready (now entries) n atoms (now first) (now before) (now last) (now after) (now counts) ⌝ }
+    requires { ⌜ ChainsReady (now entries) n atoms (now first) (now before) (now last) (now after) (now counts) ⌝ }
     ensures { λ r. ⌜ r ≡ every (isPaired (now (entries .entry)) n) n ⌝ }
 {
     let mut a: usize = 0;

@@ -5,10 +5,10 @@ ghost use lib.Dec.{ltb};
 ghost use Rattle.feature.specs.Bonds.{kindOf};
 ghost use Rattle.builder.specs.Limits.{atomLimit, bondLimit};
 ghost use Rattle.builder.specs.State.{bld};
-ghost use Rattle.builder.specs.Rings.{numbers};
+ghost use Rattle.builder.specs.Rings.{ringNumberCount};
 ghost use Rattle.feature.specs.Every.{every};
 ghost use Rattle.packing.specs.Words.{isAtom};
-ghost use Rattle.desk_state.specs.Standing.{isKind, isTarget, isEntry, isStep, isRing, countsStand, failureStands, isState};
+ghost use Rattle.desk_state.specs.Standing.{isKind, isTarget, isBuilderEntry, isStep, isRing, countsStand, failureStands, isState};
 use crate::joins::joins_rise;
 use crate::joins::joins_stand;
 use crate::joins::leads_alone;
@@ -74,7 +74,7 @@ fn is_target(b: Builder, target: u32) -> bool
 
 fn is_entry(b: Builder, entries: &[u32], i: usize) -> bool
     requires { ⌜ i ≤ bondLimit ⌝ }
-    ensures { λ r. ⌜ r ≡ isEntry b (now (entries .entry)) i ⌝ }
+    ensures { λ r. ⌜ r ≡ isBuilderEntry b (now (entries .entry)) i ⌝ }
 {
     let at = i * ENTRY_WORDS;
     if !is_below(look(entries, at), b.atoms) {
@@ -88,7 +88,7 @@ fn is_entry(b: Builder, entries: &[u32], i: usize) -> bool
 
 fn entries_stand(b: Builder, entries: &[u32], n: usize) -> bool
     requires { ⌜ n ≤ bondLimit ⌝ }
-    ensures { λ r. ⌜ r ≡ every (isEntry b (now (entries .entry))) n ⌝ }
+    ensures { λ r. ⌜ r ≡ every (isBuilderEntry b (now (entries .entry))) n ⌝ }
 {
     let mut i = 0;
     while i < n {
@@ -132,7 +132,7 @@ fn is_ring(b: Builder, entries: &[u32], rings: &[u32], n: usize) -> bool
 
 fn rings_stand(b: Builder, entries: &[u32], rings: &[u32]) -> bool
     requires { ⌜ b .entries ≤ bondLimit ⌝ }
-    ensures { λ r. ⌜ r ≡ every (isRing b (now (entries .entry)) (now (rings .entry))) numbers ⌝ }
+    ensures { λ r. ⌜ r ≡ every (isRing b (now (entries .entry)) (now (rings .entry))) ringNumberCount ⌝ }
 {
     let mut n = 0;
     while n < NUMBERS {

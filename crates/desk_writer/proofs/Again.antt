@@ -13,7 +13,7 @@ use Rattle.writer.specs.declared.Wrote.the-variants as wrote
 use Rattle.writer.specs.Line.{Event}
 use Rattle.writer.specs.Tables.{Spoken, spoken, eventOf, far}
 use Rattle.desk_writer.specs.declared.Said.the-variants as said
-use Rattle.desk_writer.specs.Pieces.{isWriter, clearedFrom, tailOf, saidOf, Left, left, leftBy, eventD}
+use Rattle.desk_writer.specs.Pieces.{isWriter, clearedFrom, tailOf, wroteSaid, EventLeft, eventLeaves, toldLeaves, eventD}
 use Rattle.desk_pool.proofs.Both.{second}
 use Rattle.desk_writer.proofs.WriterKept as writer-kept
 use Rattle.desk_writer.proofs.Results.{one-answer}
@@ -31,13 +31,13 @@ same-writer : (w : Writer) (o p t : List ℕ) → length p ≡ length o → isWr
 unfolding isWriter
 same-writer w o p t e h = rw e h
 
-held-again : (w : Writer) (out starts o t : List ℕ) (s : Spoken) (r : Wrote) → writer-kept.KeepsBy s o t r → left (said.Held w) out starts ≡ left (saidOf r) (tailOf (s .at) r o) t → w .len < far → isWriter (spoken w out starts) ≡ true
-unfolding saidOf tailOf
+held-again : (w : Writer) (out starts o t : List ℕ) (s : Spoken) (r : Wrote) → writer-kept.KeepsBy s o t r → eventLeaves (said.Held w) out starts ≡ eventLeaves (wroteSaid r) (tailOf (s .at) r o) t → w .len < far → isWriter (spoken w out starts) ≡ true
+unfolding wroteSaid tailOf
 held-again w out starts o t s (wrote.Held v) h e near =
     let answers : said.Held w ≡ said.Held v = one-answer e in
     let same : w ≡ v = cc in
-    let outs : out ≡ pick (eqb (s .at .pieces) 0) (clearedFrom (v .len) o) o = ap (λ (x : Left). x .out) e in
-    let places : starts ≡ t = ap (λ (x : Left). x .starts) e in
+    let outs : out ≡ pick (eqb (s .at .pieces) 0) (clearedFrom (v .len) o) o = ap (λ (x : EventLeft). x .out) e in
+    let places : starts ≡ t = ap (λ (x : EventLeft). x .starts) e in
     let stands = h (rw same at near) in
     rw (same, outs, places) (same-writer v o (pick (eqb (s .at .pieces) 0) (clearedFrom (v .len) o) o) t (tail-long (eqb (s .at .pieces) 0) (v .len) o (writer-kept.facts (spoken v o t) stands .line)) stands)
 held-again w out starts o t s (wrote.AtomRoom n) h e near = absurd (let y : said.Held w ≡ said.AtomRoom n = one-answer e in let z : _≡_ {A = ℕ} 0 1 = cc in omega arith)
@@ -45,9 +45,9 @@ held-again w out starts o t s (wrote.OutRoom n) h e near = absurd (let y : said.
 held-again w out starts o t s wrote.NoPiece h e near = absurd (let y : said.Held w ≡ said.NoPiece = one-answer e in let z : _≡_ {A = ℕ} 0 1 = cc in omega arith)
 held-again w out starts o t s wrote.Overpop h e near = absurd (let y : said.Held w ≡ said.Overpop = one-answer e in let z : _≡_ {A = ℕ} 0 1 = cc in omega arith)
 
-pub said-again : (ok : Bool) (s : Spoken) (e : Event) (w : Writer) (out starts : List ℕ) → left (said.Held w) out starts ≡ eventD ok s e → w .len < far → isWriter (spoken w out starts) ≡ true
-unfolding eventD leftBy
+pub said-again : (ok : Bool) (s : Spoken) (e : Event) (w : Writer) (out starts : List ℕ) → eventLeaves (said.Held w) out starts ≡ eventD ok s e → w .len < far → isWriter (spoken w out starts) ≡ true
+unfolding eventD toldLeaves
 said-again ok s e w out starts d near = go (both ok (isWriter s)) refl d where
-  go : (t : Bool) → both ok (isWriter s) ≡ t → left (said.Held w) out starts ≡ pick t (leftBy (s .at) (eventOf s e)) (left said.BadTable (s .out) (s .starts)) → isWriter (spoken w out starts) ≡ true
+  go : (t : Bool) → both ok (isWriter s) ≡ t → eventLeaves (said.Held w) out starts ≡ pick t (toldLeaves (s .at) (eventOf s e)) (eventLeaves said.BadTable (s .out) (s .starts)) → isWriter (spoken w out starts) ≡ true
   go true t f = held-again w out starts (eventOf s e .out) (eventOf s e .starts) s (eventOf s e .answer) (writer-kept.event-kept s e (second ok (isWriter s) t)) f near
   go false t f = absurd (let y : said.Held w ≡ said.BadTable = one-answer f in let z : _≡_ {A = ℕ} 0 1 = cc in omega arith)

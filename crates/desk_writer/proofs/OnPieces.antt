@@ -17,12 +17,12 @@ use Rattle.feature.proofs.Lists.{drop-zeros}
 use Rattle.desk_numbers.specs.Numbers as desk
 use Rattle.writer.specs.declared.Wrote.the-variants.{Held, AtomRoom, OutRoom, NoPiece, Overpop}
 use Rattle.writer.specs.Line.{Event, Root, Extend, Join, Pop, lineOf, writeEvent}
-use Rattle.writer.specs.Tables.{Spoken, spoken, writer, pieceRoom, part, added, pieceT, longer, joinT, wrapT, popT, sayT, Told, told, refusing, fitting, eventOf}
-use Rattle.writer.specs.Pieces.{startsOf, Holds}
+use Rattle.writer.specs.Tables.{Spoken, spoken, writer, pieceRoom, bytesFrom, added, pieceT, lengthened, joinT, wrapT, popT, sayT, EventTold, toldWith, eventRefusing, fitting, eventOf}
+use Rattle.writer.specs.Pieces.{pieceStarts, Holds}
 use Rattle.writer.proofs.Pieces.{length-starts, holds-step, pick-both}
 use Rattle.desk_writer.specs.declared.Said.the-variants as said
-use Rattle.desk_writer.specs.Pieces.{isWriter, saidOf, toldOf, stateIn, clearedFrom, tailOf, left, leftBy, eventD}
-use Rattle.desk_writer.specs.OnPieces.{piecesTo, piecesIn, fitsIn, answerOf, groundOf, after, OnPieces, Onward}
+use Rattle.desk_writer.specs.Pieces.{isWriter, wroteSaid, saidTold, writerWords, clearedFrom, tailOf, eventLeaves, toldLeaves, eventD}
+use Rattle.desk_writer.specs.OnPieces.{piecesTo, piecesIn, fitsIn, eventAnswer, groundOf, piecesAfter, OnPieces, EventOnward}
 use Rattle.desk_writer.proofs.WriterKept.{Laid, facts, room-held, laid-before, starts-within}
 
 -- ---- the pieces of a state
@@ -38,12 +38,12 @@ module _ (out starts : List ℕ) where
   piece-line (suc n) end h =
       let l = starts-within starts (writer (suc n) end) h n (omega arith) in
       let e : getD starts n 0 + (end - getD starts n 0) ≡ end = omega arith in
-      ap (λ (x : List ℕ). x ++ part (getD starts n 0) (end - getD starts n 0) out) (piece-line n (getD starts n 0) (laid-before starts n end h))
+      ap (λ (x : List ℕ). x ++ bytesFrom (getD starts n 0) (end - getD starts n 0) out) (piece-line n (getD starts n 0) (laid-before starts n end h))
       ∙ sym (take-add (getD starts n 0) (end - getD starts n 0) out)
       ∙ ap (λ (i : ℕ). take i out) e
 
-  piece-starts : (n end : ℕ) → Laid starts (writer n end) → end ≤ length out → n ≤ length starts → take n starts ≡ startsOf (piecesTo out starts n end)
-  unfolding piecesTo startsOf
+  piece-starts : (n end : ℕ) → Laid starts (writer n end) → end ≤ length out → n ≤ length starts → take n starts ≡ pieceStarts (piecesTo out starts n end)
+  unfolding piecesTo pieceStarts
   piece-starts zero end h l m = refl
   piece-starts (suc n) end h l m =
       let within = starts-within starts (writer (suc n) end) h n (omega arith) in
@@ -51,7 +51,7 @@ module _ (out starts : List ℕ) where
       let long : length (lineOf (piecesTo out starts n (getD starts n 0))) ≡ getD starts n 0 = rw (piece-line n (getD starts n 0) before) (simp length-take (omega arith)) in
       take-suc starts n 0 (omega arith)
       ∙ ap (λ (x : List ℕ). x ++ (getD starts n 0 ∷ [])) (piece-starts n (getD starts n 0) before (omega arith) (omega arith))
-      ∙ ap (λ (i : ℕ). startsOf (piecesTo out starts n (getD starts n 0)) ++ (i ∷ [])) (sym long)
+      ∙ ap (λ (i : ℕ). pieceStarts (piecesTo out starts n (getD starts n 0)) ++ (i ∷ [])) (sym long)
 
 -- a text laid at the front
 front : (o x : List ℕ) → length x ≤ length o → sets o 0 x ≡ x ++ drop (length x) o
@@ -77,15 +77,15 @@ holds-pieces s h =
     }
 
 -- ---- what an event answers
-abbrev toldBy : Told → desk.Told
-toldBy t = toldOf (saidOf (t .answer))
+abbrev toldBy : EventTold → desk.Told
+toldBy t = saidTold (wroteSaid (t .answer))
 
-both-told : (q : Bool) (x y : Told) (a b : desk.Told) → toldBy x ≡ a → toldBy y ≡ b → toldBy (pick q x y) ≡ pick q a b
+both-told : (q : Bool) (x y : EventTold) (a b : desk.Told) → toldBy x ≡ a → toldBy y ≡ b → toldBy (pick q x y) ≡ pick q a b
 both-told true x y a b e f = e
 both-told false x y a b e f = f
 
 fit-told : (s n : Spoken) (ps : List (List ℕ)) → n .at .len ≡ length (lineOf ps) → toldBy (fitting s n) ≡ fitsIn (length (s .out)) ps
-unfolding fitting fitsIn saidOf toldOf
+unfolding fitting fitsIn wroteSaid saidTold
 fit-told s n ps e =
     subst (λ (m : ℕ). toldBy (fitting s n) ≡ pick (ltb (length (s .out)) m) (desk.told desk.outRoom (m ∷ [])) (desk.told desk.done (m ∷ []))) e
     (both-told (ltb (length (s .out)) (n .at .len)) _ _ _ _ refl refl)
@@ -97,8 +97,8 @@ module _ (s : Spoken) (ps : List (List ℕ)) (h : Holds (s .out) ps s) where
   fits-told : (e : Event) → toldBy (fitting s (sayT s e)) ≡ fitsIn (length (s .out)) (writeEvent most e ps)
   fits-told e = fit-told s (sayT s e) (writeEvent most e ps) (holds-step e h .len)
 
-  answers : (e : Event) → toldBy (eventOf s e) ≡ answerOf most (length (s .out)) e ps
-  unfolding eventOf answerOf saidOf toldOf
+  answers : (e : Event) → toldBy (eventOf s e) ≡ eventAnswer most (length (s .out)) e ps
+  unfolding eventOf eventAnswer wroteSaid saidTold
   answers (Root k) =
       subst (λ (n : ℕ). toldBy (eventOf s (Root k)) ≡ pick (leb most n) (desk.told desk.atomRoom (n ∷ [])) (fitsIn (length (s .out)) (writeEvent most (Root k) ps))) (h .pieces)
       (both-told (leb most (s .at .pieces)) _ _ _ _ refl (fits-told (Root k)))
@@ -113,17 +113,17 @@ module _ (s : Spoken) (ps : List (List ℕ)) (h : Holds (s .out) ps s) where
       (both-told (leb (s .at .pieces) d) _ _ _ _ refl (fits-told (Pop d)))
 
 -- ---- how an event ends
-data Came (s n : Spoken) : Told → Type 0 where
-  full : (m : ℕ) → Came s n (refusing s (AtomRoom m))
-  long : (m : ℕ) → Came s n (refusing s (OutRoom m))
-  bare : Came s n (refusing s NoPiece)
-  over : Came s n (refusing s Overpop)
-  held : n .at .len ≤ length (s .out) → Came s n (told (Held (n .at)) (n .out) (n .starts))
+data Came (s n : Spoken) : EventTold → Type 0 where
+  full : (m : ℕ) → Came s n (eventRefusing s (AtomRoom m))
+  long : (m : ℕ) → Came s n (eventRefusing s (OutRoom m))
+  bare : Came s n (eventRefusing s NoPiece)
+  over : Came s n (eventRefusing s Overpop)
+  held : n .at .len ≤ length (s .out) → Came s n (toldWith (Held (n .at)) (n .out) (n .starts))
 
 fit-came : (s n : Spoken) → Came s n (fitting s n)
 unfolding fitting
 fit-came s n =
-    by-test (Came s n) (ltb (length (s .out)) (n .at .len)) {x = refusing s (OutRoom (n .at .len))} {y = told (Held (n .at)) (n .out) (n .starts)}
+    by-test (Came s n) (ltb (length (s .out)) (n .at .len)) {x = eventRefusing s (OutRoom (n .at .len))} {y = toldWith (Held (n .at)) (n .out) (n .starts)}
     (λ q. long (n .at .len)) (λ q. held (ltb-false (length (s .out)) (n .at .len) q))
 
 came : (s : Spoken) (e : Event) → Came s (sayT s e) (eventOf s e)
@@ -173,8 +173,8 @@ module _ (s : Spoken) (e : Event) (ps : List (List ℕ)) (h : Holds (s .out) ps 
       }
 
 module _ (s : Spoken) (e : Event) (h : Holds (s .out) (piecesIn s) s) where
-  on : (t : Told) → Came s (sayT s e) t → toldBy t ≡ answerOf (pieceRoom (s .starts)) (length (s .out)) e (piecesIn s) → OnPieces s e (leftBy (s .at) t)
-  unfolding leftBy saidOf toldOf stateIn tailOf
+  on : (t : EventTold) → Came s (sayT s e) t → toldBy t ≡ eventAnswer (pieceRoom (s .starts)) (length (s .out)) e (piecesIn s) → OnPieces s e (toldLeaves (s .at) t)
+  unfolding toldLeaves wroteSaid saidTold writerWords tailOf
   on t (full m) a = record { answers = a; refused = λ z. (refl, refl, refl); accepted = λ z. absurd (omega (arith, z)) }
   on t (long m) a = record { answers = a; refused = λ z. (refl, refl, refl); accepted = λ z. absurd (omega (arith, z)) }
   on t bare a = record { answers = a; refused = λ z. (refl, refl, refl); accepted = λ z. absurd (omega (arith, z)) }
@@ -190,7 +190,7 @@ on-pieces s e w =
 
 -- ---- the bytes after the line
 say-longer : (s : Spoken) (e : Event) → s .at .len ≤ sayT s e .at .len
-unfolding sayT pieceT added joinT longer popT wrapT
+unfolding sayT pieceT added joinT lengthened popT wrapT
 say-longer s (Root k) = pick-both (λ (z : Spoken). s .at .len ≤ z .at .len) (leb (pieceRoom (s .starts)) (s .at .pieces)) _ _ (omega arith) (omega arith)
 say-longer s (Extend b k) = pick-both (λ (z : Spoken). s .at .len ≤ z .at .len) (leb (pieceRoom (s .starts)) (s .at .pieces)) _ _ (omega arith) (omega arith)
 say-longer s (Join b n) = pick-both (λ (z : Spoken). s .at .len ≤ z .at .len) (eqb (s .at .pieces) 0) _ _ (omega arith) (omega arith)
@@ -219,21 +219,21 @@ ground-blank true o n h = drop-zeros n (length o) ∙ ap (λ (i : ℕ). replicat
 ground-blank false o n h = h refl
 
 -- the pieces of tables that hold pieces are those
-known : (out starts : List ℕ) (ps : List (List ℕ)) → take (length ps) starts ≡ startsOf ps → take (length (lineOf ps)) out ≡ lineOf ps → piecesTo out starts (length ps) (length (lineOf ps)) ≡ ps
-unfolding piecesTo startsOf lineOf
+known : (out starts : List ℕ) (ps : List (List ℕ)) → take (length ps) starts ≡ pieceStarts ps → take (length (lineOf ps)) out ≡ lineOf ps → piecesTo out starts (length ps) (length (lineOf ps)) ≡ ps
+unfolding piecesTo pieceStarts lineOf
 known out starts [] e f = refl
 known out starts (p ∷ ps) e f =
     let long : length (lineOf ps ++ p) ≡ length (lineOf ps) + length p = length-append (lineOf ps) p in
-    let start : getD starts (length ps) 0 ≡ length (lineOf ps) = sym (getD-take (suc (length ps)) starts (length ps) 0 (omega arith)) ∙ ap (λ (l : List ℕ). getD l (length ps) 0) e ∙ getD-at (startsOf ps) (length (lineOf ps)) [] 0 (length ps) (length-starts ps) in
-    let before : take (length ps) starts ≡ startsOf ps = sym (take-take (length ps) (suc (length ps)) starts (omega arith)) ∙ ap (take (length ps)) e ∙ take-at (startsOf ps) (length (lineOf ps) ∷ []) (length ps) (length-starts ps) in
+    let start : getD starts (length ps) 0 ≡ length (lineOf ps) = sym (getD-take (suc (length ps)) starts (length ps) 0 (omega arith)) ∙ ap (λ (l : List ℕ). getD l (length ps) 0) e ∙ getD-at (pieceStarts ps) (length (lineOf ps)) [] 0 (length ps) (length-starts ps) in
+    let before : take (length ps) starts ≡ pieceStarts ps = sym (take-take (length ps) (suc (length ps)) starts (omega arith)) ∙ ap (take (length ps)) e ∙ take-at (pieceStarts ps) (length (lineOf ps) ∷ []) (length ps) (length-starts ps) in
     let front-line : take (length (lineOf ps)) out ≡ lineOf ps = sym (take-take (length (lineOf ps)) (length (lineOf ps ++ p)) out (omega arith)) ∙ ap (take (length (lineOf ps))) f ∙ take-at (lineOf ps) p (length (lineOf ps)) refl in
     let whole : lineOf ps ++ take (length p) (drop (length (lineOf ps)) out) ≡ lineOf ps ++ p =
     ap (λ (l : List ℕ). l ++ take (length p) (drop (length (lineOf ps)) out)) (sym front-line) ∙ sym (take-add (length (lineOf ps)) (length p) out) ∙ ap (λ (i : ℕ). take i out) (sym long) ∙ f in
     let last : take (length p) (drop (length (lineOf ps)) out) ≡ p =
     sym (drop-at (lineOf ps) (take (length p) (drop (length (lineOf ps)) out)) (length (lineOf ps)) refl) ∙ ap (drop (length (lineOf ps))) whole ∙ drop-at (lineOf ps) p (length (lineOf ps)) refl in
     let size : length (lineOf ps ++ p) - length (lineOf ps) ≡ length p = omega arith in
-    ap (λ (i : ℕ). part i (length (lineOf ps ++ p) - i) out ∷ piecesTo out starts (length ps) i) start
-    ∙ ap (λ (i : ℕ). part (length (lineOf ps)) i out ∷ piecesTo out starts (length ps) (length (lineOf ps))) size
+    ap (λ (i : ℕ). bytesFrom i (length (lineOf ps ++ p) - i) out ∷ piecesTo out starts (length ps) i) start
+    ∙ ap (λ (i : ℕ). bytesFrom (length (lineOf ps)) i out ∷ piecesTo out starts (length ps) (length (lineOf ps))) size
     ∙ ap (λ (x : List ℕ). x ∷ piecesTo out starts (length ps) (length (lineOf ps))) last
     ∙ ap (λ (x : List (List ℕ)). p ∷ x) (known out starts ps before front-line)
 
@@ -246,23 +246,23 @@ held-known {o} {ps} {s} l h =
 
 -- what an event that is held leaves
 module _ (s : Spoken) (e : Event) (h : Holds (s .out) (piecesIn s) s) where
-  held-onward : sayT s e .at .len ≤ length (s .out) → Onward s e (left (said.Held (sayT s e .at)) (pick (eqb (s .at .pieces) 0) (clearedFrom (sayT s e .at .len) (sayT s e .out)) (sayT s e .out)) (sayT s e .starts))
-  unfolding groundOf stateIn
+  held-onward : sayT s e .at .len ≤ length (s .out) → EventOnward s e (eventLeaves (said.Held (sayT s e .at)) (pick (eqb (s .at .pieces) 0) (clearedFrom (sayT s e .at .len) (sayT s e .out)) (sayT s e .out)) (sayT s e .starts))
+  unfolding groundOf writerWords
   held-onward l =
       let n = holds-last s e (piecesIn s) h l in
       let g = ground-long (eqb (s .at .pieces) 0) (s .out) in
-      let fits : length (lineOf (after s e)) ≤ length (groundOf s) = omega (arith, n .len) in
+      let fits : length (lineOf (piecesAfter s e)) ≤ length (groundOf s) = omega (arith, n .len) in
       record {
         pieces = held-known fits n;
         tail = λ b.
             subst (λ (i : ℕ). drop i (last s e (piecesIn s) h) ≡ replicate (length (last s e (piecesIn s) h) - i) 0) (sym (n .len))
-            (subst (λ (o : List ℕ). drop (length (lineOf (after s e))) o ≡ replicate (length o - length (lineOf (after s e))) 0) (sym (n .line))
-            (rest-zeros (groundOf s) (lineOf (after s e)) (s .at .len) (omega (arith, n .len, say-longer s e)) fits
+            (subst (λ (o : List ℕ). drop (length (lineOf (piecesAfter s e))) o ≡ replicate (length o - length (lineOf (piecesAfter s e))) 0) (sym (n .line))
+            (rest-zeros (groundOf s) (lineOf (piecesAfter s e)) (s .at .len) (omega (arith, n .len, say-longer s e)) fits
             (ground-blank (eqb (s .at .pieces) 0) (s .out) (s .at .len) (λ q. b (eqb-false (s .at .pieces) 0 q)))));
       }
 
-  onward : (t : Told) → Came s (sayT s e) t → toldBy t .number ≡ desk.done → Onward s e (leftBy (s .at) t)
-  unfolding leftBy saidOf toldOf tailOf
+  onward : (t : EventTold) → Came s (sayT s e) t → toldBy t .number ≡ desk.done → EventOnward s e (toldLeaves (s .at) t)
+  unfolding toldLeaves wroteSaid saidTold tailOf
   onward t (full m) z = absurd (omega (arith, z))
   onward t (long m) z = absurd (omega (arith, z))
   onward t bare z = absurd (omega (arith, z))
@@ -271,7 +271,7 @@ module _ (s : Spoken) (e : Event) (h : Holds (s .out) (piecesIn s) s) where
 
 -- so what a run of accepted calls holds is what `writeEvents` makes, and with a first event on no piece the rest of the output
 -- is zeros after each of them
-pub accepted-onward : (s : Spoken) (e : Event) → isWriter s ≡ true → eventD true s e .told .number ≡ desk.done → Onward s e (eventD true s e)
-unfolding eventD leftBy
+pub accepted-onward : (s : Spoken) (e : Event) → isWriter s ≡ true → eventD true s e .told .number ≡ desk.done → EventOnward s e (eventD true s e)
+unfolding eventD toldLeaves
 accepted-onward s e w =
     rw w (λ z. onward s e (holds-pieces s w) (eventOf s e) (came s e) z)

@@ -15,17 +15,17 @@ use Rattle.desk_writer.specs.declared.Said.{Said}
 use Rattle.desk_writer.specs.declared.Said.the-variants as said
 use Rattle.desk_writer.specs.Pieces as pieces
 
-pub writer-17 : (ok : Bool) (s : Spoken) (e : Event) → both ok (pieces.isWriter s) ≡ false → pieces.eventD ok s e ≡ pieces.left said.BadTable (s .out) (s .starts)
+pub writer-17 : (ok : Bool) (s : Spoken) (e : Event) → both ok (pieces.isWriter s) ≡ false → pieces.eventD ok s e ≡ pieces.eventLeaves said.BadTable (s .out) (s .starts)
 unfolding pieces.eventD
 writer-17 ok s e h = simp h
 
-pub writer-bad : pieces.toldOf said.BadTable ≡ desk.told desk.badTable (0 ∷ [])
-unfolding pieces.toldOf
+pub writer-bad : pieces.saidTold said.BadTable ≡ desk.told desk.badTable (0 ∷ [])
+unfolding pieces.saidTold
 writer-bad = refl
 
 -- ---- one answer
 -- the numbers, the values and the state tell the answer
-saidBy : pieces.Left → Said
+saidBy : pieces.EventLeft → Said
 saidBy l =
     pick (eqb (l .told .number) desk.done) (said.Held (writer (getD (l .state) 0 0) (getD (l .state) 1 0)))
     (pick (eqb (l .told .number) desk.atomRoom) (said.AtomRoom (getD (l .told .values) 0 0))
@@ -33,8 +33,8 @@ saidBy l =
     (pick (eqb (l .told .number) desk.noAtom) said.NoPiece
     (pick (eqb (l .told .number) desk.overpop) said.Overpop said.BadTable))))
 
-known : (r : Said) (o t : List ℕ) → saidBy (pieces.left r o t) ≡ r
-unfolding saidBy pieces.toldOf pieces.stateIn
+known : (r : Said) (o t : List ℕ) → saidBy (pieces.eventLeaves r o t) ≡ r
+unfolding saidBy pieces.saidTold pieces.writerWords
 known (said.Held w) o t = refl
 known (said.AtomRoom n) o t = refl
 known (said.OutRoom n) o t = refl
@@ -42,7 +42,7 @@ known said.NoPiece o t = refl
 known said.Overpop o t = refl
 known said.BadTable o t = refl
 
-pub one-answer : {r q : Said} {o p s t : List ℕ} → pieces.left r o s ≡ pieces.left q p t → r ≡ q
+pub one-answer : {r q : Said} {o p s t : List ℕ} → pieces.eventLeaves r o s ≡ pieces.eventLeaves q p t → r ≡ q
 one-answer {r} {q} {o} {p} {s} {t} e = sym (known r o s) ∙ ap saidBy e ∙ known q p t
 
 -- what a call hands back: its answer, the output and the starts that are left
@@ -55,8 +55,8 @@ abbrev result : Said → List ℕ → List ℕ → Result
 result r o t = record { answer = r; out = o; starts = t }
 
 -- two results that meet the promise of an event, whichever it is, are equal
-pub one-event : (ok : Bool) (s : Spoken) (e : Event) (x y : Result) → pieces.left (x .answer) (x .out) (x .starts) ≡ pieces.eventD ok s e
-    → pieces.left (y .answer) (y .out) (y .starts) ≡ pieces.eventD ok s e → x ≡ y
+pub one-event : (ok : Bool) (s : Spoken) (e : Event) (x y : Result) → pieces.eventLeaves (x .answer) (x .out) (x .starts) ≡ pieces.eventD ok s e
+    → pieces.eventLeaves (y .answer) (y .out) (y .starts) ≡ pieces.eventD ok s e → x ≡ y
 one-event ok s e =
-    one-result (λ (x : Result). pieces.left (x .answer) (x .out) (x .starts)) (λ (l : pieces.Left). result (saidBy l) (l .out) (l .starts))
+    one-result (λ (x : Result). pieces.eventLeaves (x .answer) (x .out) (x .starts)) (λ (l : pieces.EventLeft). result (saidBy l) (l .out) (l .starts))
     (λ x. ap (λ (r : Said). result r (x .out) (x .starts)) (known (x .answer) (x .out) (x .starts))) (pieces.eventD ok s e)

@@ -15,10 +15,10 @@ use Rattle.writer.specs.declared.Writer.{Writer}
 use Rattle.writer.specs.declared.Wrote.{Wrote}
 use Rattle.writer.specs.declared.Wrote.the-variants as wrote
 use Rattle.writer.specs.Line.{Event}
-use Rattle.writer.specs.Tables.{Spoken, told, pieceRoom, eventOf, far, Near}
+use Rattle.writer.specs.Tables.{Spoken, toldWith, pieceRoom, eventOf, far, LineNear}
 use Rattle.desk_writer.specs.declared.Said.{Said}
 use Rattle.desk_writer.specs.declared.Said.the-variants as said
-use Rattle.desk_writer.specs.Pieces.{isWriter, clearedFrom, tailOf, saidOf, left, leftBy, eventD}
+use Rattle.desk_writer.specs.Pieces.{isWriter, clearedFrom, tailOf, wroteSaid, eventLeaves, toldLeaves, eventD}
 use Rattle.desk_pool.proofs.Both.{first, second}
 
 room-most : (starts : List ℕ) → pieceRoom starts ≤ atomLimit
@@ -29,7 +29,7 @@ room-most starts = go (ltb (length starts) atomLimit) refl where
   go false q = rw q (omega arith)
 
 -- what the writer's events ask
-pub near : (s : Spoken) → isWriter s ≡ true → Near (s .at)
+pub near : (s : Spoken) → isWriter s ≡ true → LineNear (s .at)
 unfolding isWriter
 near s h1 =
     let h2 = second (leb (s .at .pieces) (pieceRoom (s .starts))) _ h1 in
@@ -42,21 +42,21 @@ near s h1 =
 
 module _ (s : Spoken) (e : Event) where
   -- numbers that stand for nothing
-  pub bad-number : (ok : Bool) → ok ≡ false → left said.BadTable (s .out) (s .starts) ≡ eventD ok s e
+  pub bad-number : (ok : Bool) → ok ≡ false → eventLeaves said.BadTable (s .out) (s .starts) ≡ eventD ok s e
   unfolding eventD
   bad-number ok h = simp h
 
-  pub bad-writer : (ok r : Bool) → ok ≡ true → r ≡ isWriter s → r ≡ false → left said.BadTable (s .out) (s .starts) ≡ eventD ok s e
+  pub bad-writer : (ok r : Bool) → ok ≡ true → r ≡ isWriter s → r ≡ false → eventLeaves said.BadTable (s .out) (s .starts) ≡ eventD ok s e
   unfolding eventD
   bad-writer ok r h w f = simp (h, ← w, f)
 
   -- and those that stand for a writer
-  pub stood : (ok r : Bool) (t : Wrote) (a : Said) (out last starts : List ℕ) → ok ≡ true → r ≡ isWriter s → r ≡ true → told t out starts ≡ eventOf s e → (a ≡ saidOf t) × (last ≡ tailOf (s .at) t out) → left a last starts ≡ eventD ok s e
-  unfolding eventD leftBy
+  pub stood : (ok r : Bool) (t : Wrote) (a : Said) (out last starts : List ℕ) → ok ≡ true → r ≡ isWriter s → r ≡ true → toldWith t out starts ≡ eventOf s e → (a ≡ wroteSaid t) × (last ≡ tailOf (s .at) t out) → eventLeaves a last starts ≡ eventD ok s e
+  unfolding eventD toldLeaves
   stood ok r t a out last starts h w f d g =
-      ap (λ (x : Said). left x last starts) (g .0)
-      ∙ ap (λ (x : List ℕ). left (saidOf t) x starts) (g .1)
-      ∙ ap (leftBy (s .at)) d
+      ap (λ (x : Said). eventLeaves x last starts) (g .0)
+      ∙ ap (λ (x : List ℕ). eventLeaves (wroteSaid t) x starts) (g .1)
+      ∙ ap (toldLeaves (s .at)) d
       ∙ simp (h, ← w, f)
 
 -- ---- an output cleared from a place on
@@ -97,6 +97,6 @@ pub held-later : (before w : Writer) (o : List ℕ) → (before .pieces ≡ 0 �
 held-later before w o z = (refl, rw (ne-eqb _ _ z))
 
 module _ (before : Writer) (o : List ℕ) (r : Wrote) where
-  pub answer-held : (w : Writer) (a : Said) (p : List ℕ) → r ≡ wrote.Held w → (a ≡ said.Held w) × (p ≡ pick (eqb (before .pieces) 0) (clearedFrom (w .len) o) o) → (a ≡ saidOf r) × (p ≡ tailOf before r o)
-  unfolding saidOf tailOf
+  pub answer-held : (w : Writer) (a : Said) (p : List ℕ) → r ≡ wrote.Held w → (a ≡ said.Held w) × (p ≡ pick (eqb (before .pieces) 0) (clearedFrom (w .len) o) o) → (a ≡ wroteSaid r) × (p ≡ tailOf before r o)
+  unfolding wroteSaid tailOf
   answer-held w a p e h = rw e h

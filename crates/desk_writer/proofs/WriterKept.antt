@@ -17,9 +17,9 @@ use Rattle.writer.specs.declared.Writer.{Writer}
 use Rattle.writer.specs.declared.Wrote.{Wrote}
 use Rattle.writer.specs.declared.Wrote.the-variants.{Held, AtomRoom, OutRoom, NoPiece, Overpop}
 use Rattle.writer.specs.Line.{Event, Root, Extend, Join, Pop, dotText, wrapped}
-use Rattle.writer.specs.Tables.{Spoken, spoken, writer, pieceRoom, added, pieceT, longer, joinT, startOf, part, wrapT, popT, sayT, Told, told, refusing, fitting, eventOf, far}
+use Rattle.writer.specs.Tables.{Spoken, spoken, writer, pieceRoom, added, pieceT, lengthened, joinT, lastStart, bytesFrom, wrapT, popT, sayT, EventTold, toldWith, eventRefusing, fitting, eventOf, far}
 use Rattle.feature.specs.Every.{every}
-use Rattle.desk_writer.specs.Pieces.{endOf, isPiece, piecesStand, isWriter}
+use Rattle.desk_writer.specs.Pieces.{pieceEnd, isPiece, piecesStand, isWriter}
 use Rattle.feature.proofs.Every.{every-at, every-all}
 use Rattle.feature.proofs.Cases.{by-test}
 use Rattle.desk_pool.proofs.Both.{first, second, join}
@@ -31,19 +31,19 @@ above {n} e = go (ltb 0 n) refl where
   go false q = absurd (let l = ltb-false 0 n q in e (omega arith))
 
 -- ---- where a piece ends
-end-inner : (starts : List ℕ) (w : Writer) (i : ℕ) → i + 1 < w .pieces → endOf starts w i ≡ getD starts (i + 1) 0
-unfolding endOf
+end-inner : (starts : List ℕ) (w : Writer) (i : ℕ) → i + 1 < w .pieces → pieceEnd starts w i ≡ getD starts (i + 1) 0
+unfolding pieceEnd
 end-inner starts w i h = rw (lt-ltb _ _ h)
 
-end-last : (starts : List ℕ) (w : Writer) (i : ℕ) → w .pieces ≤ i + 1 → endOf starts w i ≡ w .len
-unfolding endOf
+end-last : (starts : List ℕ) (w : Writer) (i : ℕ) → w .pieces ≤ i + 1 → pieceEnd starts w i ≡ w .len
+unfolding pieceEnd
 end-last starts w i h = rw (le-ltb _ _ h)
 
 -- ---- the test of pieces as facts
 pub record Laid (starts : List ℕ) (w : Writer) : Type 0 where
   pub none : w .pieces ≡ 0 → w .len ≡ 0
   pub nought : 0 < w .pieces → getD starts 0 0 ≡ 0
-  pub each : (i : ℕ) → i < w .pieces → getD starts i 0 ≤ endOf starts w i
+  pub each : (i : ℕ) → i < w .pieces → getD starts i 0 ≤ pieceEnd starts w i
 
 laid : (starts : List ℕ) (w : Writer) → piecesStand starts w ≡ true → Laid starts w
 unfolding piecesStand isPiece
@@ -60,7 +60,7 @@ laid starts w h = go (eqb (w .pieces) 0) refl h where
       record {
         none = λ z. absurd (eqb-false (w .pieces) 0 q z);
         nought = λ z. eqb-true (getD starts 0 0) 0 (first (eqb (getD starts 0 0) 0) _ k);
-        each = λ (i : ℕ) (l : i < w .pieces). leb-true (getD starts i 0) (endOf starts w i) (every-at (isPiece starts w) (w .pieces) i (second (eqb (getD starts 0 0) 0) _ k) l);
+        each = λ (i : ℕ) (l : i < w .pieces). leb-true (getD starts i 0) (pieceEnd starts w i) (every-at (isPiece starts w) (w .pieces) i (second (eqb (getD starts 0 0) 0) _ k) l);
       }
 
 lies : (starts : List ℕ) (w : Writer) → Laid starts w → piecesStand starts w ≡ true
@@ -68,7 +68,7 @@ unfolding piecesStand isPiece
 lies starts w h =
     by-test (λ (z : Bool). z ≡ true) (eqb (w .pieces) 0) {x = eqb (w .len) 0} {y = both (eqb (getD starts 0 0) 0) (every (isPiece starts w) (w .pieces))}
     (λ q. eq-eqb (w .len) 0 (h .none (eqb-true (w .pieces) 0 q)))
-    (λ q. join (eq-eqb (getD starts 0 0) 0 (h .nought (above (eqb-false (w .pieces) 0 q)))) (every-all (isPiece starts w) (w .pieces) (λ (i : ℕ) (l : i < w .pieces). le-leb (getD starts i 0) (endOf starts w i) (h .each i l))))
+    (λ q. join (eq-eqb (getD starts 0 0) 0 (h .nought (above (eqb-false (w .pieces) 0 q)))) (every-all (isPiece starts w) (w .pieces) (λ (i : ℕ) (l : i < w .pieces). le-leb (getD starts i 0) (pieceEnd starts w i) (h .each i l))))
 
 -- a piece starts within the line
 within : (starts : List ℕ) (w : Writer) → Laid starts w → (k i : ℕ) → i + k + 1 ≡ w .pieces → getD starts i 0 ≤ w .len
@@ -94,7 +94,7 @@ laid-before starts n end h =
       each = λ (i : ℕ) (l : i < n). go i l (ltb (i + 1) n) refl;
     }
   where
-    go : (i : ℕ) → i < n → (q : Bool) → ltb (i + 1) n ≡ q → getD starts i 0 ≤ endOf starts (writer n (getD starts n 0)) i
+    go : (i : ℕ) → i < n → (q : Bool) → ltb (i + 1) n ≡ q → getD starts i 0 ≤ pieceEnd starts (writer n (getD starts n 0)) i
     go i l true q =
         let j = ltb-true (i + 1) n q in
         let a = h .each i (omega arith) in
@@ -130,9 +130,9 @@ module _ (starts : List ℕ) (w : Writer) (h : Laid starts w) (n : ℕ) (room : 
     go true q = let e = eqb-true (w .pieces) 0 q in new 0 (sym e) ∙ h .none e
     go false q = let l = above (eqb-false (w .pieces) 0 q) in old 0 l ∙ h .nought l
 
-  more-each : (i : ℕ) → i < w .pieces + 1 → getD more i 0 ≤ endOf more grown i
+  more-each : (i : ℕ) → i < w .pieces + 1 → getD more i 0 ≤ pieceEnd more grown i
   more-each i l = go (ltb i (w .pieces)) (ltb (i + 1) (w .pieces)) refl refl where
-    go : (q r : Bool) → ltb i (w .pieces) ≡ q → ltb (i + 1) (w .pieces) ≡ r → getD more i 0 ≤ endOf more grown i
+    go : (q r : Bool) → ltb i (w .pieces) ≡ q → ltb (i + 1) (w .pieces) ≡ r → getD more i 0 ≤ pieceEnd more grown i
     go false r q s =
         let k = ltb-false i (w .pieces) q in
         let a = new i (omega arith) in
@@ -173,7 +173,7 @@ fewer-laid starts w h n m pos less long =
       each = λ (i : ℕ) (l : i < n). go i l (ltb (i + 1) n) refl;
     }
   where
-    go : (i : ℕ) → i < n → (q : Bool) → ltb (i + 1) n ≡ q → getD starts i 0 ≤ endOf starts (writer n m) i
+    go : (i : ℕ) → i < n → (q : Bool) → ltb (i + 1) n ≡ q → getD starts i 0 ≤ pieceEnd starts (writer n m) i
     go i l true q =
         let j = ltb-true (i + 1) n q in
         let a = h .each i (omega arith) in
@@ -221,13 +221,13 @@ KeepsBy s out starts (OutRoom n) = (out ≡ s .out) × (starts ≡ s .starts)
 KeepsBy s out starts NoPiece = (out ≡ s .out) × (starts ≡ s .starts)
 KeepsBy s out starts Overpop = (out ≡ s .out) × (starts ≡ s .starts)
 
-abbrev pub Keeps : Spoken → Told → Type 0
+abbrev pub Keeps : Spoken → EventTold → Type 0
 Keeps s t = KeepsBy s (t .out) (t .starts) (t .answer)
 
 fitting-kept : (s n : Spoken) → (n .at .len ≤ length (s .out) → n .at .len < far → Writes n) → Keeps s (fitting s n)
 unfolding fitting
 fitting-kept s n h =
-    by-test (λ (t : Told). Keeps s t) (ltb (length (s .out)) (n .at .len)) {x = refusing s (OutRoom (n .at .len))} {y = told (Held (n .at)) (n .out) (n .starts)}
+    by-test (λ (t : EventTold). Keeps s t) (ltb (length (s .out)) (n .at .len)) {x = eventRefusing s (OutRoom (n .at .len))} {y = toldWith (Held (n .at)) (n .out) (n .starts)}
     (λ q. (refl, refl))
     (λ q l. stands (spoken (n .at) (n .out) (n .starts)) (h (ltb-false (length (s .out)) (n .at .len) q) l))
 
@@ -254,7 +254,7 @@ module _ (s : Spoken) (h : Writes s) where
       }))
 
   join-kept : (text : List ℕ) → (s .at .pieces ≡ 0 → ⊥) → Keeps s (fitting s (joinT s text))
-  unfolding joinT longer
+  unfolding joinT lengthened
   join-kept text z =
       rw (ne-eqb _ _ z)
       (fitting-kept s (spoken (writer (s .at .pieces) (s .at .len + length text)) (sets (s .out) (s .at .len) text) (s .starts))
@@ -269,7 +269,7 @@ module _ (s : Spoken) (h : Writes s) where
   unfolding popT wrapT
   pop-kept d l =
       rw (lt-leb _ _ l)
-      (fitting-kept s (spoken (writer (s .at .pieces - d) (s .at .len + 2)) (sets (s .out) (startOf (s .starts) (s .at) d) (wrapped (part (startOf (s .starts) (s .at) d) (s .at .len - startOf (s .starts) (s .at) d) (s .out)))) (s .starts))
+      (fitting-kept s (spoken (writer (s .at .pieces - d) (s .at .len + 2)) (sets (s .out) (lastStart (s .starts) (s .at) d) (wrapped (bytesFrom (lastStart (s .starts) (s .at) d) (s .at .len - lastStart (s .starts) (s .at) d) (s .out)))) (s .starts))
       (λ fits near. record {
         pieces = omega (arith, h .pieces);
         line = rw length-sets fits;
@@ -280,19 +280,19 @@ module _ (s : Spoken) (h : Writes s) where
   kept : (e : Event) → Keeps s (eventOf s e)
   unfolding eventOf sayT
   kept (Root k) =
-      by-test (λ (t : Told). Keeps s t) (leb (pieceRoom (s .starts)) (s .at .pieces)) {x = refusing s (AtomRoom (s .at .pieces))} {y = fitting s (pieceT s (dotText (s .at .pieces) ++ atomText k))}
+      by-test (λ (t : EventTold). Keeps s t) (leb (pieceRoom (s .starts)) (s .at .pieces)) {x = eventRefusing s (AtomRoom (s .at .pieces))} {y = fitting s (pieceT s (dotText (s .at .pieces) ++ atomText k))}
       (λ q. (refl, refl))
       (λ q. piece-kept (dotText (s .at .pieces) ++ atomText k) (leb-false _ _ q))
   kept (Extend b k) =
-      by-test (λ (t : Told). Keeps s t) (leb (pieceRoom (s .starts)) (s .at .pieces)) {x = refusing s (AtomRoom (s .at .pieces))} {y = fitting s (pieceT s (bondText b ++ atomText k))}
+      by-test (λ (t : EventTold). Keeps s t) (leb (pieceRoom (s .starts)) (s .at .pieces)) {x = eventRefusing s (AtomRoom (s .at .pieces))} {y = fitting s (pieceT s (bondText b ++ atomText k))}
       (λ q. (refl, refl))
       (λ q. piece-kept (bondText b ++ atomText k) (leb-false _ _ q))
   kept (Join b n) =
-      by-test (λ (t : Told). Keeps s t) (eqb (s .at .pieces) 0) {x = refusing s NoPiece} {y = fitting s (joinT s (bondText b ++ rnumText n))}
+      by-test (λ (t : EventTold). Keeps s t) (eqb (s .at .pieces) 0) {x = eventRefusing s NoPiece} {y = fitting s (joinT s (bondText b ++ rnumText n))}
       (λ q. (refl, refl))
       (λ q. join-kept (bondText b ++ rnumText n) (eqb-false _ _ q))
   kept (Pop d) =
-      by-test (λ (t : Told). Keeps s t) (leb (s .at .pieces) d) {x = refusing s Overpop} {y = fitting s (popT s d)}
+      by-test (λ (t : EventTold). Keeps s t) (leb (s .at .pieces) d) {x = eventRefusing s Overpop} {y = fitting s (popT s d)}
       (λ q. (refl, refl))
       (λ q. pop-kept d (leb-false _ _ q))
 

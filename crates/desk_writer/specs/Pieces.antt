@@ -15,7 +15,7 @@ use Rattle.writer.specs.declared.Writer.{Writer}
 use Rattle.writer.specs.declared.Wrote.{Wrote}
 use Rattle.writer.specs.declared.Wrote.the-variants as wrote
 use Rattle.writer.specs.Line.{Event}
-use Rattle.writer.specs.Tables.{Spoken, Told, pieceRoom, eventOf, far}
+use Rattle.writer.specs.Tables.{Spoken, EventTold, pieceRoom, eventOf, far}
 use Rattle.desk_writer.specs.declared.Said.{Said}
 use Rattle.desk_writer.specs.declared.Said.the-variants.{Held, AtomRoom, OutRoom, NoPiece, Overpop, BadTable}
 use Rattle.feature.specs.Every.{every}
@@ -23,11 +23,11 @@ use Rattle.desk_numbers.specs.Numbers as desk
 
 -- ---- a writer's state
 -- where piece i ends
-unfoldable pub endOf : List ℕ → Writer → ℕ → ℕ
-endOf starts w i = pick (ltb (i + 1) (w .pieces)) (getD starts (i + 1) 0) (w .len)
+unfoldable pub pieceEnd : List ℕ → Writer → ℕ → ℕ
+pieceEnd starts w i = pick (ltb (i + 1) (w .pieces)) (getD starts (i + 1) 0) (w .len)
 
 unfoldable pub isPiece : List ℕ → Writer → ℕ → Bool
-isPiece starts w i = leb (getD starts i 0) (endOf starts w i)
+isPiece starts w i = leb (getD starts i 0) (pieceEnd starts w i)
 
 unfoldable pub piecesStand : List ℕ → Writer → Bool
 piecesStand starts w =
@@ -42,30 +42,30 @@ isWriter s =
     (piecesStand (s .starts) (s .at))))
 
 -- ---- the answers
-unfoldable pub saidOf : Wrote → Said
-saidOf (wrote.Held w) = Held w
-saidOf (wrote.AtomRoom n) = AtomRoom n
-saidOf (wrote.OutRoom n) = OutRoom n
-saidOf wrote.NoPiece = NoPiece
-saidOf wrote.Overpop = Overpop
+unfoldable pub wroteSaid : Wrote → Said
+wroteSaid (wrote.Held w) = Held w
+wroteSaid (wrote.AtomRoom n) = AtomRoom n
+wroteSaid (wrote.OutRoom n) = OutRoom n
+wroteSaid wrote.NoPiece = NoPiece
+wroteSaid wrote.Overpop = Overpop
 
 -- an answer in the scope's numbers
-unfoldable pub toldOf : Said → desk.Told
-toldOf (Held w) = desk.told desk.done (w .len ∷ [])
-toldOf (AtomRoom n) = desk.told desk.atomRoom (n ∷ [])
-toldOf (OutRoom n) = desk.told desk.outRoom (n ∷ [])
-toldOf BadTable = desk.told desk.badTable (0 ∷ [])
-toldOf NoPiece = desk.told desk.noAtom []
-toldOf Overpop = desk.told desk.overpop []
+unfoldable pub saidTold : Said → desk.Told
+saidTold (Held w) = desk.told desk.done (w .len ∷ [])
+saidTold (AtomRoom n) = desk.told desk.atomRoom (n ∷ [])
+saidTold (OutRoom n) = desk.told desk.outRoom (n ∷ [])
+saidTold BadTable = desk.told desk.badTable (0 ∷ [])
+saidTold NoPiece = desk.told desk.noAtom []
+saidTold Overpop = desk.told desk.overpop []
 
 -- the numbers of the state that it hands back; a refusal hands back none
-unfoldable pub stateIn : Said → List ℕ
-stateIn (Held w) = w .pieces ∷ w .len ∷ []
-stateIn (AtomRoom n) = []
-stateIn (OutRoom n) = []
-stateIn BadTable = []
-stateIn NoPiece = []
-stateIn Overpop = []
+unfoldable pub writerWords : Said → List ℕ
+writerWords (Held w) = w .pieces ∷ w .len ∷ []
+writerWords (AtomRoom n) = []
+writerWords (OutRoom n) = []
+writerWords BadTable = []
+writerWords NoPiece = []
+writerWords Overpop = []
 
 -- ---- what is left of the output
 -- zeros from the place n on
@@ -82,18 +82,18 @@ tailOf before wrote.Overpop out = out
 
 -- ---- the calls
 -- what a call answers, the state that it hands back, the output and the starts that it leaves
-pub record Left : Type 0 where
+pub record EventLeft : Type 0 where
   pub told : desk.Told
   pub state : List ℕ
   pub out : List ℕ
   pub starts : List ℕ
 
-abbrev pub left : Said → List ℕ → List ℕ → Left
-left r out starts = record { told = toldOf r; state = stateIn r; out = out; starts = starts }
+abbrev pub eventLeaves : Said → List ℕ → List ℕ → EventLeft
+eventLeaves r out starts = record { told = saidTold r; state = writerWords r; out = out; starts = starts }
 
-unfoldable pub leftBy : Writer → Told → Left
-leftBy before t = left (saidOf (t .answer)) (tailOf before (t .answer) (t .out)) (t .starts)
+unfoldable pub toldLeaves : Writer → EventTold → EventLeft
+toldLeaves before t = eventLeaves (wroteSaid (t .answer)) (tailOf before (t .answer) (t .out)) (t .starts)
 
 -- an event, where the numbers of what it says stand for something
-unfoldable pub eventD : Bool → Spoken → Event → Left
-eventD ok s e = pick (both ok (isWriter s)) (leftBy (s .at) (eventOf s e)) (left BadTable (s .out) (s .starts))
+unfoldable pub eventD : Bool → Spoken → Event → EventLeft
+eventD ok s e = pick (both ok (isWriter s)) (toldLeaves (s .at) (eventOf s e)) (eventLeaves BadTable (s .out) (s .starts))

@@ -7,11 +7,11 @@ ghost use lib.Dec.{eqb, ltb};
 ghost use Rattle.feature.specs.Pick.{pick};
 ghost use Rattle.desk_writer.specs.declared.Said.the-variants.{Held};
 ghost use Rattle.feature.specs.Kinds.{inRange};
-ghost use Rattle.builder.specs.Rings.{numbers};
+ghost use Rattle.builder.specs.Rings.{ringNumberCount};
 ghost use Rattle.writer.specs.Line.{Event};
 ghost use Rattle.writer.specs.Tables.{spoken};
 ghost use Rattle.feature.specs.Every.{every};
-ghost use Rattle.desk_writer.specs.Pieces.{isPiece, piecesStand, isWriter, clearedFrom, tailOf, saidOf, left, eventD};
+ghost use Rattle.desk_writer.specs.Pieces.{isPiece, piecesStand, isWriter, clearedFrom, tailOf, wroteSaid, eventLeaves, eventD};
 use builder::opens::NUMBERS;
 use feature::atom_kind::AtomKind;
 use feature::atom_kind::in_range;
@@ -116,7 +116,7 @@ fn held(out: &mut [u8], before: Writer, w: Writer) -> Said
 
 // The answer to an event of a writer that stands, and what is left of the output.
 fn answer(out: &mut [u8], before: Writer, r: Wrote) -> Said
-    ensures { λ a. ⌜ (a ≡ saidOf r) × (now (out .exit) ≡ tailOf before r (now (out .entry))) ⌝ }
+    ensures { λ a. ⌜ (a ≡ wroteSaid r) × (now (out .exit) ≡ tailOf before r (now (out .entry))) ⌝ }
 {
     match r {
         Wrote::Held(w) => held(out, before, w),
@@ -129,7 +129,7 @@ fn answer(out: &mut [u8], before: Writer, r: Wrote) -> Said
 
 // A first atom of a component.
 pub fn root(out: &mut [u8], starts: &mut [u32], w: Writer, k: AtomKind) -> Said
-    ensures { λ r. ⌜ left r (now (out .exit)) (now (starts .exit)) ≡ eventD (inRange k) (spoken w (now (out .entry)) (now (starts .entry))) (Event.Root k) ⌝ }
+    ensures { λ r. ⌜ eventLeaves r (now (out .exit)) (now (starts .exit)) ≡ eventD (inRange k) (spoken w (now (out .entry)) (now (starts .entry))) (Event.Root k) ⌝ }
 {
     if !in_range(k) {
         return Said::BadTable;
@@ -143,7 +143,7 @@ pub fn root(out: &mut [u8], starts: &mut [u32], w: Writer, k: AtomKind) -> Said
 
 // An atom bonded to the one before.
 pub fn extend(out: &mut [u8], starts: &mut [u32], w: Writer, b: BondKind, k: AtomKind) -> Said
-    ensures { λ r. ⌜ left r (now (out .exit)) (now (starts .exit)) ≡ eventD (inRange k) (spoken w (now (out .entry)) (now (starts .entry))) (Event.Extend b k) ⌝ }
+    ensures { λ r. ⌜ eventLeaves r (now (out .exit)) (now (starts .exit)) ≡ eventD (inRange k) (spoken w (now (out .entry)) (now (starts .entry))) (Event.Extend b k) ⌝ }
 {
     if !in_range(k) {
         return Said::BadTable;
@@ -157,7 +157,7 @@ pub fn extend(out: &mut [u8], starts: &mut [u32], w: Writer, b: BondKind, k: Ato
 
 // A ring number at the last piece.
 pub fn join(out: &mut [u8], starts: &mut [u32], w: Writer, b: BondKind, n: u32) -> Said
-    ensures { λ r. ⌜ left r (now (out .exit)) (now (starts .exit)) ≡ eventD (ltb n numbers) (spoken w (now (out .entry)) (now (starts .entry))) (Event.Join b n) ⌝ }
+    ensures { λ r. ⌜ eventLeaves r (now (out .exit)) (now (starts .exit)) ≡ eventD (ltb n ringNumberCount) (spoken w (now (out .entry)) (now (starts .entry))) (Event.Join b n) ⌝ }
 {
     if NUMBERS <= n as usize {
         return Said::BadTable;
@@ -171,7 +171,7 @@ pub fn join(out: &mut [u8], starts: &mut [u32], w: Writer, b: BondKind, n: u32) 
 
 // The last pieces, so many, put in brackets onto the piece before.
 pub fn pop(out: &mut [u8], starts: &mut [u32], w: Writer, d: usize) -> Said
-    ensures { λ r. ⌜ left r (now (out .exit)) (now (starts .exit)) ≡ eventD true (spoken w (now (out .entry)) (now (starts .entry))) (Event.Pop d) ⌝ }
+    ensures { λ r. ⌜ eventLeaves r (now (out .exit)) (now (starts .exit)) ≡ eventD true (spoken w (now (out .entry)) (now (starts .entry))) (Event.Pop d) ⌝ }
 {
     if !is_writer(out, starts, w) {
         return Said::BadTable;

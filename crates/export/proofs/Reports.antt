@@ -11,16 +11,16 @@ use Rattle.write.specs.declared.answer.Written.{Written}
 use Rattle.write.specs.Write as write
 use Rattle.write.specs.Order.{Order, order}
 use Rattle.builder.specs.declared.builder.Builder.{Builder}
-use Rattle.desk_builder.specs.Build.{Left, leftBy}
+use Rattle.desk_builder.specs.Build.{BuildLeft, answerLeaves}
 use Rattle.desk_builder.specs.declared.calls.Answer as calls
 use Rattle.desk_builder.specs.declared.calls.Answer.the-variants as built
 use Rattle.packing.specs.Words.{listed}
 use Rattle.packing.specs.declared.Pair.{Pair}
 use Rattle.desk_atom.specs.declared.Begins.{Begins}
-use Rattle.desk_atom.specs.Texts.{zeros, kindsIn, reads, firstAtom}
+use Rattle.desk_atom.specs.Texts.{zeros, kindsIn, tellsAtom, firstAtom}
 use Rattle.desk_writer.specs.declared.Said as lines
 use Rattle.desk_writer.specs.declared.Said.the-variants as said
-use Rattle.desk_writer.specs.Pieces.{stateIn}
+use Rattle.desk_writer.specs.Pieces.{writerWords}
 use Rattle.desk_pool.specs.declared.Handed.{Handed}
 use Rattle.desk_pool.specs.declared.Handed.the-variants as handed
 use Rattle.desk_pool.specs.Slots as slots
@@ -33,12 +33,12 @@ use Rattle.desk_report.specs.declared.state.AsPool.{AsPool}
 use Rattle.desk_report.specs.declared.state.AsPool.the-variants as pool
 use Rattle.desk_report.specs.declared.state.AsBuilder.{AsBuilder}
 use Rattle.desk_report.specs.declared.state.AsBuilder.the-variants as state
-use Rattle.export.specs.Atom.{kindSize, kindIn, reading, taken, readX}
+use Rattle.export.specs.Atom.{kindSize, readKindWords, reading, taken, readAtomX}
 use Rattle.export.specs.Calls.{readCells, readBy, writeCells, writtenBy, orderCells, orderedBy}
 use Rattle.export.specs.Given.{onBuilder, onWriter, onPool}
 use Rattle.export.specs.Lines as Lines
 use Rattle.export.specs.Rings as Rings
-use Rattle.export.specs.Events.{Made, made, told}
+use Rattle.export.specs.Events.{Made, made, buildReported}
 use Rattle.desk_report.specs.Report.{bad, ofRead, ofWritten, ofBuilt, ofBegins, laidInto}
 use Rattle.desk_report.specs.State.{writerList, poolList}
 
@@ -47,7 +47,7 @@ pub read-parts : (s : Said) (r : Answer) (atoms bonds lent left : List ℕ) (p :
 read-parts s r atoms bonds lent left p e f g =
     ap (readCells atoms bonds) (g ∙ ap (λ (x : Report). laidInto lent x) f) ∙ ap (readBy lent) e
 
-pub write-parts : (s : write.Left) (r : Written) (out lent left′ : List ℕ) (p : Report) → write.left r out ≡ s → p ≡ ofWritten r → left′ ≡ laidInto lent p → writeCells out left′ ≡ writtenBy lent s
+pub write-parts : (s : write.WriteLeft) (r : Written) (out lent left′ : List ℕ) (p : Report) → write.writeLeaves r out ≡ s → p ≡ ofWritten r → left′ ≡ laidInto lent p → writeCells out left′ ≡ writtenBy lent s
 write-parts s r out lent left′ p e f g =
     ap (writeCells out) (g ∙ ap (λ (x : Report). laidInto lent x) f) ∙ ap (writtenBy lent) e
 
@@ -57,24 +57,24 @@ order-parts s r walked number back lent left p e f g =
 
 -- what one atom was read as
 module _ (k t text : List ℕ) where
-  pub no-room : (k′ t′ : List ℕ) → length k < kindSize → k′ ≡ zeros (length k) → t′ ≡ laidInto t bad → reading k′ t′ ≡ readX (reading k t) text
-  unfolding readX
+  pub no-room : (k′ t′ : List ℕ) → length k < kindSize → k′ ≡ zeros (length k) → t′ ≡ laidInto t bad → reading k′ t′ ≡ readAtomX (reading k t) text
+  unfolding readAtomX
   no-room k′ t′ h e f =
       ap (λ (x : List ℕ). reading x t′) e
       ∙ ap (λ (x : List ℕ). reading (zeros (length k)) x) f
       ∙ simp (lt-ltb _ _ h)
 
-  pub atom-read : (b : Begins) (w : Pair) (k′ t′ : List ℕ) (p : Report) → kindSize ≤ length k → reads b ≡ firstAtom text → w ≡ kindIn (kindsIn b) → k′ ≡ sets (zeros (length k)) 0 (listed w) → p ≡ ofBegins b → t′ ≡ laidInto t p → reading k′ t′ ≡ readX (reading k t) text
-  unfolding readX taken
+  pub atom-read : (b : Begins) (w : Pair) (k′ t′ : List ℕ) (p : Report) → kindSize ≤ length k → tellsAtom b ≡ firstAtom text → w ≡ readKindWords (kindsIn b) → k′ ≡ sets (zeros (length k)) 0 (listed w) → p ≡ ofBegins b → t′ ≡ laidInto t p → reading k′ t′ ≡ readAtomX (reading k t) text
+  unfolding readAtomX taken
   atom-read b w k′ t′ p h e g l o m =
       ap (λ (x : List ℕ). reading x t′) (l ∙ ap (λ (x : Pair). sets (zeros (length k)) 0 (listed x)) g)
-      ∙ ap (λ (x : List ℕ). reading (sets (zeros (length k)) 0 (listed (kindIn (kindsIn b)))) x) (m ∙ ap (λ (x : Report). laidInto t x) o)
+      ∙ ap (λ (x : List ℕ). reading (sets (zeros (length k)) 0 (listed (readKindWords (kindsIn b)))) x) (m ∙ ap (λ (x : Report). laidInto t x) o)
       ∙ ap (taken (reading k t)) e
       ∙ simp (le-ltb _ _ h)
 
 -- ---- the states' words after a call
-pub writer-kept : (words : List ℕ) (r : lines.Said) → onWriter (Lines.heldBy r) words (λ w. sets words 0 (writerList w)) ≡ Lines.keptIn words r
-unfolding onWriter Lines.heldBy stateIn writerList
+pub writer-kept : (words : List ℕ) (r : lines.Said) → onWriter (Lines.writerHeld r) words (λ w. sets words 0 (writerList w)) ≡ Lines.writerKept words r
+unfolding onWriter Lines.writerHeld writerWords writerList
 writer-kept words (said.Held w) = refl
 writer-kept words (said.AtomRoom n) = refl
 writer-kept words (said.OutRoom n) = refl
@@ -82,20 +82,20 @@ writer-kept words said.NoPiece = refl
 writer-kept words said.Overpop = refl
 writer-kept words said.BadTable = refl
 
-pub writer-laid : (words left : List ℕ) (r : lines.Said) (h : AsWriter) (w : Writer) → h ≡ Lines.heldBy r → h ≡ writer.Is w → left ≡ sets words 0 (writerList w) → left ≡ Lines.keptIn words r
+pub writer-laid : (words left : List ℕ) (r : lines.Said) (h : AsWriter) (w : Writer) → h ≡ Lines.writerHeld r → h ≡ writer.Is w → left ≡ sets words 0 (writerList w) → left ≡ Lines.writerKept words r
 unfolding onWriter
 writer-laid words left r h w e f g =
     g
     ∙ ap (λ (x : AsWriter). onWriter x words (λ v. sets words 0 (writerList v))) (sym f ∙ e)
     ∙ writer-kept words r
 
-pub pool-kept : (words : List ℕ) (r : Handed) → onPool (Rings.heldBy r) words (λ p. sets words 0 (poolList p)) ≡ Rings.keptIn words r
-unfolding onPool Rings.heldBy slots.stateIn poolList
+pub pool-kept : (words : List ℕ) (r : Handed) → onPool (Rings.poolHeld r) words (λ p. sets words 0 (poolList p)) ≡ Rings.poolKept words r
+unfolding onPool Rings.poolHeld slots.poolWords poolList
 pool-kept words (handed.Number p n) = refl
 pool-kept words handed.RingNumbers = refl
 pool-kept words handed.BadTable = refl
 
-pub pool-laid : (words left : List ℕ) (r : Handed) (h : AsPool) (w : Pool) → h ≡ Rings.heldBy r → h ≡ pool.Is w → left ≡ sets words 0 (poolList w) → left ≡ Rings.keptIn words r
+pub pool-laid : (words left : List ℕ) (r : Handed) (h : AsPool) (w : Pool) → h ≡ Rings.poolHeld r → h ≡ pool.Is w → left ≡ sets words 0 (poolList w) → left ≡ Rings.poolKept words r
 unfolding onPool
 pool-laid words left r h w e f g =
     g
@@ -106,18 +106,18 @@ pool-laid words left r h w e f g =
 pub laid-of : (lent left : List ℕ) (p q : Report) → p ≡ q → left ≡ laidInto lent p → left ≡ laidInto lent q
 laid-of lent left p q e f = f ∙ ap (λ (x : Report). laidInto lent x) e
 
-built-told : (r : calls.Answer) (a b t : List ℕ) → made a b (laidInto t (ofBuilt r)) ≡ told t (leftBy r a b)
-unfolding told ofBuilt leftBy
+built-told : (r : calls.Answer) (a b t : List ℕ) → made a b (laidInto t (ofBuilt r)) ≡ buildReported t (answerLeaves r a b)
+unfolding buildReported ofBuilt answerLeaves
 built-told (built.Done n m) a b t = refl
 built-told (built.Join x y) a b t = refl
 built-told (built.Rnum j) a b t = refl
 built-told built.BadTable a b t = refl
 
 -- what a build leaves of a state that stands
-pub build-parts : (w h : AsBuilder) (s : Builder) (f : Builder → Left) (none : Made) (r : calls.Answer) (a b t left : List ℕ) (p : Report) → h ≡ w → h ≡ state.Is s → leftBy r a b ≡ f s → p ≡ ofBuilt r → left ≡ laidInto t p → made a b left ≡ onBuilder w none (λ x. told t (f x))
+pub build-parts : (w h : AsBuilder) (s : Builder) (f : Builder → BuildLeft) (none : Made) (r : calls.Answer) (a b t left : List ℕ) (p : Report) → h ≡ w → h ≡ state.Is s → answerLeaves r a b ≡ f s → p ≡ ofBuilt r → left ≡ laidInto t p → made a b left ≡ onBuilder w none (λ x. buildReported t (f x))
 unfolding onBuilder
 build-parts w h s f none r a b t left p e g l o k =
     ap (λ (x : List ℕ). made a b x) (laid-of t left p (ofBuilt r) o k)
     ∙ built-told r a b t
-    ∙ ap (λ (x : Left). told t x) l
-    ∙ ap (λ (x : AsBuilder). onBuilder x none (λ y. told t (f y))) (sym g ∙ e)
+    ∙ ap (λ (x : BuildLeft). buildReported t x) l
+    ∙ ap (λ (x : AsBuilder). onBuilder x none (λ y. buildReported t (f y))) (sym g ∙ e)

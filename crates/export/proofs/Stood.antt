@@ -27,7 +27,7 @@ use Rattle.packing.specs.Words.{loadOf}
 use Rattle.packing.specs.declared.Loaded.{Loaded}
 use Rattle.packing.specs.declared.Loaded.the-variants as loaded
 use Rattle.packing.proofs.Laws.{only}
-use Rattle.builder.specs.Rings.{numbers}
+use Rattle.builder.specs.Rings.{ringNumberCount}
 use Rattle.builder.specs.State.{Bld, bld, refuse, entered, rootOf, bonded, extendedBy, extendOf, openedOf, openingKind, failedSt, closedBy, joinOf, popOf}
 use Rattle.builder.specs.State as graph
 use Rattle.builder.specs.declared.builder.Builder.{Builder}
@@ -38,13 +38,13 @@ use Rattle.desk_builder.specs.Events.{anew, judged, roomsOf, freshOf, startD, r
 use Rattle.desk_builder.proofs.Start.{started}
 use Rattle.desk_builder.specs.Runs.{Root, Extend, Join, Pop, callD, fits}
 use Rattle.desk_builder.proofs.Again.{root-stands, extend-stands, join-stands, pop-stands, call-other}
-use Rattle.desk_report.specs.State.{builderSize, narrow, builderIn, wordsOf}
+use Rattle.desk_report.specs.State.{builderSize, narrow, builderIn, builderWords}
 use Rattle.desk_report.specs.declared.state.AsBuilder.{AsBuilder}
 use Rattle.desk_report.specs.declared.state.AsBuilder.the-variants as state
 use Rattle.desk_report.specs.Report.{ofEvent, laidInto}
 use Rattle.desk_report.proofs.Again.{builder-again}
 use Rattle.export.specs.Given.{onAtom, onBond, onBuilder}
-use Rattle.export.specs.Events.{Cells, cells, over, keptIn, after, unheard, event, startX, rootX, extendX, joinX, popX}
+use Rattle.export.specs.Events.{BuilderCells, cellsOfBuilder, over, builderKept, builderAfter, builderUnheard, builderEvent, startX, builderRootX, builderExtendX, builderJoinX, builderPopX}
 
 no : false ≡ true → ⊥
 no e = let z : _≡_ {A = ℕ} 0 1 = cc in omega arith
@@ -152,7 +152,7 @@ held-in w s h = by-length (ltb (length w) builderSize) refl h where
   by-length false is z = by-refusal (ltb-false _ _ is) (leb narrow (getD w 0 0)) z
 
 -- what is laid into enough words is what they stand for
-laid-in : (w : List ℕ) (s : Builder) → 11 ≤ length w → leb narrow (s .refusal) ≡ false → leb narrow (s .closing) ≡ false → leb narrow (s .opening) ≡ false → builderIn (sets w 0 (wordsOf s)) ≡ state.Is s
+laid-in : (w : List ℕ) (s : Builder) → 11 ≤ length w → leb narrow (s .refusal) ≡ false → leb narrow (s .closing) ≡ false → leb narrow (s .opening) ≡ false → builderIn (sets w 0 (builderWords s)) ≡ state.Is s
 laid-in [] s l x y z = absurd (omega arith)
 laid-in (a ∷ []) s l x y z = absurd (omega arith)
 laid-in (a ∷ b ∷ []) s l x y z = absurd (omega arith)
@@ -167,7 +167,7 @@ laid-in (a ∷ b ∷ c ∷ d ∷ e ∷ f ∷ g ∷ h ∷ i ∷ j ∷ []) s l x y
 laid-in (a ∷ b ∷ c ∷ d ∷ e ∷ f ∷ g ∷ h ∷ i ∷ j ∷ k ∷ rest) s l x y z = builder-again a b c d e f g h i j k rest s x y z
 
 -- ---- the words and the tables stand for a state
-pub record Stood (c : Cells) : Type 0 where
+pub record Stood (c : BuilderCells) : Type 0 where
   pub builder : Builder
   pub words : builderIn (c .state) ≡ state.Is builder
   pub stands : isState (over c builder) ≡ true
@@ -175,8 +175,8 @@ pub record Stood (c : Cells) : Type 0 where
 narrow-atom : (b : Bld) → isState b ≡ true → (n : ℕ) → n < b .st .atoms → leb narrow n ≡ false
 narrow-atom b is n l = let h = holds b is .keeps in lt-leb narrow n (omega (arith, l, h .within, h .most-places))
 
-after-stood : (c : Cells) (s : Builder) (x : Bld) → Held (c .state) s → builderIn (c .state) ≡ state.Is s → isState (over c s) ≡ true → Tame (over c s) x → isState x ≡ true → Stood (after c x)
-unfolding after keptIn refuse
+after-stood : (c : BuilderCells) (s : Builder) (x : Bld) → Held (c .state) s → builderIn (c .state) ≡ state.Is s → isState (over c s) ≡ true → Tame (over c s) x → isState x ≡ true → Stood (builderAfter c x)
+unfolding builderAfter builderKept refuse
 after-stood c s x held in-words was tame is = by-refusal (eqb (x .st .refusal) 0) refl where
   narrows : (q : Bool) → x .st .failed ≡ q → (leb narrow (x .st .closing) ≡ false) × (leb narrow (x .st .opening) ≡ false)
   narrows true t = let z = holds x is .failing t in (narrow-atom x is (x .st .closing) (z .0), narrow-atom x is (x .st .opening) (z .1))
@@ -184,7 +184,7 @@ after-stood c s x held in-words was tame is = by-refusal (eqb (x .st .refusal) 0
       let z = tame .kept t in
       (ap (leb narrow) (z .0) ∙ held .closing, ap (leb narrow) (z .1) ∙ held .opening)
 
-  by-refusal : (q : Bool) → eqb (x .st .refusal) 0 ≡ q → Stood (cells (x .atoms) (x .entries) (x .path) (x .rings) (pick q (sets (c .state) 0 (wordsOf (x .st))) (c .state)) (laidInto (c .report) (ofEvent (x .st))))
+  by-refusal : (q : Bool) → eqb (x .st .refusal) 0 ≡ q → Stood (cellsOfBuilder (x .atoms) (x .entries) (x .path) (x .rings) (pick q (sets (c .state) 0 (builderWords (x .st))) (c .state)) (laidInto (c .report) (ofEvent (x .st))))
   by-refusal true none =
       let n = narrows (x .st .failed) refl in
       record { builder = x .st; words = laid-in (c .state) (x .st) (held .enough) (ap (leb narrow) (eqb-true (x .st .refusal) 0 none)) (n .0) (n .1); stands = is }
@@ -193,23 +193,23 @@ after-stood c s x held in-words was tame is = by-refusal (eqb (x .st .refusal) 0
       record { builder = s; words = in-words; stands = ap (λ (y : Bld). isState (bld (y .atoms) (y .entries) (y .path) (y .rings) s)) (z .2) ∙ was }
 
 -- ---- each event leaves such
-unheard-stood : (c : Cells) → Stood c → Stood (unheard c)
-unfolding unheard
+unheard-stood : (c : BuilderCells) → Stood c → Stood (builderUnheard c)
+unfolding builderUnheard
 unheard-stood c h = record { builder = h .builder; words = h .words; stands = h .stands }
 
-event-stood : (c : Cells) (f : Bld → Bld) → Stood c → ((b : Bld) → isState b ≡ true → Tame b (f b) × (isState (f b) ≡ true)) → Stood (event c f)
-unfolding event onBuilder
+event-stood : (c : BuilderCells) (f : Bld → Bld) → Stood c → ((b : Bld) → isState b ≡ true → Tame b (f b) × (isState (f b) ≡ true)) → Stood (builderEvent c f)
+unfolding builderEvent onBuilder
 event-stood c f h go =
     let s = h .builder in
     let z = go (over c s) (h .stands) in
     rw (h .words) (after-stood c s (f (over c s)) (held-in (c .state) s (h .words)) (h .words) (h .stands) (z .0) (z .1))
 
-on-atom : (c : Cells) (f : AtomKind → Cells) (q : Loaded) → Stood (unheard c) → ((k : AtomKind) → Stood (f k)) → Stood (onAtom q (unheard c) f)
+on-atom : (c : BuilderCells) (f : AtomKind → BuilderCells) (q : Loaded) → Stood (builderUnheard c) → ((k : AtomKind) → Stood (f k)) → Stood (onAtom q (builderUnheard c) f)
 unfolding onAtom
 on-atom c f (loaded.Held k) none some = some k
 on-atom c f loaded.Bad none some = none
 
-on-bond : (c : Cells) (f : BondKind → Cells) (q : Coded) → Stood (unheard c) → ((k : BondKind) → Stood (f k)) → Stood (onBond q (unheard c) f)
+on-bond : (c : BuilderCells) (f : BondKind → BuilderCells) (q : Coded) → Stood (builderUnheard c) → ((k : BondKind) → Stood (f k)) → Stood (onBond q (builderUnheard c) f)
 unfolding onBond
 on-bond c f (coded.Kind k) none some = some k
 on-bond c f coded.Bad none some = none
@@ -224,33 +224,33 @@ extend-tame b e k = tame-judged b (inRange k) (extendOf (anew b) e k (b .st .ato
 
 join-tame : (b : Bld) (e : BondKind) (n : ℕ) → Tame b (joinD b e n)
 unfolding joinD
-join-tame b e n = tame-judged b (ltb n numbers) (joinOf (anew b) e n (b .st .atoms)) (tame-join b e n (b .st .atoms))
+join-tame b e n = tame-judged b (ltb n ringNumberCount) (joinOf (anew b) e n (b .st .atoms)) (tame-join b e n (b .st .atoms))
 
 pop-tame : (b : Bld) (n : ℕ) → Tame b (popD b n)
 unfolding popD
 pop-tame b n = tame-judged b true (popOf (anew b) n) (tame-pop b n)
 
-pub root-stood : (c : Cells) (first second : ℕ) → Stood c → Stood (rootX c first second)
-unfolding rootX
+pub root-stood : (c : BuilderCells) (first second : ℕ) → Stood c → Stood (builderRootX c first second)
+unfolding builderRootX
 root-stood c first second h =
-    on-atom c (λ k. event c (λ b. rootD b k)) (loadOf first second) (unheard-stood c h)
+    on-atom c (λ k. builderEvent c (λ b. rootD b k)) (loadOf first second) (unheard-stood c h)
     (λ k. event-stood c (λ b. rootD b k) h (λ b is. (root-tame b k, root-stands b k is)))
 
-pub extend-stood : (c : Cells) (bond first second : ℕ) → Stood c → Stood (extendX c bond first second)
-unfolding extendX
+pub extend-stood : (c : BuilderCells) (bond first second : ℕ) → Stood c → Stood (builderExtendX c bond first second)
+unfolding builderExtendX
 extend-stood c bond first second h =
-    on-atom c (λ k. onBond (kindOf bond) (unheard c) (λ e. event c (λ b. extendD b e k))) (loadOf first second) (unheard-stood c h)
-    (λ k. on-bond c (λ e. event c (λ b. extendD b e k)) (kindOf bond) (unheard-stood c h)
+    on-atom c (λ k. onBond (kindOf bond) (builderUnheard c) (λ e. builderEvent c (λ b. extendD b e k))) (loadOf first second) (unheard-stood c h)
+    (λ k. on-bond c (λ e. builderEvent c (λ b. extendD b e k)) (kindOf bond) (unheard-stood c h)
     (λ e. event-stood c (λ b. extendD b e k) h (λ b is. (extend-tame b e k, extend-stands b e k is))))
 
-pub join-stood : (c : Cells) (bond number : ℕ) → Stood c → Stood (joinX c bond number)
-unfolding joinX
+pub join-stood : (c : BuilderCells) (bond number : ℕ) → Stood c → Stood (builderJoinX c bond number)
+unfolding builderJoinX
 join-stood c bond number h =
-    on-bond c (λ e. event c (λ b. joinD b e number)) (kindOf bond) (unheard-stood c h)
+    on-bond c (λ e. builderEvent c (λ b. joinD b e number)) (kindOf bond) (unheard-stood c h)
     (λ e. event-stood c (λ b. joinD b e number) h (λ b is. (join-tame b e number, join-stands b e number is)))
 
-pub pop-stood : (c : Cells) (n : ℕ) → Stood c → Stood (popX c n)
-unfolding popX
+pub pop-stood : (c : BuilderCells) (n : ℕ) → Stood c → Stood (builderPopX c n)
+unfolding builderPopX
 pop-stood c n h = event-stood c (λ b. popD b n) h (λ b is. (pop-tame b n, pop-stands b n is))
 
 -- ---- and so does the start, if it is accepted
@@ -259,8 +259,8 @@ unfolding startD freshOf roomsOf
 no-failure a e p r =
     by-test (λ (x : Bld). (x .st .closing ≡ 0) × (x .st .opening ≡ 0)) (isState (freshOf a e p r)) (λ t. (refl, refl)) (λ t. (refl, refl))
 
-pub start-stood : (c : Cells) → builderSize ≤ length (c .state) → startD (c .atoms) (c .entries) (c .path) (c .rings) .st .refusal ≡ 0 → Stood (startX c)
-unfolding startX after keptIn
+pub start-stood : (c : BuilderCells) → builderSize ≤ length (c .state) → startD (c .atoms) (c .entries) (c .path) (c .rings) .st .refusal ≡ 0 → Stood (startX c)
+unfolding startX builderAfter builderKept
 start-stood c room accepted =
     let x = startD (c .atoms) (c .entries) (c .path) (c .rings) in
     let n = no-failure (c .atoms) (c .entries) (c .path) (c .rings) in
@@ -272,32 +272,32 @@ start-stood c room accepted =
     })
 
 -- ---- and then no event of good words is answered 17
-pub record Heard (c d : Cells) : Type 0 where
+pub record Heard (c d : BuilderCells) : Type 0 where
   pub builder : Builder
   pub told : d .report ≡ laidInto (c .report) (ofEvent builder)
   pub other : builder .refusal ≢ badTable
 
-event-heard : (c : Cells) (f : Bld → Bld) → Stood c → ((b : Bld) → isState b ≡ true → f b .st .refusal ≢ badTable) → Heard c (event c f)
-unfolding event onBuilder after
+event-heard : (c : BuilderCells) (f : Bld → Bld) → Stood c → ((b : Bld) → isState b ≡ true → f b .st .refusal ≢ badTable) → Heard c (builderEvent c f)
+unfolding builderEvent onBuilder builderAfter
 event-heard c f h go =
     let s = h .builder in
     rw (h .words) (record { builder = f (over c s) .st; told = refl; other = go (over c s) (h .stands) })
 
-pub root-heard : (c : Cells) (first second : ℕ) (k : AtomKind) → Stood c → loadOf first second ≡ loaded.Held k → Heard c (rootX c first second)
-unfolding rootX onAtom callD fits
+pub root-heard : (c : BuilderCells) (first second : ℕ) (k : AtomKind) → Stood c → loadOf first second ≡ loaded.Held k → Heard c (builderRootX c first second)
+unfolding builderRootX onAtom callD fits
 root-heard c first second k h is =
     rw is (event-heard c (λ b. rootD b k) h (λ b on. call-other b (Root k) on (only first second k is .0)))
 
-pub extend-heard : (c : Cells) (bond first second : ℕ) (e : BondKind) (k : AtomKind) → Stood c → loadOf first second ≡ loaded.Held k → kindOf bond ≡ coded.Kind e → Heard c (extendX c bond first second)
-unfolding extendX onAtom onBond callD fits
+pub extend-heard : (c : BuilderCells) (bond first second : ℕ) (e : BondKind) (k : AtomKind) → Stood c → loadOf first second ≡ loaded.Held k → kindOf bond ≡ coded.Kind e → Heard c (builderExtendX c bond first second)
+unfolding builderExtendX onAtom onBond callD fits
 extend-heard c bond first second e k h is like =
     rw (is, like) (event-heard c (λ b. extendD b e k) h (λ b on. call-other b (Extend e k) on (only first second k is .0)))
 
-pub join-heard : (c : Cells) (bond number : ℕ) (e : BondKind) → Stood c → kindOf bond ≡ coded.Kind e → number < numbers → Heard c (joinX c bond number)
-unfolding joinX onBond callD fits
+pub join-heard : (c : BuilderCells) (bond number : ℕ) (e : BondKind) → Stood c → kindOf bond ≡ coded.Kind e → number < ringNumberCount → Heard c (builderJoinX c bond number)
+unfolding builderJoinX onBond callD fits
 join-heard c bond number e h like low =
-    rw like (event-heard c (λ b. joinD b e number) h (λ b on. call-other b (Join e number) on (lt-ltb number numbers low)))
+    rw like (event-heard c (λ b. joinD b e number) h (λ b on. call-other b (Join e number) on (lt-ltb number ringNumberCount low)))
 
-pub pop-heard : (c : Cells) (n : ℕ) → Stood c → Heard c (popX c n)
-unfolding popX callD fits
+pub pop-heard : (c : BuilderCells) (n : ℕ) → Stood c → Heard c (builderPopX c n)
+unfolding builderPopX callD fits
 pop-heard c n h = event-heard c (λ b. popD b n) h (λ b on. call-other b (Pop n) on refl)

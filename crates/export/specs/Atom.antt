@@ -13,7 +13,7 @@ use Rattle.feature.specs.Bonds.{kindOf}
 use Rattle.packing.specs.Words.{pair, listed, wordsOf, loadOf}
 use Rattle.packing.specs.declared.Pair.{Pair}
 use Rattle.spell.specs.Spell.{bondText}
-use Rattle.desk_atom.specs.Texts.{Reads, Spells, zeros, firstAtom, texted, atomD}
+use Rattle.desk_atom.specs.Texts.{AtomTold, Spells, zeros, firstAtom, texted, atomD}
 use Rattle.export.specs.Given.{onAtom, onBond}
 use Rattle.desk_report.specs.Report.{bad, telling, laidInto}
 
@@ -31,18 +31,18 @@ abbrev pub kindSize : ℕ
 kindSize = 2
 
 -- the words of the kind that was read, or zeros
-unfoldable pub kindIn : List AtomKind → Pair
-kindIn [] = pair 0 0
-kindIn (k ∷ ks) = wordsOf k
+unfoldable pub readKindWords : List AtomKind → Pair
+readKindWords [] = pair 0 0
+readKindWords (k ∷ ks) = wordsOf k
 
 -- what a reading leaves: the kind's words, or zeros, and zeros after them
-unfoldable pub taken : Reading → Reads → Reading
+unfoldable pub taken : Reading → AtomTold → Reading
 taken c r =
-    reading (sets (zeros (length (c .kind))) 0 (listed (kindIn (r .kinds)))) (laidInto (c .report) (telling (r .told)))
+    reading (sets (zeros (length (c .kind))) 0 (listed (readKindWords (r .kinds)))) (laidInto (c .report) (telling (r .told)))
 
 -- 17 where there is no room for a kind
-unfoldable pub readX : Reading → List ℕ → Reading
-readX c text =
+unfoldable pub readAtomX : Reading → List ℕ → Reading
+readAtomX c text =
     pick (ltb (length (c .kind)) kindSize) (reading (zeros (length (c .kind))) (laidInto (c .report) bad))
     (taken c (firstAtom text))
 
@@ -56,17 +56,17 @@ abbrev pub spelling : List ℕ → List ℕ → Spelling
 spelling o t = record { out = o; report = t }
 
 -- what a text leaves
-unfoldable pub told : List ℕ → Spells → Spelling
-told t s = spelling (s .out) (laidInto t (telling (s .told)))
+unfoldable pub textReported : List ℕ → Spells → Spelling
+textReported t s = spelling (s .out) (laidInto t (telling (s .told)))
 
 -- 17, and zeros
-unfoldable pub unheard : Spelling → Spelling
-unheard c = spelling (zeros (length (c .out))) (laidInto (c .report) bad)
+unfoldable pub spellingUnheard : Spelling → Spelling
+spellingUnheard c = spelling (zeros (length (c .out))) (laidInto (c .report) bad)
 
 unfoldable pub atomX : Spelling → ℕ → ℕ → Spelling
 atomX c first second =
-    onAtom (loadOf first second) (unheard c) (λ k. told (c .report) (atomD k (length (c .out))))
+    onAtom (loadOf first second) (spellingUnheard c) (λ k. textReported (c .report) (atomD k (length (c .out))))
 
 unfoldable pub bondX : Spelling → ℕ → Spelling
 bondX c bond =
-    onBond (kindOf bond) (unheard c) (λ k. told (c .report) (texted (bondText k) (length (c .out))))
+    onBond (kindOf bond) (spellingUnheard c) (λ k. textReported (c .report) (texted (bondText k) (length (c .out))))

@@ -3,7 +3,7 @@
 use Prim.Native.Nat.{ℕ}
 use mathlib.Core.List.{List}
 use Rattle.read.specs.Read.{Said}
-use Rattle.read.specs.Line.{lineOf}
+use Rattle.read.specs.Line.{readText}
 use Rattle.write.specs.Write as write
 use Rattle.write.specs.Order as order
 use Rattle.write.specs.Plain.{writePlain, orderPlain}
@@ -24,7 +24,7 @@ readBy t s = readCells (s .atoms) (s .bonds) (laidInto t (ofRead (s .answer)))
 
 -- a text read into tables of la and lb words
 unfoldable pub readX : List ℕ → ℕ → ℕ → List ℕ → ReadCells
-readX s la lb t = readBy t (lineOf s la lb)
+readX s la lb t = readBy t (readText s la lb)
 
 -- ---- the write call
 pub record WriteCells : Type 0 where
@@ -34,7 +34,7 @@ pub record WriteCells : Type 0 where
 abbrev pub writeCells : List ℕ → List ℕ → WriteCells
 writeCells o t = record { out = o; report = t }
 
-abbrev pub writtenBy : List ℕ → write.Left → WriteCells
+abbrev pub writtenBy : List ℕ → write.WriteLeft → WriteCells
 writtenBy t l = writeCells (l .out) (laidInto t (ofWritten (l .answer)))
 
 -- a graph of n atoms and m entries written into an output of so many bytes

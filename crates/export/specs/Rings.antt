@@ -3,7 +3,7 @@
 use Prim.Native.Nat.{ℕ}
 use mathlib.Core.List.{List}
 use lib.Seq.{sets}
-use Rattle.desk_pool.specs.Slots.{stateIn, Gives, hitD}
+use Rattle.desk_pool.specs.Slots.{poolWords, Gives, hitD}
 use Rattle.desk_pool.specs.declared.Handed.{Handed}
 use Rattle.desk_pool.specs.declared.Handed.the-variants.{Number, RingNumbers, BadTable}
 use Rattle.desk_report.specs.declared.state.AsPool.{AsPool}
@@ -13,28 +13,28 @@ use Rattle.desk_report.specs.Report.{bad, telling, laidInto}
 use Rattle.desk_report.specs.State.{poolIn}
 
 -- every cell that is lent to a call
-pub record Cells : Type 0 where
+pub record PoolCells : Type 0 where
   pub pairs : List ℕ
   pub state : List ℕ
   pub report : List ℕ
 
-abbrev pub cells : List ℕ → List ℕ → List ℕ → Cells
-cells p s t = record { pairs = p; state = s; report = t }
+abbrev pub cellsOfPool : List ℕ → List ℕ → List ℕ → PoolCells
+cellsOfPool p s t = record { pairs = p; state = s; report = t }
 
 -- the new state, where a number was handed out or closed
-unfoldable pub heldBy : Handed → AsPool
-heldBy (Number p n) = pool.Is p
-heldBy RingNumbers = pool.Bad
-heldBy BadTable = pool.Bad
+unfoldable pub poolHeld : Handed → AsPool
+poolHeld (Number p n) = pool.Is p
+poolHeld RingNumbers = pool.Bad
+poolHeld BadTable = pool.Bad
 
 -- the state's words after a call
-abbrev pub keptIn : List ℕ → Handed → List ℕ
-keptIn words handed = sets words 0 (stateIn handed)
+abbrev pub poolKept : List ℕ → Handed → List ℕ
+poolKept words handed = sets words 0 (poolWords handed)
 
 -- what a call leaves
-unfoldable pub after : Cells → Gives → Cells
-after c g = cells (g .left) (sets (c .state) 0 (g .state)) (laidInto (c .report) (telling (g .told)))
+unfoldable pub poolAfter : PoolCells → Gives → PoolCells
+poolAfter c g = cellsOfPool (g .left) (sets (c .state) 0 (g .state)) (laidInto (c .report) (telling (g .told)))
 
-unfoldable pub hitX : Cells → ℕ → ℕ → Cells
+unfoldable pub hitX : PoolCells → ℕ → ℕ → PoolCells
 hitX c a b =
-    onPool (poolIn (c .state)) (cells (c .pairs) (c .state) (laidInto (c .report) bad)) (λ p. after c (hitD p (c .pairs) a b))
+    onPool (poolIn (c .state)) (cellsOfPool (c .pairs) (c .state) (laidInto (c .report) bad)) (λ p. poolAfter c (hitD p (c .pairs) a b))

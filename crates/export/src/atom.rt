@@ -6,7 +6,7 @@ ghost use lib.ListN.{length};
 ghost use lib.Seq.{sets};
 ghost use Rattle.packing.specs.Words.{listed};
 ghost use Rattle.desk_atom.specs.Texts.{zeros, kindsIn, rnumD};
-ghost use Rattle.export.specs.Atom.{reading, kindIn, readX, spelling, told, atomX, bondX};
+ghost use Rattle.export.specs.Atom.{reading, readKindWords, readAtomX, spelling, textReported, atomX, bondX};
 use builder::build::clear;
 use desk_atom::Begins;
 use desk_atom::wipe;
@@ -27,7 +27,7 @@ const KIND_WORDS: usize = 2;
 
 // The words of the kind that was read, or zeros.
 fn kind_in(b: Begins) -> Pair
-    ensures { λ r. ⌜ r ≡ kindIn (kindsIn b) ⌝ }
+    ensures { λ r. ⌜ r ≡ readKindWords (kindsIn b) ⌝ }
 {
     match b {
         Begins::Atom(k, _next) => words(k),
@@ -54,7 +54,7 @@ fn lay_kind(lent: &mut [u32], w: Pair)
 // The atom that a text begins with.
 #[no_mangle]
 pub extern "C" fn mavisdrok_read_atom(text: &[u8], kind: &mut [u32], report: &mut [u64])
-    ensures { λ _. ⌜ reading (now (kind .exit)) (now (report .exit)) ≡ readX (reading (now (kind .entry)) (now (report .entry))) (now (text .entry)) ⌝ }
+    ensures { λ _. ⌜ reading (now (kind .exit)) (now (report .exit)) ≡ readAtomX (reading (now (kind .entry)) (now (report .entry))) (now (text .entry)) ⌝ }
 {
     if kind.len() < KIND_WORDS {
         clear(kind);
@@ -97,7 +97,7 @@ pub extern "C" fn mavisdrok_spell_bond(out: &mut [u8], bond: u32, report: &mut [
 // A ring number's text.
 #[no_mangle]
 pub extern "C" fn mavisdrok_spell_rnum(out: &mut [u8], number: u32, report: &mut [u64])
-    ensures { λ _. ⌜ spelling (now (out .exit)) (now (report .exit)) ≡ told (now (report .entry)) (rnumD number (length (now (out .entry)))) ⌝ }
+    ensures { λ _. ⌜ spelling (now (out .exit)) (now (report .exit)) ≡ textReported (now (report .entry)) (rnumD number (length (now (out .entry)))) ⌝ }
 {
     lay(report, of_spelt(desk_atom::spell_rnum(out, number)));
 }

@@ -2,7 +2,7 @@
 // state, no atom or no bond are answered 17. An event that is refused changes nothing but the report.
 ghost use mathlib.Core.Path.{_≡_};
 ghost use Rattle.desk_report.specs.Report.{ofEvent, laidInto};
-ghost use Rattle.export.specs.Events.{cells, keptIn, startX, rootX, extendX, joinX, popX, made, buildX};
+ghost use Rattle.export.specs.Events.{cellsOfBuilder, builderKept, startX, builderRootX, builderExtendX, builderJoinX, builderPopX, made, buildX};
 use builder::build::clear;
 use builder::builder::Builder;
 use desk_builder::calls;
@@ -21,7 +21,7 @@ use packing::kind;
 
 // The new state, where an event was accepted.
 fn keep_state(state: &mut [u64], b: Builder)
-    ensures { λ _. ⌜ now (state .exit) ≡ keptIn (now (state .entry)) b ⌝ }
+    ensures { λ _. ⌜ now (state .exit) ≡ builderKept (now (state .entry)) b ⌝ }
 {
     if b.refusal != 0 {
         return;
@@ -31,7 +31,7 @@ fn keep_state(state: &mut [u64], b: Builder)
 
 // What an event leaves beside its tables.
 fn keep(state: &mut [u64], report: &mut [u64], b: Builder)
-    ensures { λ _. ⌜ now (state .exit) ≡ keptIn (now (state .entry)) b ⌝ }
+    ensures { λ _. ⌜ now (state .exit) ≡ builderKept (now (state .entry)) b ⌝ }
     ensures { λ _. ⌜ now (report .exit) ≡ laidInto (now (report .entry)) (ofEvent b) ⌝ }
 {
     keep_state(state, b);
@@ -48,8 +48,8 @@ pub extern "C" fn mavisdrok_builder_start(
     state: &mut [u64],
     report: &mut [u64],
 )
-    ensures { λ _. ⌜ cells (now (atoms .entry)) (now (entries .entry)) (now (path .entry)) (now (rings .exit)) (now (state .exit)) (now (report .exit))
-        ≡ startX (cells (now (atoms .entry)) (now (entries .entry)) (now (path .entry)) (now (rings .entry)) (now (state .entry)) (now (report .entry))) ⌝ }
+    ensures { λ _. ⌜ cellsOfBuilder (now (atoms .entry)) (now (entries .entry)) (now (path .entry)) (now (rings .exit)) (now (state .exit)) (now (report .exit))
+        ≡ startX (cellsOfBuilder (now (atoms .entry)) (now (entries .entry)) (now (path .entry)) (now (rings .entry)) (now (state .entry)) (now (report .entry))) ⌝ }
 {
     if state.len() < BUILDER_WORDS {
         refuse(report);
@@ -70,8 +70,8 @@ pub extern "C" fn mavisdrok_builder_root(
     second: u32,
     report: &mut [u64],
 )
-    ensures { λ _. ⌜ cells (now (atoms .exit)) (now (entries .entry)) (now (path .exit)) (now (rings .entry)) (now (state .exit)) (now (report .exit))
-        ≡ rootX (cells (now (atoms .entry)) (now (entries .entry)) (now (path .entry)) (now (rings .entry)) (now (state .entry)) (now (report .entry))) first second ⌝ }
+    ensures { λ _. ⌜ cellsOfBuilder (now (atoms .exit)) (now (entries .entry)) (now (path .exit)) (now (rings .entry)) (now (state .exit)) (now (report .exit))
+        ≡ builderRootX (cellsOfBuilder (now (atoms .entry)) (now (entries .entry)) (now (path .entry)) (now (rings .entry)) (now (state .entry)) (now (report .entry))) first second ⌝ }
 {
     let atom = kind(first, second);
     let Loaded::Held(k) = atom else {
@@ -103,8 +103,8 @@ pub extern "C" fn mavisdrok_builder_extend(
     second: u32,
     report: &mut [u64],
 )
-    ensures { λ _. ⌜ cells (now (atoms .exit)) (now (entries .exit)) (now (path .exit)) (now (rings .entry)) (now (state .exit)) (now (report .exit))
-        ≡ extendX (cells (now (atoms .entry)) (now (entries .entry)) (now (path .entry)) (now (rings .entry)) (now (state .entry)) (now (report .entry))) bond first second ⌝ }
+    ensures { λ _. ⌜ cellsOfBuilder (now (atoms .exit)) (now (entries .exit)) (now (path .exit)) (now (rings .entry)) (now (state .exit)) (now (report .exit))
+        ≡ builderExtendX (cellsOfBuilder (now (atoms .entry)) (now (entries .entry)) (now (path .entry)) (now (rings .entry)) (now (state .entry)) (now (report .entry))) bond first second ⌝ }
 {
     let atom = kind(first, second);
     let Loaded::Held(t) = atom else {
@@ -140,8 +140,8 @@ pub extern "C" fn mavisdrok_builder_join(
     number: u32,
     report: &mut [u64],
 )
-    ensures { λ _. ⌜ cells (now (atoms .entry)) (now (entries .exit)) (now (path .entry)) (now (rings .exit)) (now (state .exit)) (now (report .exit))
-        ≡ joinX (cells (now (atoms .entry)) (now (entries .entry)) (now (path .entry)) (now (rings .entry)) (now (state .entry)) (now (report .entry))) bond number ⌝ }
+    ensures { λ _. ⌜ cellsOfBuilder (now (atoms .entry)) (now (entries .exit)) (now (path .entry)) (now (rings .exit)) (now (state .exit)) (now (report .exit))
+        ≡ builderJoinX (cellsOfBuilder (now (atoms .entry)) (now (entries .entry)) (now (path .entry)) (now (rings .entry)) (now (state .entry)) (now (report .entry))) bond number ⌝ }
 {
     let coded = decode(bond);
     let Coded::Kind(k) = coded else {
@@ -171,8 +171,8 @@ pub extern "C" fn mavisdrok_builder_pop(
     n: usize,
     report: &mut [u64],
 )
-    ensures { λ _. ⌜ cells (now (atoms .entry)) (now (entries .entry)) (now (path .entry)) (now (rings .entry)) (now (state .exit)) (now (report .exit))
-        ≡ popX (cells (now (atoms .entry)) (now (entries .entry)) (now (path .entry)) (now (rings .entry)) (now (state .entry)) (now (report .entry))) n ⌝ }
+    ensures { λ _. ⌜ cellsOfBuilder (now (atoms .entry)) (now (entries .entry)) (now (path .entry)) (now (rings .entry)) (now (state .exit)) (now (report .exit))
+        ≡ builderPopX (cellsOfBuilder (now (atoms .entry)) (now (entries .entry)) (now (path .entry)) (now (rings .entry)) (now (state .entry)) (now (report .entry))) n ⌝ }
 {
     let held = builder_in(state);
     let AsBuilder::Is(b) = held else {
@@ -194,7 +194,7 @@ pub extern "C" fn mavisdrok_builder_build(
     report: &mut [u64],
 )
     ensures { λ _. ⌜ made (now (atoms .exit)) (now (bonds .exit)) (now (report .exit))
-        ≡ buildX (cells (now (atoms .entry)) (now (entries .entry)) (now (path .entry)) (now (rings .entry)) (now (state .entry)) (now (report .entry))) (now (bonds .entry)) ⌝ }
+        ≡ buildX (cellsOfBuilder (now (atoms .entry)) (now (entries .entry)) (now (path .entry)) (now (rings .entry)) (now (state .entry)) (now (report .entry))) (now (bonds .entry)) ⌝ }
 {
     let held = builder_in(state);
     let AsBuilder::Is(b) = held else {

@@ -2,7 +2,7 @@
 // atom or no bond are answered 17. An event that is refused changes nothing but the report.
 ghost use mathlib.Core.Path.{_≡_};
 ghost use Rattle.desk_report.specs.Report.{ofSaid, laidInto};
-ghost use Rattle.export.specs.Lines.{cells, heldBy, keptIn, rootX, extendX, joinX, popX};
+ghost use Rattle.export.specs.Lines.{cellsOfWriter, writerHeld, writerKept, writerRootX, writerExtendX, writerJoinX, writerPopX};
 use desk_report::answer::lay;
 use desk_report::answer::of_said;
 use desk_report::answer::refuse;
@@ -17,7 +17,7 @@ use packing::kind;
 
 // The new state, where an event was accepted.
 fn held_by(said: Said) -> AsWriter
-    ensures { λ r. ⌜ r ≡ heldBy said ⌝ }
+    ensures { λ r. ⌜ r ≡ writerHeld said ⌝ }
 {
     match said {
         Said::Held(w) => AsWriter::Is(w),
@@ -30,7 +30,7 @@ fn held_by(said: Said) -> AsWriter
 }
 
 fn keep_state(state: &mut [u64], said: Said)
-    ensures { λ _. ⌜ now (state .exit) ≡ keptIn (now (state .entry)) said ⌝ }
+    ensures { λ _. ⌜ now (state .exit) ≡ writerKept (now (state .entry)) said ⌝ }
 {
     let held = held_by(said);
     let AsWriter::Is(w) = held else {
@@ -41,7 +41,7 @@ fn keep_state(state: &mut [u64], said: Said)
 
 // What an event leaves beside its tables.
 fn keep(state: &mut [u64], report: &mut [u64], said: Said)
-    ensures { λ _. ⌜ now (state .exit) ≡ keptIn (now (state .entry)) said ⌝ }
+    ensures { λ _. ⌜ now (state .exit) ≡ writerKept (now (state .entry)) said ⌝ }
     ensures { λ _. ⌜ now (report .exit) ≡ laidInto (now (report .entry)) (ofSaid said) ⌝ }
 {
     keep_state(state, said);
@@ -58,8 +58,8 @@ pub extern "C" fn mavisdrok_writer_root(
     second: u32,
     report: &mut [u64],
 )
-    ensures { λ _. ⌜ cells (now (out .exit)) (now (starts .exit)) (now (state .exit)) (now (report .exit))
-        ≡ rootX (cells (now (out .entry)) (now (starts .entry)) (now (state .entry)) (now (report .entry))) first second ⌝ }
+    ensures { λ _. ⌜ cellsOfWriter (now (out .exit)) (now (starts .exit)) (now (state .exit)) (now (report .exit))
+        ≡ writerRootX (cellsOfWriter (now (out .entry)) (now (starts .entry)) (now (state .entry)) (now (report .entry))) first second ⌝ }
 {
     let atom = kind(first, second);
     let Loaded::Held(k) = atom else {
@@ -85,8 +85,8 @@ pub extern "C" fn mavisdrok_writer_extend(
     second: u32,
     report: &mut [u64],
 )
-    ensures { λ _. ⌜ cells (now (out .exit)) (now (starts .exit)) (now (state .exit)) (now (report .exit))
-        ≡ extendX (cells (now (out .entry)) (now (starts .entry)) (now (state .entry)) (now (report .entry))) bond first second ⌝ }
+    ensures { λ _. ⌜ cellsOfWriter (now (out .exit)) (now (starts .exit)) (now (state .exit)) (now (report .exit))
+        ≡ writerExtendX (cellsOfWriter (now (out .entry)) (now (starts .entry)) (now (state .entry)) (now (report .entry))) bond first second ⌝ }
 {
     let atom = kind(first, second);
     let Loaded::Held(t) = atom else {
@@ -116,8 +116,8 @@ pub extern "C" fn mavisdrok_writer_join(
     number: u32,
     report: &mut [u64],
 )
-    ensures { λ _. ⌜ cells (now (out .exit)) (now (starts .exit)) (now (state .exit)) (now (report .exit))
-        ≡ joinX (cells (now (out .entry)) (now (starts .entry)) (now (state .entry)) (now (report .entry))) bond number ⌝ }
+    ensures { λ _. ⌜ cellsOfWriter (now (out .exit)) (now (starts .exit)) (now (state .exit)) (now (report .exit))
+        ≡ writerJoinX (cellsOfWriter (now (out .entry)) (now (starts .entry)) (now (state .entry)) (now (report .entry))) bond number ⌝ }
 {
     let coded = decode(bond);
     let Coded::Kind(k) = coded else {
@@ -141,8 +141,8 @@ pub extern "C" fn mavisdrok_writer_pop(
     n: usize,
     report: &mut [u64],
 )
-    ensures { λ _. ⌜ cells (now (out .exit)) (now (starts .exit)) (now (state .exit)) (now (report .exit))
-        ≡ popX (cells (now (out .entry)) (now (starts .entry)) (now (state .entry)) (now (report .entry))) n ⌝ }
+    ensures { λ _. ⌜ cellsOfWriter (now (out .exit)) (now (starts .exit)) (now (state .exit)) (now (report .exit))
+        ≡ writerPopX (cellsOfWriter (now (out .entry)) (now (starts .entry)) (now (state .entry)) (now (report .entry))) n ⌝ }
 {
     let held = writer_in(state);
     let AsWriter::Is(w) = held else {

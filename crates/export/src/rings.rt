@@ -1,7 +1,7 @@
 // A ring number from the pool, over its table, the words of its state and a report. Words that stand for no pool are answered
 // 17. A call that is refused changes nothing but the report.
 ghost use mathlib.Core.Path.{_≡_};
-ghost use Rattle.export.specs.Rings.{cells, heldBy, keptIn, hitX};
+ghost use Rattle.export.specs.Rings.{cellsOfPool, poolHeld, poolKept, hitX};
 use desk_pool::Handed;
 use desk_report::answer::lay;
 use desk_report::answer::of_handed;
@@ -12,7 +12,7 @@ use desk_report::state::pool_in;
 
 // The new state, where a number was handed out or closed.
 fn held_by(handed: Handed) -> AsPool
-    ensures { λ r. ⌜ r ≡ heldBy handed ⌝ }
+    ensures { λ r. ⌜ r ≡ poolHeld handed ⌝ }
 {
     match handed {
         Handed::Number(p, _n) => AsPool::Is(p),
@@ -22,7 +22,7 @@ fn held_by(handed: Handed) -> AsPool
 }
 
 fn keep_state(state: &mut [u64], handed: Handed)
-    ensures { λ _. ⌜ now (state .exit) ≡ keptIn (now (state .entry)) handed ⌝ }
+    ensures { λ _. ⌜ now (state .exit) ≡ poolKept (now (state .entry)) handed ⌝ }
 {
     let held = held_by(handed);
     let AsPool::Is(p) = held else {
@@ -40,8 +40,8 @@ pub extern "C" fn mavisdrok_pool_hit(
     b: u32,
     report: &mut [u64],
 )
-    ensures { λ _. ⌜ cells (now (pairs .exit)) (now (state .exit)) (now (report .exit))
-        ≡ hitX (cells (now (pairs .entry)) (now (state .entry)) (now (report .entry))) a b ⌝ }
+    ensures { λ _. ⌜ cellsOfPool (now (pairs .exit)) (now (state .exit)) (now (report .exit))
+        ≡ hitX (cellsOfPool (now (pairs .entry)) (now (state .entry)) (now (report .entry))) a b ⌝ }
 {
     let held = pool_in(state);
     let AsPool::Is(p) = held else {

@@ -9,7 +9,7 @@ use lib.ListN.{length, getD, List·getD-eq-default}
 use lib.Dec.{T, ltb, leb, ltb→lt, leb→le, eqb}
 use borrow.Author.Tests.{eq-eqb, ne-eqb, ltb-true, ltb-false, leb-true, eqb-true, eqb-false}
 use Rattle.feature.specs.Pick.{both, either}
-use Rattle.feature.specs.Text.{letter}
+use Rattle.feature.specs.Text.{letterStep}
 use Rattle.feature.specs.Names.{symbols, names, placeOf, begins, Begun, Ranked}
 use Rattle.feature.proofs.Table.{at, every, both-left, both-right, rising}
 
@@ -69,20 +69,20 @@ place-none k (x ∷ xs) n =
     simp (ne-eqb x k (n zero (zero-lt-suc (length xs))))
     (ap suc (place-none k xs (λ j h. n (suc j) (suc-le-suc h))))
 
-begins-here : (a : ℕ) (xs : List ℕ) (i : ℕ) → i < length xs → getD xs i 0 / letter ≡ a → begins a xs ≡ true
+begins-here : (a : ℕ) (xs : List ℕ) (i : ℕ) → i < length xs → getD xs i 0 / letterStep ≡ a → begins a xs ≡ true
 unfolding begins
 begins-here a [] i l e = absurd (not-suc-le-zero l)
-begins-here a (x ∷ xs) zero l e = simp (eq-eqb (x / letter) a e)
-begins-here a (x ∷ xs) (suc i) l e = go (eqb (x / letter) a) (begins-here a xs i (le-of-suc-le-suc l) e) where
+begins-here a (x ∷ xs) zero l e = simp (eq-eqb (x / letterStep) a e)
+begins-here a (x ∷ xs) (suc i) l e = go (eqb (x / letterStep) a) (begins-here a xs i (le-of-suc-le-suc l) e) where
   go : (b : Bool) {c : Bool} → c ≡ true → either b c ≡ true
   go true h = refl
   go false h = h
 
-begins-none : (a : ℕ) (xs : List ℕ) → ((j : ℕ) → j < length xs → getD xs j 0 / letter ≡ a → ⊥) → begins a xs ≡ false
+begins-none : (a : ℕ) (xs : List ℕ) → ((j : ℕ) → j < length xs → getD xs j 0 / letterStep ≡ a → ⊥) → begins a xs ≡ false
 unfolding begins
 begins-none a [] n = refl
 begins-none a (x ∷ xs) n =
-    simp (ne-eqb (x / letter) a (n zero (zero-lt-suc (length xs))))
+    simp (ne-eqb (x / letterStep) a (n zero (zero-lt-suc (length xs))))
     (begins-none a xs (λ j h. n (suc j) (suc-le-suc h)))
 
 -- ---- and so by its rank
@@ -104,18 +104,18 @@ module _ (key r : ℕ) (ranked : Ranked key r) where
   passed l =
       sym (place-none key names (λ j h e. omega (arith, ranked .below j (omega (arith, names-length)))) ∙ names-length)
 
-module _ (a r : ℕ) (ranked : Ranked (a * letter) r) where
-  pub begun : r < symbols → eqb (getD names r 0 / letter) a ≡ begins a names
-  begun l = split (eqb (getD names r 0 / letter) a) refl where
-    split : (b : Bool) → eqb (getD names r 0 / letter) a ≡ b → b ≡ begins a names
-    split true e = sym (begins-here a names r (omega (arith, names-length)) (eqb-true (getD names r 0 / letter) a e))
+module _ (a r : ℕ) (ranked : Ranked (a * letterStep) r) where
+  pub begun : r < symbols → eqb (getD names r 0 / letterStep) a ≡ begins a names
+  begun l = split (eqb (getD names r 0 / letterStep) a) refl where
+    split : (b : Bool) → eqb (getD names r 0 / letterStep) a ≡ b → b ≡ begins a names
+    split true e = sym (begins-here a names r (omega (arith, names-length)) (eqb-true (getD names r 0 / letterStep) a e))
     split false e = sym (begins-none a names no) where
-      no : (j : ℕ) → j < length names → getD names j 0 / letter ≡ a → ⊥
+      no : (j : ℕ) → j < length names → getD names j 0 / letterStep ≡ a → ⊥
       no j h d = cases (ltb j r) refl where
         cases : (b : Bool) → ltb j r ≡ b → ⊥
         cases true p = omega (arith, ranked .below j (ltb-true j r p))
         cases false p =
-            eqb-false (getD names r 0 / letter) a e
+            eqb-false (getD names r 0 / letterStep) a e
             (omega (arith, ranked .above r (omega arith) l, ordered-le r j (ltb-false j r p) (omega (arith, names-length))))
 
   pub unbegun : symbols ≤ r → false ≡ begins a names
@@ -124,9 +124,9 @@ module _ (a r : ℕ) (ranked : Ranked (a * letter) r) where
 
 -- no name begins with what is no byte
 isByte : ℕ → ℕ → Bool
-isByte k x = ltb (x / letter) 256
+isByte k x = ltb (x / letterStep) 256
 
-first-byte : (j : ℕ) → j < symbols → getD names j 0 / letter < 256
+first-byte : (j : ℕ) → j < symbols → getD names j 0 / letterStep < 256
 unfolding names isByte
 first-byte j h = ltb→lt _ 256 (at isByte names tt j h)
 
@@ -135,7 +135,7 @@ no-byte a l = sym (begins-none a names (λ j h d. omega (arith, first-byte j (om
 
 -- ---- where the names with a first byte begin, shown by a look at each
 unfoldable pub isBefore : ℕ → ℕ → ℕ → ℕ → Bool
-isBefore byte r j x = either (leb r j) (ltb x (byte * letter))
+isBefore byte r j x = either (leb r j) (ltb x (byte * letterStep))
 
 pub begun-at : (byte r : ℕ) → T (leb r symbols) → T (every (isBefore byte r) 0 names) → Begun byte r
 unfolding isBefore
@@ -143,27 +143,27 @@ begun-at byte r small test = record {
   small = leb→le r symbols small;
   lower = λ j h. one j h (leb r j) refl (at (isBefore byte r) names test j (omega (arith, names-length, leb→le r symbols small)));
 } where
-  one : (j : ℕ) → j < r → (b : Bool) → leb r j ≡ b → T (either b (ltb (getD names j 0) (byte * letter))) → getD names j 0 < byte * letter
+  one : (j : ℕ) → j < r → (b : Bool) → leb r j ≡ b → T (either b (ltb (getD names j 0) (byte * letterStep))) → getD names j 0 < byte * letterStep
   one j h true e t = absurd (omega (arith, leb-true r j e))
-  one j h false e t = ltb→lt (getD names j 0) (byte * letter) t
+  one j h false e t = ltb→lt (getD names j 0) (byte * letterStep) t
 
 pub begun-nowhere : (byte : ℕ) → Begun byte 0
 begun-nowhere byte = record { small = omega arith; lower = λ j h. absurd (not-suc-le-zero h) }
 
 -- ---- the letters of a name are bytes
 letters : ℕ → ℕ → Bool
-letters k x = both (ltb (x / letter) 128) (ltb (x % letter) 128)
+letters k x = both (ltb (x / letterStep) 128) (ltb (x % letterStep) 128)
 
 letters-at : (y : ℕ) → y < symbols → T (letters y (getD names y 0))
 unfolding names letters
 letters-at y h = at letters names tt y (omega (arith, names-length))
 
-pub first-small : (y : ℕ) → y < symbols → getD names y 0 / letter < 128
+pub first-small : (y : ℕ) → y < symbols → getD names y 0 / letterStep < 128
 unfolding letters
 first-small y h =
-    ltb→lt _ 128 (both-left (ltb (getD names y 0 / letter) 128) (ltb (getD names y 0 % letter) 128) (letters-at y h))
+    ltb→lt _ 128 (both-left (ltb (getD names y 0 / letterStep) 128) (ltb (getD names y 0 % letterStep) 128) (letters-at y h))
 
-pub second-small : (y : ℕ) → y < symbols → getD names y 0 % letter < 128
+pub second-small : (y : ℕ) → y < symbols → getD names y 0 % letterStep < 128
 unfolding letters
 second-small y h =
-    ltb→lt _ 128 (both-right (ltb (getD names y 0 / letter) 128) (ltb (getD names y 0 % letter) 128) (letters-at y h))
+    ltb→lt _ 128 (both-right (ltb (getD names y 0 / letterStep) 128) (ltb (getD names y 0 % letterStep) 128) (letters-at y h))

@@ -7,7 +7,7 @@ use lib.Dec.{ltb, leb}
 use borrow.Author.Tests.{lt-ltb, le-ltb, lt-leb, ltb-true, ltb-false, leb-false}
 use Rattle.feature.specs.Pick.{pick}
 use Rattle.feature.specs.Names.{symbols}
-use Rattle.feature.specs.Kinds.{aliphatics, aromatics, noNumber, noHydrogens, noCharge, configurations, bracketInRange, inRange, Within, Good}
+use Rattle.feature.specs.Kinds.{aliphaticCount, aromaticCount, noNumber, noHydrogens, noCharge, configurations, bracketInRange, inRange, Within, GoodKind}
 use Rattle.feature.specs.declared.atom_kind.BracketAtom.{BracketAtom}
 use Rattle.feature.specs.declared.atom_kind.AtomKind.{AtomKind}
 use Rattle.feature.specs.declared.atom_kind.AtomKind.the-variants.{Star, Aliphatic, Aromatic, Bracket}
@@ -34,18 +34,18 @@ bracket-within b e =
       map = ltb-false noNumber (b .map) (r6 .0);
     }
 
-pub good : (k : AtomKind) → inRange k ≡ true → Good k
+pub good : (k : AtomKind) → inRange k ≡ true → GoodKind k
 unfolding inRange
 good Star e = tt
-good (Aliphatic n) e = ltb-true n aliphatics e
-good (Aromatic n) e = ltb-true n aromatics e
+good (Aliphatic n) e = ltb-true n aliphaticCount e
+good (Aromatic n) e = ltb-true n aromaticCount e
 good (Bracket b) e = bracket-within b e
 
-pub ranged : (k : AtomKind) → Good k → inRange k ≡ true
+pub ranged : (k : AtomKind) → GoodKind k → inRange k ≡ true
 unfolding inRange bracketInRange
 ranged Star g = refl
-ranged (Aliphatic n) g = lt-ltb n aliphatics g
-ranged (Aromatic n) g = lt-ltb n aromatics g
+ranged (Aliphatic n) g = lt-ltb n aliphaticCount g
+ranged (Aromatic n) g = lt-ltb n aromaticCount g
 ranged (Bracket b) g =
     simp
     (le-ltb noNumber _ (g .isotope), lt-leb symbols _ (g .symbol), lt-leb configurations _ (g .configuration), le-ltb noHydrogens _ (g .hydrogens), le-ltb noCharge _ (g .charge), le-ltb noNumber _ (g .map))

@@ -67,13 +67,13 @@ unfoldable pub sureKind : Coded → BondKind
 sureKind (Kind k) = k
 sureKind Bad = Elided
 
-abbrev pub same : BondKind → BondKind → Bool
-same j k = eqb (codeOf j) (codeOf k)
+abbrev pub sameKind : BondKind → BondKind → Bool
+sameKind j k = eqb (codeOf j) (codeOf k)
 
 unfoldable pub reconcileOf : BondKind → BondKind → Reconciled
 reconcileOf l r =
-    pick (same l r) (pick (isDirectional l) Fails (Both l r))
-    (pick (same l (reverseOf r)) (Both l r)
-    (pick (same l Elided) (Both (reverseOf r) r)
-    (pick (same r Elided) (Both l (reverseOf l))
+    pick (sameKind l r) (pick (isDirectional l) Fails (Both l r))
+    (pick (sameKind l (reverseOf r)) (Both l r)
+    (pick (sameKind l Elided) (Both (reverseOf r) r)
+    (pick (sameKind r Elided) (Both l (reverseOf l))
     Fails)))

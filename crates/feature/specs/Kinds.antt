@@ -10,11 +10,11 @@ use Rattle.feature.specs.declared.atom_kind.AtomKind.the-variants.{Star,
 use Rattle.feature.specs.declared.atom_kind.Inverted.{Inverted}
 use Rattle.feature.specs.declared.atom_kind.Inverted.the-variants.{Turned, Refused}
 
-abbrev pub aliphatics : ℕ
-aliphatics = 12
+abbrev pub aliphaticCount : ℕ
+aliphaticCount = 12
 
-abbrev pub aromatics : ℕ
-aromatics = 6
+abbrev pub aromaticCount : ℕ
+aromaticCount = 6
 
 abbrev pub noNumber : ℕ
 noNumber = 1000
@@ -22,8 +22,8 @@ noNumber = 1000
 abbrev pub noHydrogens : ℕ
 noHydrogens = 10
 
-abbrev pub neutral : ℕ
-neutral = 15
+abbrev pub neutralCharge : ℕ
+neutralCharge = 15
 
 abbrev pub noCharge : ℕ
 noCharge = 31
@@ -53,8 +53,8 @@ oh = 27
 abbrev pub configurations : ℕ
 configurations = 58
 
-abbrev pub bracket : ℕ → ℕ → ℕ → ℕ → ℕ → ℕ → BracketAtom
-bracket i y c h q m = record { isotope = i; symbol = y; configuration = c; hydrogens = h; charge = q; map = m }
+abbrev pub bracketOfSix : ℕ → ℕ → ℕ → ℕ → ℕ → ℕ → BracketAtom
+bracketOfSix i y c h q m = record { isotope = i; symbol = y; configuration = c; hydrogens = h; charge = q; map = m }
 
 unfoldable pub bracketInRange : BracketAtom → Bool
 bracketInRange b =
@@ -68,8 +68,8 @@ bracketInRange b =
 
 unfoldable pub inRange : AtomKind → Bool
 inRange Star = true
-inRange (Aliphatic n) = ltb n aliphatics
-inRange (Aromatic n) = ltb n aromatics
+inRange (Aliphatic n) = ltb n aliphaticCount
+inRange (Aromatic n) = ltb n aromaticCount
 inRange (Bracket b) = bracketInRange b
 
 -- the same as facts
@@ -81,14 +81,14 @@ pub record Within (b : BracketAtom) : Type 0 where
   pub charge : b .charge ≤ noCharge
   pub map : b .map ≤ noNumber
 
-abbrev pub Good : AtomKind → Type 0
-Good Star = Unit {0}
-Good (Aliphatic n) = n < aliphatics
-Good (Aromatic n) = n < aromatics
-Good (Bracket b) = Within b
+abbrev pub GoodKind : AtomKind → Type 0
+GoodKind Star = Unit {0}
+GoodKind (Aliphatic n) = n < aliphaticCount
+GoodKind (Aromatic n) = n < aromaticCount
+GoodKind (Bracket b) = Within b
 
-abbrev pub marked : BracketAtom → ℕ → BracketAtom
-marked b c = bracket (b .isotope) (b .symbol) c (b .hydrogens) (b .charge) (b .map)
+abbrev pub withConfiguration : BracketAtom → ℕ → BracketAtom
+withConfiguration b c = bracketOfSix (b .isotope) (b .symbol) c (b .hydrogens) (b .charge) (b .map)
 
 -- a mark on an atom that bears hydrogen is turned: TH1 and TH2 are each other's, and any other can't be
 unfoldable pub invertBracket : BracketAtom → Inverted
@@ -96,8 +96,8 @@ invertBracket b =
     pick (eqb (b .configuration) noConfiguration) (Turned (Bracket b))
     (pick (eqb (b .hydrogens) noHydrogens) (Turned (Bracket b))
     (pick (eqb (b .hydrogens) 0) (Turned (Bracket b))
-    (pick (eqb (b .configuration) th1) (Turned (Bracket (marked b th2)))
-    (pick (eqb (b .configuration) th2) (Turned (Bracket (marked b th1)))
+    (pick (eqb (b .configuration) th1) (Turned (Bracket (withConfiguration b th2)))
+    (pick (eqb (b .configuration) th2) (Turned (Bracket (withConfiguration b th1)))
     Refused))))
 
 unfoldable pub invertOf : AtomKind → Inverted

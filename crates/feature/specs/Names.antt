@@ -6,7 +6,7 @@ use mathlib.Core.Bool.{Bool, false}
 use lib.ListN.{getD}
 use lib.Dec.{eqb}
 use Rattle.feature.specs.Pick.{pick, either}
-use Rattle.feature.specs.Text.{letter, columns}
+use Rattle.feature.specs.Text.{letterStep, columns}
 
 -- how many there are
 abbrev pub symbols : ℕ
@@ -53,8 +53,8 @@ abbrev pub symSe : ℕ
 symSe = 96
 
 -- the aromatic ones, as b c n o p s se, are the last eight
-abbrev pub aromatic : ℕ
-aromatic = 119
+abbrev pub firstAromatic : ℕ
+firstAromatic = 119
 
 -- the elements that they are
 unfoldable pub aromaticElements : List ℕ
@@ -68,12 +68,12 @@ placeOf k (x ∷ xs) = pick (eqb x k) 0 (suc (placeOf k xs))
 -- whether some name of a list begins with a byte
 unfoldable pub begins : ℕ → List ℕ → Bool
 begins a [] = false
-begins a (x ∷ xs) = either (eqb (x / letter) a) (begins a xs)
+begins a (x ∷ xs) = either (eqb (x / letterStep) a) (begins a xs)
 
 -- a place before which each name begins with a lower byte
 pub record Begun (byte r : ℕ) : Type 0 where
   pub small : r ≤ symbols
-  pub lower : (j : ℕ) → j < r → getD names j 0 < byte * letter
+  pub lower : (j : ℕ) → j < r → getD names j 0 < byte * letterStep
 
 -- how many names stand before a number
 pub record Ranked (key r : ℕ) : Type 0 where

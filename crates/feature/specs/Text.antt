@@ -15,14 +15,14 @@ bytes [] = list.[]
 bytes (c ∷ s) = list._∷_ (code c) (bytes s)
 
 -- a name's number: 512 for each of its first byte, and one more than its second byte where it has one
-abbrev pub letter : ℕ
-letter = 512
+abbrev pub letterStep : ℕ
+letterStep = 512
 
 abbrev pub oneLetter : ℕ → ℕ
-oneLetter a = a * letter
+oneLetter a = a * letterStep
 
 abbrev pub twoLetters : ℕ → ℕ → ℕ
-twoLetters a b = a * letter + b + 1
+twoLetters a b = a * letterStep + b + 1
 
 -- the numbers of names that stand in columns of three: two letters, or one and a blank, and a blank after them
 abbrev pub columns : String → List ℕ

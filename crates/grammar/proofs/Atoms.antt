@@ -21,7 +21,7 @@ use Rattle.read_token.specs.declared.scanner.Missing.the-variants.{EndOfLine, C
 use Rattle.read_token.specs.declared.scanner.Found.{Found}
 use Rattle.read_token.specs.declared.scanner.Found.the-variants.{Atom, Lacks}
 use Rattle.grammar.specs.Names.{has1, has2}
-use Rattle.grammar.specs.Grammar.{Digit, d0, d1, d2, d3, d4, d5, d6, d7, d8, d9, value, digitS, worth, Symbol, short, long, names, symbolK, Isotope, isotopeK, Chiral, flat, at, atat, code1, code2, Class, TH, AL, SP, TB, OH, most, valid1, valid2, class1, base, chiralK, Hcount, bald, H, Hn, hcountK, Head, head, Sign, plus, minus, signS, okay1, okay2, Charge, neutral, sign, twice, num1, num2, signed, chargeK, Map, nomap, m1, m2, m3, mapK, bracketK, atomK}
+use Rattle.grammar.specs.Grammar.{Digit, d0, d1, d2, d3, d4, d5, d6, d7, d8, d9, value, digitS, worth, Symbol, short, long, symbolNames, symbolK, Isotope, isotopeK, Chiral, flat, at, atat, code1, code2, Class, TH, AL, SP, TB, OH, most, valid1, valid2, class1, base, chiralK, Hcount, bald, H, Hn, hcountK, Head, head, Sign, plus, minus, signS, okay1, okay2, Charge, neutral, sign, twice, num1, num2, signed, chargeK, Map, nomap, m1, m2, m3, mapK, bracketK, atomK}
 use Rattle.grammar.specs.Grammar as grammar
 use Rattle.grammar.proofs.Machine.{test, leads, on, digitOf, signOf, famOf, classOf, Part, lead, symbol, chiral1, chiral2, family, class, coded1, coded2, hcount, hcountN, doubled, charge1, charge2, colon, map1, map2, map3, closed, toClose, toMap, toCharge, toHcount, toChiral, toSymbol, partStep, partEnd}
 use Rattle.grammar.proofs.Machine as machine
@@ -257,7 +257,7 @@ module _ (s : List ℕ) (i : Isotope) (y : Symbol) (c : Chiral) (h : Hcount) whe
   hd = head i y c h
 
   abbrev shut : ℕ → ℕ → ℕ → Found
-  shut q m n = closeAt s (kinds.bracket (isotopeK i) (symbolK y) (chiralK c) (hcountK h) q m) n
+  shut q m n = closeAt s (kinds.bracketOfSix (isotopeK i) (symbolK y) (chiralK c) (hcountK h) q m) n
 
   close-byte : (q : Charge) (m : Map) (n b : ℕ) (bs : List ℕ) → Here s n (b ∷ bs) → shut (chargeK q) (mapK m) n ≡ stepped (toClose hd q m b) n bs
   unfolding closeAt toClose bracketK
@@ -653,40 +653,40 @@ module _ (s : List ℕ) (i : Isotope) where
   abbrev symboled : Step → Found
   symboled r = afterSymbol s (isotopeK i) r
 
-  lead-run : (a : ℕ) (p : T (leads a names)) (n : ℕ) (bs : List ℕ) → a < 256 → Here s (n + 1) bs → symboled (symbolOf a (peekAt s (n + 1)) n) ≡ partRun (lead i a p) (n + 1) bs
+  lead-run : (a : ℕ) (p : T (leads a symbolNames)) (n : ℕ) (bs : List ℕ) → a < 256 → Here s (n + 1) bs → symboled (symbolOf a (peekAt s (n + 1)) n) ≡ partRun (lead i a p) (n + 1) bs
   unfolding partRun partStep partEnd stopped latePart lacked symbolOf afterSymbol
-  lead-run a p n [] small e = rw (here-end e, ne-eqb a 256 (λ z. omega arith), two-in a 256 (omega arith), no-end a, one-in a, begins-in a, truth (leads a names) p)
-      (by (has1 a names) refl)
+  lead-run a p n [] small e = rw (here-end e, ne-eqb a 256 (λ z. omega arith), two-in a 256 (omega arith), no-end a, one-in a, begins-in a, truth (leads a symbolNames) p)
+      (by (has1 a symbolNames) refl)
     where
-      by : (t : Bool) → has1 a names ≡ t → symboled (pick t (Got (placeOf (oneLetter (scan.slip a)) feature.names) (n + 1)) (Stop (n + 1))) ≡ Lacks EndOfLine
+      by : (t : Bool) → has1 a symbolNames ≡ t → symboled (pick t (Got (placeOf (oneLetter (scan.slip a)) feature.names) (n + 1)) (Stop (n + 1))) ≡ Lacks EndOfLine
       by true h = chiral-nil-by (subst T (sym h) tt)
         where
-          chiral-nil-by : T (has1 a names) → configured s (isotopeK i) (placeOf (oneLetter (scan.slip a)) feature.names) (configurationAt s (n + 1)) ≡ Lacks EndOfLine
+          chiral-nil-by : T (has1 a symbolNames) → configured s (isotopeK i) (placeOf (oneLetter (scan.slip a)) feature.names) (configurationAt s (n + 1)) ≡ Lacks EndOfLine
           chiral-nil-by q = unfold scan.slip symbolK in chiral-nil s i (short a q) (n + 1) e
       by false h = rw (here-missing e)
   lead-run a p n (x ∷ bs) small e =
-      rw (here-byte e, ne-eqb a 256 (λ z. omega arith), two-in a x (omega (arith, here-small e)), one-in a, begins-in a, truth (leads a names) p)
-      (either-way (λ (o : Option Part). symboled (two-way (has2 a x names)) ≡ stepped o (n + 1) bs) (has2 a x names) _ _
-      (λ q. rw (truth (has2 a x names) q, two-up n) (unfold symbolK in symbol-run s i (long a x q) (n + 1 + 1) bs (here-next e)))
-      (λ z. rw z (either-way (λ (o : Option Part). symboled (one-way (has1 a names)) ≡ stepped o (n + 1) bs) (has1 a names) _ _
-      (λ q. rw (truth (has1 a names) q) (unfold scan.slip symbolK in chiral-byte s i (short a q) (n + 1) x bs e))
+      rw (here-byte e, ne-eqb a 256 (λ z. omega arith), two-in a x (omega (arith, here-small e)), one-in a, begins-in a, truth (leads a symbolNames) p)
+      (either-way (λ (o : Option Part). symboled (two-way (has2 a x symbolNames)) ≡ stepped o (n + 1) bs) (has2 a x symbolNames) _ _
+      (λ q. rw (truth (has2 a x symbolNames) q, two-up n) (unfold symbolK in symbol-run s i (long a x q) (n + 1 + 1) bs (here-next e)))
+      (λ z. rw z (either-way (λ (o : Option Part). symboled (one-way (has1 a symbolNames)) ≡ stepped o (n + 1) bs) (has1 a symbolNames) _ _
+      (λ q. rw (truth (has1 a symbolNames) q) (unfold scan.slip symbolK in chiral-byte s i (short a q) (n + 1) x bs e))
       (λ z. rw (z, here-character e)))))
     where
       one-way : Bool → Step
       one-way t = pick t (Got (placeOf (oneLetter (scan.slip a)) feature.names) (n + 1)) (Stop (n + 1))
 
       two-way : Bool → Step
-      two-way t = pick t (Got (placeOf (twoLetters a x) feature.names) (n + 2)) (one-way (has1 a names))
+      two-way t = pick t (Got (placeOf (twoLetters a x) feature.names) (n + 2)) (one-way (has1 a symbolNames))
 
   pub symbol-byte : (n b : ℕ) (bs : List ℕ) → Here s n (b ∷ bs) → symboled (symbolAt s n) ≡ stepped (toSymbol i b) n bs
   unfolding symbolAt toSymbol
   symbol-byte n b bs e =
       rw (here-byte e)
-      (either-way (λ (o : Option Part). symboled (symbolOf b (peekAt s (n + 1)) n) ≡ stepped o n bs) (leads b names) _ _
+      (either-way (λ (o : Option Part). symboled (symbolOf b (peekAt s (n + 1)) n) ≡ stepped o n bs) (leads b symbolNames) _ _
       (λ p. lead-run b p n bs (here-small e) (here-next e))
       (λ z. none-here z bs e))
     where
-      none-here : leads b names ≡ false → (bs : List ℕ) → Here s n (b ∷ bs) → symboled (symbolOf b (peekAt s (n + 1)) n) ≡ Lacks (Character n)
+      none-here : leads b symbolNames ≡ false → (bs : List ℕ) → Here s n (b ∷ bs) → symboled (symbolOf b (peekAt s (n + 1)) n) ≡ Lacks (Character n)
       none-here z bs e = by (peekAt s (n + 1)) (peek-small s (n + 1) bs (here-next e))
         where
           by : (d : ℕ) → d < 511 → symboled (symbolOf b d n) ≡ Lacks (Character n)
@@ -694,9 +694,9 @@ module _ (s : List ℕ) (i : Isotope) where
               rw (
                 ne-eqb b 256 (λ y. omega (arith, here-small e)),
                 two-in b d h,
-                untrue (has2 b d names) (leads b names) (has2-leads b d names) z,
+                untrue (has2 b d symbolNames) (leads b symbolNames) (has2-leads b d symbolNames) z,
                 one-in b,
-                untrue (has1 b names) (leads b names) (has1-leads b names) z,
+                untrue (has1 b symbolNames) (leads b symbolNames) (has1-leads b symbolNames) z,
                 begins-in b,
                 z,
                 here-character e,
@@ -708,8 +708,8 @@ module _ (s : List ℕ) (i : Isotope) where
 
   pub symbol-digit : (n b : ℕ) (bs : List ℕ) (d : Digit) → Here s n (b ∷ bs) → digitOf b ≡ some d → symboled (symbolAt s n) ≡ Lacks (Character n)
   unfolding toSymbol
-  symbol-digit n b bs d e g = symbol-byte n b bs e ∙ ap (λ (o : Option Part). stepped o n bs) (test-not (leads b names) _ _ (undigit (leads b names) refl))
+  symbol-digit n b bs d e g = symbol-byte n b bs e ∙ ap (λ (o : Option Part). stepped o n bs) (test-not (leads b symbolNames) _ _ (undigit (leads b symbolNames) refl))
     where
-      undigit : (t : Bool) → leads b names ≡ t → leads b names ≡ false
+      undigit : (t : Bool) → leads b symbolNames ≡ t → leads b symbolNames ≡ false
       undigit true h = let z : digitOf b ≡ none = name-undigit b (subst T (sym h) tt) in let y : _≡_ {A = ℕ} 0 1 = cc in absurd (omega arith)
       undigit false h = h

@@ -8,9 +8,9 @@ use mathlib.Core.Option.{Option}
 use Prim.Native.Nat.{ℕ, _≤_}
 use lib.ListN.{length}
 use native.Mathlib.Omega.{arith}
-use Rattle.grammar.specs.OpenSmiles.{arrangements, named1, named2, Chiral′, flat′, at′, atat′, code1′, code2′, pair′, chiralS′, SmallChiral, Charge′, neutral′, sign′, twice′, digit′, digits′, Atom′, organic′, bracket′, Rings, no-rings, and-ring, Chain, first, then, Branched, branched, Branches, no-branches, and-branch, numberS, chargeS′, classS′, atomS′, ringsS, chainS, branchedS, branchesS, SmallCharge, SmallAtom, Small, SmallBranched, SmallBranches, NoBranch, StrictAtom, Strict}
+use Rattle.grammar.specs.OpenSmiles.{arrangements, named1, named2, Chiral′, flat′, at′, atat′, code1′, code2′, pair′, chiralS′, SmallChiral, Charge′, neutral′, sign′, twice′, digit′, digits′, Atom′, organic′, bracket′, Rings, no-rings, and-ring, Chain, first, then, Branched, branched, Branches, no-branches, and-branch, digitsS, chargeS′, classS′, atomS′, ringsS, chainS, branchedS, branchesS, SmallCharge, SmallAtom, Small, SmallBranched, SmallBranches, NoBranch, StrictAtom, Strict}
 use Rattle.grammar.proofs.Table.{test-yes}
-use Rattle.grammar.specs.Grammar.{Digit, Bond, Isotope, iso0, iso1, iso2, iso3, Class, TH, AL, SP, TB, OH, most, valid1, valid2, Chiral, flat, at, atat, code1, code2, chiralS, head, headS, okay1, okay2, Charge, neutral, sign, twice, num1, num2, chargeS, Map, nomap, m1, m2, m3, mapS, Atom, organic, bracket, Rnum, Link, Line, start, link, ring, branch, isotopeS, atomS, linkS, spell}
+use Rattle.grammar.specs.Grammar.{Digit, BondSign, Isotope, iso0, iso1, iso2, iso3, Class, TH, AL, SP, TB, OH, most, valid1, valid2, Chiral, flat, at, atat, code1, code2, chiralS, head, headS, okay1, okay2, Charge, neutral, sign, twice, num1, num2, chargeS, Map, nomap, m1, m2, m3, mapS, Atom, organic, bracket, Rnum, Link, Line, start, link, ring, branch, isotopeS, atomS, linkS, spell}
 use Rattle.grammar.proofs.Machine.{test, done, read}
 use Rattle.grammar.proofs.Reading.{sound, complete}
 
@@ -64,8 +64,8 @@ unfoldable mutual
   branchesOf (and-branch bs l c) t = branch (branchesOf bs t) l (lineOf c)
 
 -- ---- small chains are spelled as their trees
-pub number-ok : (i : List Digit) → length i ≤ 3 → isotopeS (isotopeOf i) ≡ numberS i
-unfolding isotopeOf isotopeS numberS
+pub number-ok : (i : List Digit) → length i ≤ 3 → isotopeS (isotopeOf i) ≡ digitsS i
+unfolding isotopeOf isotopeS digitsS
 number-ok [] h = refl
 number-ok (a ∷ []) h = refl
 number-ok (a ∷ b ∷ []) h = refl
@@ -73,7 +73,7 @@ number-ok (a ∷ b ∷ c ∷ []) h = refl
 number-ok (a ∷ b ∷ c ∷ d ∷ r) h = absurd (omega arith)
 
 pub map-ok : (m : List Digit) → length m ≤ 3 → mapS (mapOf m) ≡ classS′ m
-unfolding mapOf mapS classS′ numberS
+unfolding mapOf mapS classS′ digitsS
 map-ok [] h = refl
 map-ok (a ∷ []) h = refl
 map-ok (a ∷ b ∷ []) h = refl
@@ -199,7 +199,7 @@ alone : (a : Atom) → StrictAtom a → Branched
 unfolding atom
 alone a k = branched (atom a k) no-rings no-branches
 
-addRing : Chain → Option Bond → Rnum → Chain
+addRing : Chain → Option BondSign → Rnum → Chain
 addRing (first (branched a rs bs)) b r = first (branched a (and-ring rs b r) bs)
 addRing (then c l (branched a rs bs)) b r = then c l (branched a (and-ring rs b r) bs)
 
@@ -249,7 +249,7 @@ unfolding atom atomOf
 atom-back (organic o) k = refl
 atom-back (bracket (head i s c h) q m) k = rw (number-back, chiral-back, charge-back, klass-back)
 
-ring-back : (u : Chain) (b : Option Bond) (r : Rnum) → NoBranch (lineOf u) → lineOf (addRing u b r) ≡ ring (lineOf u) b r
+ring-back : (u : Chain) (b : Option BondSign) (r : Rnum) → NoBranch (lineOf u) → lineOf (addRing u b r) ≡ ring (lineOf u) b r
 unfolding lineOf addRing ringsOf NoBranch
 ring-back (first (branched a rs no-branches)) b r h = refl
 ring-back (first (branched a rs (and-branch bs l c))) b r h = absurd h
@@ -303,7 +303,7 @@ unfolding atom SmallAtom
 atom-small (organic o) k = tt
 atom-small (bracket (head i s c h) q m) k = (number-small i, charge-small q, klass-small m, chiral-small c)
 
-ring-small : (u : Chain) (b : Option Bond) (r : Rnum) → Small u → Small (addRing u b r)
+ring-small : (u : Chain) (b : Option BondSign) (r : Rnum) → Small u → Small (addRing u b r)
 unfolding addRing Small
 ring-small (first (branched a rs bs)) b r h = h
 ring-small (then c k (branched a rs bs)) b r h = h

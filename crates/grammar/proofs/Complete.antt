@@ -10,7 +10,7 @@ use native.Mathlib.Omega.{arith}
 use Rattle.feature.specs.Pick.{pick}
 use Rattle.feature.specs.Text.{byte}
 use Rattle.grammar.specs.Names.{has1, has2}
-use Rattle.grammar.specs.Grammar.{Digit, d0, d1, d2, d3, d4, d5, d6, d7, d8, d9, Bond, organics, bare1, bare2, names, Symbol, short, long, organicS, Isotope, iso0, iso1, iso2, iso3, Chiral, flat, at, atat, code1, code2, Class, TH, AL, SP, TB, OH, valid1, valid2, value, most, class1, class2, Hcount, bald, H, Hn, Head, head, headS, Sign, plus, minus, signS, okay1, okay2, Charge, neutral, sign, twice, num1, num2, chargeS, Map, nomap, m1, m2, m3, mapS, Atom, organic, bracket, Rnum, ring1, ring2, Link, elided, bond, dot, Line, start, link, ring, branch, digitS, bondS, symbolS, isotopeS, chiralS, hcountS, atomS, rnumS, bond?S, linkS, spell}
+use Rattle.grammar.specs.Grammar.{Digit, d0, d1, d2, d3, d4, d5, d6, d7, d8, d9, BondSign, organics, bare1, bare2, symbolNames, Symbol, short, long, organicS, Isotope, iso0, iso1, iso2, iso3, Chiral, flat, at, atat, code1, code2, Class, TH, AL, SP, TB, OH, valid1, valid2, value, most, class1, class2, Hcount, bald, H, Hn, Head, head, headS, Sign, plus, minus, signS, okay1, okay2, Charge, neutral, sign, twice, num1, num2, chargeS, Map, nomap, m1, m2, m3, mapS, Atom, organic, bracket, Rnum, ring1, ring2, Link, elided, bond, dot, Line, start, link, ring, branch, digitS, bondS, symbolS, isotopeS, chiralS, hcountS, atomS, rnumS, bond?S, linkS, spell}
 use Rattle.grammar.proofs.Table.{Free, free-use, Apart, lead-apart, bracket-apart, bracket-lead, digit-free, bond-free, bond-of, bond-undigit, bond-unpercent, Quiet, quiet-plus, quiet-minus, quiet-colon, quiet-close, free-point, free-percent, free-lp, free-rp, test-yes, test-not, has1-leads, has2-leads, seconds, no-second, name-undigit, at-second, H-second}
 use Rattle.grammar.proofs.Machine.{leads, digitOf, bondOf, Part, bare, whole, isotope, lead, symbol, chiral1, chiral2, class, coded1, coded2, famOf, classOf, hcount, hcountN, signed, doubled, charge1, charge2, colon, map1, map2, map3, signOf, toMap, toCharge, closed, begins, grow, toClose, toHcount, toChiral, toSymbol, partStep, partEnd, Around, top, inside, Where, begin, after, around, put, State, want, inAtom, body, fromPart, shut, bodyStep, wantStep, atomStep, step, topmost, atomEnd, ending}
 
@@ -69,7 +69,7 @@ digit-of d9 = refl
 
 -- the machine's place after each part of a bracket
 unfoldable pub afterSymbol : Isotope → Symbol → Part
-afterSymbol i (short a p) = lead i a (has1-leads a names p)
+afterSymbol i (short a p) = lead i a (has1-leads a symbolNames p)
 afterSymbol i (long a b p) = symbol i (long a b p)
 
 unfoldable pub afterChiral : Isotope → Symbol → Chiral → Part
@@ -98,19 +98,19 @@ read-isotope (iso1 a) = simp digit-of
 read-isotope (iso2 a b) = simp digit-of
 read-isotope (iso3 a b c) = simp digit-of
 
-read-lead : (i : Isotope) (a : ℕ) (p : T (leads a names)) → partStep (isotope i) a ≡ some (lead i a p)
+read-lead : (i : Isotope) (a : ℕ) (p : T (leads a symbolNames)) → partStep (isotope i) a ≡ some (lead i a p)
 unfolding partStep toSymbol
-read-lead i a p = rw (name-undigit a p) (test-yes (leads a names) p (λ p. some (lead i a p)) none)
+read-lead i a p = rw (name-undigit a p) (test-yes (leads a symbolNames) p (λ p. some (lead i a p)) none)
 
 pub read-symbol : (i : Isotope) (s : Symbol) → parts (isotope i) (symbolS s) ≡ some (afterSymbol i s)
 unfolding parts chain symbolS afterSymbol
-read-symbol i (short a p) = rw (read-lead i a (has1-leads a names p))
-read-symbol i (long a b p) = rw (read-lead i a (has2-leads a b names p)) (unfold partStep in rw (test-yes (has2 a b names) p (λ q. some (symbol i (long a b q))) _))
+read-symbol i (short a p) = rw (read-lead i a (has1-leads a symbolNames p))
+read-symbol i (long a b p) = rw (read-lead i a (has2-leads a b symbolNames p)) (unfold partStep in rw (test-yes (has2 a b symbolNames) p (λ q. some (symbol i (long a b q))) _))
 
 -- a byte that is no second letter ends the symbol
-pub past-symbol : (i : Isotope) (s : Symbol) (b : ℕ) → seconds b names ≡ false → partStep (afterSymbol i s) b ≡ toChiral i s b
+pub past-symbol : (i : Isotope) (s : Symbol) (b : ℕ) → seconds b symbolNames ≡ false → partStep (afterSymbol i s) b ≡ toChiral i s b
 unfolding partStep afterSymbol
-past-symbol i (short a p) b e = test-not (has2 a b names) _ _ (no-second a b names e) ∙ test-yes (has1 a names) p (λ q. toChiral i (short a q) b) none
+past-symbol i (short a p) b e = test-not (has2 a b symbolNames) _ _ (no-second a b symbolNames e) ∙ test-yes (has1 a symbolNames) p (λ q. toChiral i (short a q) b) none
 past-symbol i (long a c p) b e = refl
 
 pub read-class : (i : Isotope) (s : Symbol) (k : Class) → parts (chiral1 i s) (class1 k ∷ class2 k ∷ []) ≡ some (class i s k)
@@ -147,7 +147,7 @@ read-chiral i s (code1 k d p) = rw (past-symbol i s (byte "@") at-second) (parts
 read-chiral i s (code2 k d e p) = rw (past-symbol i s (byte "@") at-second) (parts-then (class1 k ∷ class2 k ∷ []) (digitS d ∷ digitS e ∷ []) (chiral1 i s) (class i s k) (read-class i s k) ∙ read-code2 i s k d e (valid-cut k d e p) p)
 
 -- what is neither a second letter nor "@" goes on to the hydrogens
-past-chiral : (i : Isotope) (s : Symbol) (c : Chiral) (b : ℕ) → seconds b names ≡ false → eqb b (byte "@") ≡ false → famOf b ≡ none → digitOf b ≡ none → partStep (afterChiral i s c) b ≡ toHcount i s c b
+past-chiral : (i : Isotope) (s : Symbol) (c : Chiral) (b : ℕ) → seconds b symbolNames ≡ false → eqb b (byte "@") ≡ false → famOf b ≡ none → digitOf b ≡ none → partStep (afterChiral i s c) b ≡ toHcount i s c b
 unfolding partStep toChiral afterChiral
 past-chiral i s flat b p q f g = rw (past-symbol i s b p, q)
 past-chiral i s at b p q f g = rw (q, f)
@@ -337,7 +337,7 @@ read-link k c elided a = let f = first a in let o = f .opener in
 read-link k c (bond x) a = rw (hop k c (bondS x) (bond-free x), bond-undigit x, bond-unpercent x, bond-of x) (read-atom (after k c (bond x)) a)
 read-link k c dot a = rw (hop k c (byte ".") free-point) (read-atom (after k c dot) a)
 
-read-ring : (k : Around) (c : Line) (x : Option Bond) (r : Rnum) → steps (now k c) (bond?S x ++ rnumS r) ≡ some (body k (ring c x r))
+read-ring : (k : Around) (c : Line) (x : Option BondSign) (r : Rnum) → steps (now k c) (bond?S x ++ rnumS r) ≡ some (body k (ring c x r))
 unfolding steps chain bond?S rnumS step bodyStep wantStep bondS bondOf digitOf
 read-ring k c none (ring1 d) = rw (hop k c (digitS d) (digit-free d), digit-of d)
 read-ring k c none (ring2 d e) = rw (hop k c (byte "%") free-percent) (rw (digit-of d, digit-of e))

@@ -11,15 +11,15 @@ use Rattle.feature.specs.Text.{byte, bytes}
 use Rattle.read_token.specs.declared.scanner.Missing.the-variants.{EndOfLine, Character}
 use Rattle.read_line.specs.Events.{Miss}
 use Rattle.read_line.specs.Parse.{parse}
-use Rattle.grammar.specs.Names.{table, without, has1, has2}
-use Rattle.grammar.specs.Grammar.{link, meaning, tells, enter, atomK, bracketK, symbolK, Digit, d0, d1, d2, d3, d6, d9, value, digitS, organics, bare1, bare2, organicS, names, known, short, long, symbolS, iso0, isotopeS, flat, Class, TB, OH, most, class1, class2, valid2, chiralS, bald, H, hcountS, head, headS, Sign, plus, minus, signS, neutral, chargeS, okay1, okay2, nomap, mapS, organic, bracket, atomS, ring1, rnumS, bond?S, elided, linkS, Line, start, ring, branch, spell}
+use Rattle.grammar.specs.Names.{table, lackedNames, has1, has2}
+use Rattle.grammar.specs.Grammar.{link, meaning, tells, enter, atomK, bracketK, symbolK, Digit, d0, d1, d2, d3, d6, d9, value, digitS, organics, bare1, bare2, organicS, symbolNames, known, short, long, symbolS, iso0, isotopeS, flat, Class, TB, OH, most, class1, class2, valid2, chiralS, bald, H, hcountS, head, headS, Sign, plus, minus, signS, neutral, chargeS, okay1, okay2, nomap, mapS, organic, bracket, atomS, ring1, rnumS, bond?S, elided, linkS, Line, start, ring, branch, spell}
 use Rattle.grammar.proofs.Verdict.{read-tree}
 use Rattle.grammar.proofs.First.{after-line}
 use Rattle.grammar.proofs.Chains.{same-last}
 use Rattle.grammar.proofs.Late.{late, latePart, eaten-late}
 use Rattle.builder.specs.Limits.{branchLimit}
-use Rattle.grammar.specs.Lines.{Fits, Eaten, Late, Ends, Bytes, Refused}
-use Rattle.grammar.specs.OpenSmiles.{arrangements, openOrganics, openNames, OpenOrganic, OpenSymbol, uncounted, flat′, pair′, chiralS′, paired, SmallChiral, bracket′, neutral′, digit′, digits′, no-rings, Chain, first, branched, no-branches, numberS, chargeS′, classS′, atomS′, ringsS, chainS, Small, SmallCharge, SmallAtom, Strict, StrictAtom, NoBranch, Terminator, space, tab, feed, return, terminatorS}
+use Rattle.grammar.specs.Lines.{Fits, Eaten, Late, Ends, Bytes, WrongAt}
+use Rattle.grammar.specs.OpenSmiles.{arrangements, openOrganics, openNames, OpenOrganic, OpenSymbol, uncounted, flat′, pair′, chiralS′, paired, SmallChiral, bracket′, neutral′, digit′, digits′, no-rings, Chain, first, branched, no-branches, digitsS, chargeS′, classS′, atomS′, ringsS, chainS, Small, SmallCharge, SmallAtom, Strict, StrictAtom, NoBranch, Terminator, space, tab, feed, return, terminatorS}
 use Rattle.grammar.proofs.Machine.{top, ending, digitOf, bondOf, begins, leads, bodyStep}
 use Rattle.grammar.proofs.Table.{seconds, Free, free}
 use Rattle.grammar.proofs.Link.{full, told, toldWhere, toldAround, halt, parse-full}
@@ -27,20 +27,20 @@ use Rattle.grammar.proofs.Complete.{afterAtom, now, hop, read-line}
 use Rattle.grammar.proofs.Reading.{zero-state, stuck-refused}
 
 -- ---- the tables: what the reader has besides OpenSMILES' names, and that it has all of those
-pub more-names : without names openNames ≡ table "G  Mc Nh Og Ts "
-unfolding without names known openNames has1 has2
+pub more-names : lackedNames symbolNames openNames ≡ table "G  Mc Nh Og Ts "
+unfolding lackedNames symbolNames known openNames has1 has2
 more-names = refl
 
-pub all-names : without openNames names ≡ []
-unfolding without names known openNames has1 has2
+pub all-names : lackedNames openNames symbolNames ≡ []
+unfolding lackedNames symbolNames known openNames has1 has2
 all-names = refl
 
-pub more-organics : without organics openOrganics ≡ table "At Ts "
-unfolding without organics openOrganics has1 has2
+pub more-organics : lackedNames organics openOrganics ≡ table "At Ts "
+unfolding lackedNames organics openOrganics has1 has2
 more-organics = refl
 
-pub all-organics : without openOrganics organics ≡ []
-unfolding without organics openOrganics has1 has2
+pub all-organics : lackedNames openOrganics organics ≡ []
+unfolding lackedNames organics openOrganics has1 has2
 all-organics = refl
 
 -- the numbers of the templates' arrangements are the same
@@ -51,7 +51,7 @@ same-arrangements k = same-last k
 
 -- "slip"
 pub slip : Line
-unfolding has1 has2 names known organics
+unfolding has1 has2 symbolNames known organics
 slip = start (bracket (head iso0 (short (byte "G") tt) flat bald) neutral nomap)
 
 pub slip-spelled : spell slip ≡ bytes "[G]"
@@ -64,7 +64,7 @@ slip-loose h = h
 
 -- "new elements"
 pub newNh : Line
-unfolding has1 has2 names known organics
+unfolding has1 has2 symbolNames known organics
 newNh = start (bracket (head iso0 (long (byte "N") (byte "h") tt) flat bald) neutral nomap)
 
 pub newNh-spelled : spell newNh ≡ bytes "[Nh]"
@@ -76,7 +76,7 @@ unfolding newNh Strict StrictAtom NoBranch OpenOrganic OpenSymbol uncounted has1
 newNh-loose h = h
 
 pub newMc : Line
-unfolding has1 has2 names known organics
+unfolding has1 has2 symbolNames known organics
 newMc = start (bracket (head iso0 (long (byte "M") (byte "c") tt) flat bald) neutral nomap)
 
 pub newMc-spelled : spell newMc ≡ bytes "[Mc]"
@@ -88,7 +88,7 @@ unfolding newMc Strict StrictAtom NoBranch OpenOrganic OpenSymbol uncounted has1
 newMc-loose h = h
 
 pub newTs : Line
-unfolding has1 has2 names known organics
+unfolding has1 has2 symbolNames known organics
 newTs = start (bracket (head iso0 (long (byte "T") (byte "s") tt) flat bald) neutral nomap)
 
 pub newTs-spelled : spell newTs ≡ bytes "[Ts]"
@@ -100,7 +100,7 @@ unfolding newTs Strict StrictAtom NoBranch OpenOrganic OpenSymbol uncounted has1
 newTs-loose h = h
 
 pub newOg : Line
-unfolding has1 has2 names known organics
+unfolding has1 has2 symbolNames known organics
 newOg = start (bracket (head iso0 (long (byte "O") (byte "g") tt) flat bald) neutral nomap)
 
 pub newOg-spelled : spell newOg ≡ bytes "[Og]"
@@ -113,7 +113,7 @@ newOg-loose h = h
 
 -- "bare At, Ts"
 pub bareAt : Line
-unfolding has1 has2 names known organics
+unfolding has1 has2 symbolNames known organics
 bareAt = start (organic (bare2 (byte "A") (byte "t") tt))
 
 pub bareAt-spelled : spell bareAt ≡ bytes "At"
@@ -125,7 +125,7 @@ unfolding bareAt Strict StrictAtom NoBranch OpenOrganic OpenSymbol uncounted has
 bareAt-loose h = h
 
 pub bareTs : Line
-unfolding has1 has2 names known organics
+unfolding has1 has2 symbolNames known organics
 bareTs = start (organic (bare2 (byte "T") (byte "s") tt))
 
 pub bareTs-spelled : spell bareTs ≡ bytes "Ts"
@@ -138,7 +138,7 @@ bareTs-loose h = h
 
 -- "counted hydrogen"
 pub counted : Line
-unfolding has1 has2 names known organics
+unfolding has1 has2 symbolNames known organics
 counted = start (bracket (head iso0 (short (byte "H") tt) flat H) neutral nomap)
 
 pub counted-spelled : spell counted ≡ bytes "[HH]"
@@ -151,7 +151,7 @@ counted-loose h = h
 
 -- "ring after branch"
 pub ringAfter : Line
-unfolding has1 has2 names known organics
+unfolding has1 has2 symbolNames known organics
 ringAfter = ring (branch (start (organic (bare1 (byte "C") tt))) elided (start (organic (bare1 (byte "C") tt)))) none (ring1 d1)
 
 pub ringAfter-spelled : spell ringAfter ≡ bytes "C(C)1"
@@ -166,11 +166,11 @@ ringAfter-loose h = h .1
 
 -- "charge zero"
 pub chargeZero : Sign → Chain
-unfolding has1 has2 names known organics Strict StrictAtom NoBranch OpenOrganic OpenSymbol uncounted openNames openOrganics
+unfolding has1 has2 symbolNames known organics Strict StrictAtom NoBranch OpenOrganic OpenSymbol uncounted openNames openOrganics
 chargeZero g = first (branched (bracket′ [] (short (byte "C") tt) flat′ bald tt (digit′ g d0) []) no-rings no-branches)
 
 pub chargeZero-spelled : (chainS (chargeZero plus) ≡ bytes "[C+0]") × (chainS (chargeZero minus) ≡ bytes "[C-0]")
-unfolding chargeZero chainS atomS′ ringsS numberS chiralS′ chargeS′ classS′ signS spell atomS organicS headS isotopeS symbolS chiralS hcountS chargeS mapS digitS rnumS bond?S linkS
+unfolding chargeZero chainS atomS′ ringsS digitsS chiralS′ chargeS′ classS′ signS spell atomS organicS headS isotopeS symbolS chiralS hcountS chargeS mapS digitS rnumS bond?S linkS
 chargeZero-spelled = (refl, refl)
 
 pub chargeZero-big : (g : Sign) → ¬ Small (chargeZero g)
@@ -179,11 +179,11 @@ chargeZero-big g h = h .0 .1
 
 -- "charge ten"
 pub chargeTen : Sign → Chain
-unfolding has1 has2 names known organics Strict StrictAtom NoBranch OpenOrganic OpenSymbol uncounted openNames openOrganics
+unfolding has1 has2 symbolNames known organics Strict StrictAtom NoBranch OpenOrganic OpenSymbol uncounted openNames openOrganics
 chargeTen g = first (branched (bracket′ [] (short (byte "C") tt) flat′ bald tt (digits′ g d1 d0) []) no-rings no-branches)
 
 pub chargeTen-spelled : (chainS (chargeTen plus) ≡ bytes "[C+10]") × (chainS (chargeTen minus) ≡ bytes "[C-10]")
-unfolding chargeTen chainS atomS′ ringsS numberS chiralS′ chargeS′ classS′ signS spell atomS organicS headS isotopeS symbolS chiralS hcountS chargeS mapS digitS rnumS bond?S linkS
+unfolding chargeTen chainS atomS′ ringsS digitsS chiralS′ chargeS′ classS′ signS spell atomS organicS headS isotopeS symbolS chiralS hcountS chargeS mapS digitS rnumS bond?S linkS
 chargeTen-spelled = (refl, refl)
 
 pub chargeTen-big : (g : Sign) → ¬ Small (chargeTen g)
@@ -192,11 +192,11 @@ chargeTen-big g h = h .0 .1
 
 -- "charge above fifteen"
 pub chargeAbove : Sign → Chain
-unfolding has1 has2 names known organics Strict StrictAtom NoBranch OpenOrganic OpenSymbol uncounted openNames openOrganics
+unfolding has1 has2 symbolNames known organics Strict StrictAtom NoBranch OpenOrganic OpenSymbol uncounted openNames openOrganics
 chargeAbove g = first (branched (bracket′ [] (short (byte "C") tt) flat′ bald tt (digits′ g d1 d6) []) no-rings no-branches)
 
 pub chargeAbove-spelled : (chainS (chargeAbove plus) ≡ bytes "[C+16]") × (chainS (chargeAbove minus) ≡ bytes "[C-16]")
-unfolding chargeAbove chainS atomS′ ringsS numberS chiralS′ chargeS′ classS′ signS spell atomS organicS headS isotopeS symbolS chiralS hcountS chargeS mapS digitS rnumS bond?S linkS
+unfolding chargeAbove chainS atomS′ ringsS digitsS chiralS′ chargeS′ classS′ signS spell atomS organicS headS isotopeS symbolS chiralS hcountS chargeS mapS digitS rnumS bond?S linkS
 chargeAbove-spelled = (refl, refl)
 
 pub chargeAbove-big : (g : Sign) → ¬ Small (chargeAbove g)
@@ -205,11 +205,11 @@ chargeAbove-big g h = h .0 .1
 
 -- "charge with a leading zero"
 pub chargeLeading : Sign → Digit → Chain
-unfolding has1 has2 names known organics Strict StrictAtom NoBranch OpenOrganic OpenSymbol uncounted openNames openOrganics
+unfolding has1 has2 symbolNames known organics Strict StrictAtom NoBranch OpenOrganic OpenSymbol uncounted openNames openOrganics
 chargeLeading g d = first (branched (bracket′ [] (short (byte "C") tt) flat′ bald tt (digits′ g d0 d) []) no-rings no-branches)
 
 pub chargeLeading-spelled : (chainS (chargeLeading plus d1) ≡ bytes "[C+01]") × (chainS (chargeLeading minus d9) ≡ bytes "[C-09]")
-unfolding chargeLeading chainS atomS′ ringsS numberS chiralS′ chargeS′ classS′ signS spell atomS organicS headS isotopeS symbolS chiralS hcountS chargeS mapS digitS rnumS bond?S linkS
+unfolding chargeLeading chainS atomS′ ringsS digitsS chiralS′ chargeS′ classS′ signS spell atomS organicS headS isotopeS symbolS chiralS hcountS chargeS mapS digitS rnumS bond?S linkS
 chargeLeading-spelled = (refl, refl)
 
 pub chargeLeading-big : (g : Sign) (d : Digit) → ¬ Small (chargeLeading g d)
@@ -218,11 +218,11 @@ chargeLeading-big g d h = h .0 .1
 
 -- "long isotope"
 pub longIsotope : Chain
-unfolding has1 has2 names known organics Strict StrictAtom NoBranch OpenOrganic OpenSymbol uncounted openNames openOrganics
+unfolding has1 has2 symbolNames known organics Strict StrictAtom NoBranch OpenOrganic OpenSymbol uncounted openNames openOrganics
 longIsotope = first (branched (bracket′ (d1 ∷ d0 ∷ d0 ∷ d0 ∷ []) (short (byte "C") tt) flat′ bald tt neutral′ []) no-rings no-branches)
 
 pub longIsotope-spelled : chainS longIsotope ≡ bytes "[1000C]"
-unfolding longIsotope chainS atomS′ ringsS numberS chiralS′ chargeS′ classS′ signS spell atomS organicS headS isotopeS symbolS chiralS hcountS chargeS mapS digitS rnumS bond?S linkS
+unfolding longIsotope chainS atomS′ ringsS digitsS chiralS′ chargeS′ classS′ signS spell atomS organicS headS isotopeS symbolS chiralS hcountS chargeS mapS digitS rnumS bond?S linkS
 longIsotope-spelled = refl
 
 pub longIsotope-big : ¬ Small longIsotope
@@ -231,11 +231,11 @@ longIsotope-big h = absurd (omega (arith, h .0 .0))
 
 -- "long map"
 pub longMap : Chain
-unfolding has1 has2 names known organics Strict StrictAtom NoBranch OpenOrganic OpenSymbol uncounted openNames openOrganics
+unfolding has1 has2 symbolNames known organics Strict StrictAtom NoBranch OpenOrganic OpenSymbol uncounted openNames openOrganics
 longMap = first (branched (bracket′ [] (short (byte "C") tt) flat′ bald tt neutral′ (d1 ∷ d0 ∷ d0 ∷ d0 ∷ [])) no-rings no-branches)
 
 pub longMap-spelled : chainS longMap ≡ bytes "[C:1000]"
-unfolding longMap chainS atomS′ ringsS numberS chiralS′ chargeS′ classS′ signS spell atomS organicS headS isotopeS symbolS chiralS hcountS chargeS mapS digitS rnumS bond?S linkS
+unfolding longMap chainS atomS′ ringsS digitsS chiralS′ chargeS′ classS′ signS spell atomS organicS headS isotopeS symbolS chiralS hcountS chargeS mapS digitS rnumS bond?S linkS
 longMap-spelled = refl
 
 pub longMap-big : ¬ Small longMap
@@ -244,15 +244,15 @@ longMap-big h = absurd (omega (arith, h .0 .2))
 
 -- "leading zero" and "no arrangement": a template, and two digits as written
 pub afterTB : Digit → Digit → Chain
-unfolding has1 has2 names known organics Strict StrictAtom NoBranch OpenOrganic OpenSymbol uncounted openNames openOrganics paired
+unfolding has1 has2 symbolNames known organics Strict StrictAtom NoBranch OpenOrganic OpenSymbol uncounted openNames openOrganics paired
 afterTB d e = first (branched (bracket′ [] (short (byte "C") tt) (pair′ TB tt d e) bald tt neutral′ []) no-rings no-branches)
 
 pub afterOH : Digit → Digit → Chain
-unfolding has1 has2 names known organics Strict StrictAtom NoBranch OpenOrganic OpenSymbol uncounted openNames openOrganics paired
+unfolding has1 has2 symbolNames known organics Strict StrictAtom NoBranch OpenOrganic OpenSymbol uncounted openNames openOrganics paired
 afterOH d e = first (branched (bracket′ [] (short (byte "C") tt) (pair′ OH tt d e) bald tt neutral′ []) no-rings no-branches)
 
 pub leadingZero-spelled : (chainS (afterTB d0 d1) ≡ bytes "[C@TB01]") × (chainS (afterOH d0 d1) ≡ bytes "[C@OH01]")
-unfolding afterTB afterOH chainS atomS′ ringsS numberS chiralS′ chargeS′ classS′ class1 class2 symbolS hcountS digitS
+unfolding afterTB afterOH chainS atomS′ ringsS digitsS chiralS′ chargeS′ classS′ class1 class2 symbolS hcountS digitS
 leadingZero-spelled = (refl, refl)
 
 pub leadingZero-big : (d : Digit) → ¬ Small (afterTB d0 d) × (¬ Small (afterOH d0 d))
@@ -260,7 +260,7 @@ unfolding afterTB afterOH Small SmallAtom SmallChiral valid2 value
 leadingZero-big d = (λ h. h .0 .3, λ h. h .0 .3)
 
 pub unarranged-spelled : (chainS (afterTB d0 d0) ≡ bytes "[C@TB00]") × (chainS (afterTB d2 d1) ≡ bytes "[C@TB21]") × (chainS (afterOH d3 d1) ≡ bytes "[C@OH31]")
-unfolding afterTB afterOH chainS atomS′ ringsS numberS chiralS′ chargeS′ classS′ class1 class2 symbolS hcountS digitS
+unfolding afterTB afterOH chainS atomS′ ringsS digitsS chiralS′ chargeS′ classS′ class1 class2 symbolS hcountS digitS
 unarranged-spelled = (refl, refl, refl)
 
 pub unarranged-big : ¬ Small (afterTB d0 d0) × (¬ Small (afterTB d2 d1)) × (¬ Small (afterOH d3 d1))
@@ -287,7 +287,7 @@ blank-ends t tab = refl
 blank-ends t feed = refl
 blank-ends t return = refl
 
-pub terminator : (t : Line) (x : Terminator) (behind : List ℕ) → Refused (spell t ++ (terminatorS x ∷ behind)) (length (spell t))
+pub terminator : (t : Line) (x : Terminator) (behind : List ℕ) → WrongAt (spell t ++ (terminatorS x ∷ behind)) (length (spell t))
 unfolding zero-state
 terminator t x behind = stuck-refused (spell t) (terminatorS x) behind (now top t) (read-line t top) (hop top t (terminatorS x) (blank-free x) ∙ blank-ends t x)
 
@@ -315,7 +315,7 @@ terminator-told t x behind f h = after-line t (terminatorS x) behind h f (termin
 -- ---- read otherwise than meant
 -- "slip": as fluorine
 pub fluorine : Line
-unfolding has1 names known
+unfolding has1 symbolNames known
 fluorine = start (bracket (head iso0 (short (byte "F") tt) flat bald) neutral nomap)
 
 pub fluorine-spelled : spell fluorine ≡ bytes "[F]"

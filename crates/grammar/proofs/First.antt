@@ -14,7 +14,7 @@ use Rattle.builder.specs.Limits.{branchLimit}
 use Rattle.read_line.specs.Events.{Miss}
 use Rattle.read_line.specs.Parse.{parse}
 use Rattle.grammar.specs.Grammar.{Line, spell}
-use Rattle.grammar.specs.Lines.{Bytes, Fits, Viable, Refused, Late, TooDeep, Ends, Nests}
+use Rattle.grammar.specs.Lines.{Bytes, Fits, Viable, WrongAt, Late, TooDeep, Ends, Nests}
 use Rattle.grammar.proofs.Reading.{viable-cut}
 use Rattle.grammar.proofs.Verdict.{refused-is}
 
@@ -35,7 +35,7 @@ within (z ∷ p) (y ∷ t) a x u v e h =
     (r .0, ap₂ (λ (i : ℕ) (l : List ℕ). i ∷ l) g (r .1))
 
 -- a text goes too deep only before it is wrong
-pub nest-first : (s : List ℕ) (m n : ℕ) → TooDeep s m → Refused s n → m < n
+pub nest-first : (s : List ℕ) (m n : ℕ) → TooDeep s m → WrongAt s n → m < n
 nest-first s m n d r = by (leb n m) refl
   where
     by : (t : Bool) → leb n m ≡ t → m < n
@@ -45,7 +45,7 @@ nest-first s m n d r = by (leb n m) refl
     by false e = leb-false n m e
 
 -- a line within the limit is read, up to what is wrong after it
-pub after-line : (t : Line) (x : ℕ) (behind : List ℕ) → Bytes (spell t ++ (x ∷ behind)) → Fits branchLimit t → (r : Refused (spell t ++ (x ∷ behind)) (length (spell t))) → ¬ Late r
+pub after-line : (t : Line) (x : ℕ) (behind : List ℕ) → Bytes (spell t ++ (x ∷ behind)) → Fits branchLimit t → (r : WrongAt (spell t ++ (x ∷ behind)) (length (spell t))) → ¬ Late r
     → Ends (parse (spell t ++ (x ∷ behind))) (Miss (Character (length (spell t))))
 after-line t x behind h f r timely = by (refused-is (spell t ++ (x ∷ behind)) h (length (spell t)) r timely)
   where

@@ -95,8 +95,8 @@ same-kind : (j k : BondKind) → codeOf j ≡ codeOf k → j ≡ k
 same-kind j k e = let f : Kind j ≡ Kind k = sym (kind-back j) ∙ ap kindOf e ∙ kind-back k in cc
 
 bond-right : ℕ → Bool
-bond-right b = eqb (codeOf (scan.bondOf b)) (codeOf (bond?K (bondOf b)))
+bond-right b = eqb (codeOf (scan.signKind b)) (codeOf (bond?K (bondOf b)))
 
-pub bond-worth : (b : ℕ) → b < 256 → scan.bondOf b ≡ bond?K (bondOf b)
-unfolding bond-right bondOf bond?K bondK scan.bondOf codeOf
+pub bond-worth : (b : ℕ) → b < 256 → scan.signKind b ≡ bond?K (bondOf b)
+unfolding bond-right bondOf bond?K bondK scan.signKind codeOf
 bond-worth b h = same-kind _ _ (eqb→eq _ _ (each bond-right tt b h))

@@ -7,7 +7,7 @@ use Prim.Native.Nat.{ℕ}
 use native.Mathlib.Omega.{arith}
 use Rattle.feature.specs.Text.{byte}
 use Rattle.grammar.specs.Names.{has1, has2}
-use Rattle.grammar.specs.Grammar.{known, organics, names, Symbol, Isotope, at, Class, TH, AL, SP, TB, OH, class1, class2, plus, minus, signS, Atom, elided, bond, dot, symbolS, isotopeS, chiralS, hcountS}
+use Rattle.grammar.specs.Grammar.{known, organics, symbolNames, Symbol, Isotope, at, Class, TH, AL, SP, TB, OH, class1, class2, plus, minus, signS, Atom, elided, bond, dot, symbolS, isotopeS, chiralS, hcountS}
 use Rattle.grammar.proofs.Machine.{leads, digitOf, bondOf, Part, bare, whole, isotope, lead, symbol, chiral1, chiral2, family, class, coded1, coded2, famOf, classOf, hcount, hcountN, signed, doubled, charge1, charge2, colon, map1, map2, map3, signOf, toMap, toCharge, closed, begins, toClose, toHcount, toChiral, toSymbol, partStep, partEnd, top, inside, Where, begin, after, State, want, inAtom, body, percent, percent1, fromPart, bodyStep, wantStep, atomStep, step}
 use Rattle.grammar.proofs.Sound.{guardT, sofar, whereS, partS, opened}
 use Rattle.grammar.proofs.Table.{test-not, no-second, at-second, free-at}
@@ -144,11 +144,11 @@ AtStates none = Unit {0}
 AtStates (some s) = AtState s
 
 at-part : (q : Part) → AtParts (partStep q (byte "@"))
-unfolding AtParts AtPart partStep digitOf toSymbol leads names known toChiral toHcount toCharge toMap toClose signOf signS classOf class1
+unfolding AtParts AtPart partStep digitOf toSymbol leads symbolNames known toChiral toHcount toCharge toMap toClose signOf signS classOf class1
 at-part (bare a p) = subst AtParts (sym (test-not (has2 a (byte "@") organics) _ _ (no-second a (byte "@") organics free-at))) tt
 at-part (whole s) = tt
 at-part (isotope i) = tt
-at-part (lead i a p) = subst AtParts (sym (test-not (has2 a (byte "@") names) _ _ (no-second a (byte "@") names at-second))) (guardT AtParts (has1 a names) _ _ (λ q. tt) tt)
+at-part (lead i a p) = subst AtParts (sym (test-not (has2 a (byte "@") symbolNames) _ _ (no-second a (byte "@") symbolNames at-second))) (guardT AtParts (has1 a symbolNames) _ _ (λ q. tt) tt)
 at-part (symbol i s) = tt
 at-part (chiral1 i s) = tt
 at-part (chiral2 i s) = tt

@@ -25,10 +25,10 @@ use Rattle.builder.specs.Limits.{branchLimit}
 use Rattle.read_line.specs.declared.lead.Lead.{Lead}
 use Rattle.read_line.specs.declared.lead.Lead.the-variants as lead
 use Rattle.read_line.specs.declared.lead.Led.{Led}
-use Rattle.read_line.specs.Events.{Event, Enter, Join, Pop, Miss, Nest}
+use Rattle.read_line.specs.Events.{ReadEvent, Enter, Join, Pop, Miss, Nest}
 use Rattle.read_line.specs.Parse.{Rest, ledAt, bodyOf, bodyAt, missP, foundP, atomP, ringP, unionBy, unionP, unitBy, unitP, lineP, closeP, branchP, bodies, endP, parse}
 use Rattle.grammar.specs.Names.{has1}
-use Rattle.grammar.specs.Grammar.{Digit, d0, d1, d2, d3, d4, d5, d6, d7, d8, d9, value, digitS, Bond, single, double, triple, quadruple, aromatic, up, down, bondS, bondK, bond?S, bond?K, organics, Atom, atomS, atomK, Rnum, ring1, ring2, rnumS, rnumK, Link, elided, bond, dot, linkS, linkK, Line, ring, branch, spell, enter, join, atoms, tells}
+use Rattle.grammar.specs.Grammar.{Digit, d0, d1, d2, d3, d4, d5, d6, d7, d8, d9, value, digitS, BondSign, single, double, triple, quadruple, aromatic, up, down, bondS, bondK, bond?S, bond?K, organics, Atom, atomS, atomK, Rnum, ring1, ring2, rnumS, rnumK, Link, elided, bond, dot, linkS, linkK, Line, ring, branch, spell, enter, joinEvent, atoms, tells}
 use Rattle.grammar.proofs.Machine.{leads, on, digitOf, bondOf, Part, bare, whole, isotope, symbol, chiral1, chiral2, family, class, coded1, coded2, hcount, hcountN, signed, doubled, charge1, charge2, colon, map1, map2, map3, closed, begins, partStep, partEnd, Around, top, inside, Where, begin, after, around, put, State, want, inAtom, body, percent, percent1, fromPart, shut, bodyStep, wantStep, atomStep, step, topmost, atomEnd, ending}
 use Rattle.grammar.proofs.Machine as machine
 use Rattle.grammar.proofs.Sound.{whereS, aroundS, partS, Grew, part-ok, digit-is, bond-is, put-ok, begins-ok, Ended, ended, guardT}
@@ -43,29 +43,29 @@ unfoldable pub entry : Around → Link
 entry top = dot
 entry (inside k c l) = l
 
-unfoldable pub toldAround : Around → List Event
+unfoldable pub toldAround : Around → List ReadEvent
 toldAround top = []
 toldAround (inside k c l) = toldAround k ++ tells (aroundS k) (entry k) c
 
-unfoldable pub toldLine : Around → Line → List Event
+unfoldable pub toldLine : Around → Line → List ReadEvent
 toldLine k c = toldAround k ++ tells (aroundS k) (entry k) c
 
-unfoldable pub toldWhere : Where → List Event
+unfoldable pub toldWhere : Where → List ReadEvent
 toldWhere (begin k) = toldAround k
 toldWhere (after k c l) = toldLine k c
 
-unfoldable pub toldAtom : Where → Option Atom → List Event
+unfoldable pub toldAtom : Where → Option Atom → List ReadEvent
 toldAtom w none = toldWhere w
 toldAtom w (some a) = toldLine (around w) (put w a)
 
-unfoldable pub told : State → List Event
+unfoldable pub told : State → List ReadEvent
 told (want w) = toldWhere w
 told (inAtom w q) = toldAtom w (partEnd q)
 told (body k c) = toldLine k c
 told (percent k c x) = toldLine k c
 told (percent1 k c x d) = toldLine k c
 
-unfoldable pub halt : Option Line → List Event
+unfoldable pub halt : Option Line → List ReadEvent
 halt none = Miss EndOfLine ∷ []
 halt (some t) = []
 
@@ -82,7 +82,7 @@ deep (body k c) = false
 deep (percent k c x) = false
 deep (percent1 k c x d) = false
 
-unfoldable pub onward : Option State → List Event → List Event → (State → List Event) → List Event
+unfoldable pub onward : Option State → List ReadEvent → List ReadEvent → (State → List ReadEvent) → List ReadEvent
 onward none x y f = x
 onward (some t) x y f = pick (deep t) y (f t)
 
@@ -90,7 +90,7 @@ unfoldable pub refusal : State → ℕ → ℕ → List ℕ → Missing
 refusal s n b bs = lacked (both (late s) (ltb b 128)) n bs
 
 -- the machine's events: those of its last state, and what stopped it
-unfoldable pub full : State → ℕ → List ℕ → List Event
+unfoldable pub full : State → ℕ → List ℕ → List ReadEvent
 full s n [] = told s ++ halt (ending s)
 full s n (b ∷ bs) = onward (step s b) (told s ++ (Miss (refusal s n b bs) ∷ [])) (told s ++ (Nest n ∷ [])) (λ t. full t (n + 1) bs)
 
@@ -217,7 +217,7 @@ figure-percent : Figure (byte "%")
 unfolding bondOf begins leads organics
 figure-percent = record { bnd = refl; pnt = refl; beg = refl }
 
-bond-undot : (x : Bond) → eqb (bondS x) (byte ".") ≡ false
+bond-undot : (x : BondSign) → eqb (bondS x) (byte ".") ≡ false
 unfolding bondS
 bond-undot single = refl
 bond-undot double = refl
@@ -227,7 +227,7 @@ bond-undot aromatic = refl
 bond-undot up = refl
 bond-undot down = refl
 
-bond-wide : (x : Bond) → markWidth (bondK x) ≡ 1
+bond-wide : (x : BondSign) → markWidth (bondK x) ≡ 1
 unfolding markWidth bondK
 bond-wide single = refl
 bond-wide double = refl
@@ -243,7 +243,7 @@ led l n = record { lead = l; next = n }
 
 module _ {s : List ℕ} {n : ℕ} where
   led-end : Here s n [] → ledAt s n ≡ led (lead.Bond kind.Elided) n
-  unfolding ledAt bondAt scan.bondOf markWidth
+  unfolding ledAt bondAt scan.signKind markWidth
   led-end e = rw (here-end e, add-zero n)
 
   led-dot : {bs : List ℕ} → Here s n (byte "." ∷ bs) → ledAt s n ≡ led lead.Dot (n + 1)
@@ -254,7 +254,7 @@ module _ {s : List ℕ} {n : ℕ} where
   unfolding ledAt bondAt bond?K markWidth
   led-elided {b} e p g = rw (here-byte e, p, bond-worth b (here-small e), g, add-zero n)
 
-  led-bond : {b : ℕ} {bs : List ℕ} (x : Bond) → Here s n (b ∷ bs) → bondOf b ≡ some x → ledAt s n ≡ led (lead.Bond (bondK x)) (n + 1)
+  led-bond : {b : ℕ} {bs : List ℕ} (x : BondSign) → Here s n (b ∷ bs) → bondOf b ≡ some x → ledAt s n ≡ led (lead.Bond (bondK x)) (n + 1)
   unfolding ledAt bondAt bond?K
   led-bond {b} x e g = rw (here-byte e, ap (λ (y : ℕ). eqb y (byte ".")) (bond-is b x g) ∙ bond-undot x, bond-worth b (here-small e), g, bond-wide x)
 
@@ -285,7 +285,7 @@ unfolding toldLine toldWhere around put linkOf tells whereS
 put-told (begin k) a = refl
 put-told (after k c l) a = simp append-assoc
 
-ring-told : (k : Around) (c : Line) (x : Option Bond) (r : Rnum) → toldLine k (ring c x r) ≡ toldLine k c ++ (join x r (length (aroundS k ++ (spell c ++ bond?S x))) ∷ [])
+ring-told : (k : Around) (c : Line) (x : Option BondSign) (r : Rnum) → toldLine k (ring c x r) ≡ toldLine k c ++ (joinEvent x r (length (aroundS k ++ (spell c ++ bond?S x))) ∷ [])
 unfolding toldLine tells
 ring-told k c x r = simp append-assoc
 
@@ -312,7 +312,7 @@ module _ (s : List ℕ) where
   unfolding BodiesOk enter
   enter-ok w g m n h p a bs n′ l e q =
       rw p (sym (append-assoc (toldWhere w) (Enter (linkK (linkOf w)) (atomK a) (length (whereS w)) ∷ []) (g n′ (put-before w + 1)))
-      ∙ ap₂ (λ (x : List Event) (y : ℕ). x ++ g n′ y) (sym (put-told w a)) (sym (put-count w a)) ∙ h (put w a) bs n′ l e (q ∙ ap length (sym (put-ok w a))))
+      ∙ ap₂ (λ (x : List ReadEvent) (y : ℕ). x ++ g n′ y) (sym (put-told w a)) (sym (put-count w a)) ∙ h (put w a) bs n′ l e (q ∙ ap length (sym (put-ok w a))))
 
   -- an atom that must stand here
   enter-list : (w : Where) (g : Rest) (m n : ℕ) (bs : List ℕ) → ((b : ℕ) → wantStep w b ≡ fromPart w (begins b)) → BodiesOk (around w) g m → length bs < suc m → Here s n bs → n ≡ length (whereS w)
@@ -331,17 +331,17 @@ module _ (s : List ℕ) where
   further u v x r n j h g = let e : n ≡ length u + (length v + length x) = simp length-append at h in simp length-append (omega arith)
 
   -- ---- ring numbers
-  module _ (a : Around) (c : Line) (x : Option Bond) (g : Rest) (m : ℕ) (ok : BodiesOk a g m) (j : ℕ) (at : j ≡ length (aroundS a ++ (spell c ++ bond?S x))) where
-    abbrev ringed : Ring → List Event
+  module _ (a : Around) (c : Line) (x : Option BondSign) (g : Rest) (m : ℕ) (ok : BodiesOk a g m) (j : ℕ) (at : j ≡ length (aroundS a ++ (spell c ++ bond?S x))) where
+    abbrev ringed : Ring → List ReadEvent
     ringed r = toldLine a c ++ ringP s j (bond?K x) (atoms c) g r
 
     ring-ok : (r : Rnum) (bs : List ℕ) (n : ℕ) → length bs < m → Here s n bs → n ≡ length (aroundS a ++ spell (ring c x r)) → ringed (rnum.Number (rnumK r) n) ≡ full (body a (ring c x r)) n bs
-    unfolding ringP BodiesOk atoms join
+    unfolding ringP BodiesOk atoms joinEvent
     ring-ok r bs n l e p =
         rw at (sym (append-assoc (toldLine a c) (Join (bond?K x) (rnumK r) (length (aroundS a ++ (spell c ++ bond?S x))) ∷ []) (g n (atoms c)))
-        ∙ ap (λ (y : List Event). y ++ g n (atoms c)) (sym (ring-told a c x r)) ∙ ok (ring c x r) bs n l e p)
+        ∙ ap (λ (y : List ReadEvent). y ++ g n (atoms c)) (sym (ring-told a c x r)) ∙ ok (ring c x r) bs n l e p)
 
-    abbrev stepR : Option State → ℕ → List ℕ → List Event
+    abbrev stepR : Option State → ℕ → List ℕ → List ReadEvent
     stepR o n bs = onward o (toldLine a c ++ (Miss (Character n) ∷ [])) (toldLine a c ++ (Nest n ∷ [])) (λ t. full t (n + 1) bs)
 
     percent1-list : (d : Digit) (bs : List ℕ) (n : ℕ) → length bs < m → Here s n bs → n ≡ j + 2
@@ -391,25 +391,25 @@ module _ (s : List ℕ) where
         by none false z y = f z y
 
   -- what a step of the machine tells after a line
-  abbrev stepL : Around → Line → Option State → ℕ → List ℕ → List Event
+  abbrev stepL : Around → Line → Option State → ℕ → List ℕ → List ReadEvent
   stepL a c o n bs = onward o (toldLine a c ++ (Miss (Character n) ∷ [])) (toldLine a c ++ (Nest n ∷ [])) (λ t. full t (n + 1) bs)
 
   -- a union where an atom begins, or nothing
-  union-atom : (a : Around) (c : Line) (l : Link) (x : Option Bond) (g : Rest) (m n b : ℕ) (bs : List ℕ) → linkK l ≡ lead.Bond (bond?K x) → BodiesOk a g m → length bs < m → Here s n (b ∷ bs)
+  union-atom : (a : Around) (c : Line) (l : Link) (x : Option BondSign) (g : Rest) (m n b : ℕ) (bs : List ℕ) → linkK l ≡ lead.Bond (bond?K x) → BodiesOk a g m → length bs < m → Here s n (b ∷ bs)
       → n ≡ length (aroundS a ++ (spell c ++ linkS l)) → (q : Part) → partS q ≡ b ∷ []
       → toldLine a c ++ unionBy s n (bond?K x) (atoms c) g (partRun q (n + 1) bs) ≡ full (inAtom (after a c l) q) (n + 1) bs
   unfolding toldWhere whereS around linkOf put-before
   union-atom a c l x g m n b bs k ok h e p q r =
-      ap (λ (y : List Event). toldLine a c ++ y) (union-found s n (bond?K x) (atoms c) g bs q (n + 1) ∙ ap (λ (y : Lead). foundP s n y (atoms c) g (partRun q (n + 1) bs)) (sym k))
+      ap (λ (y : List ReadEvent). toldLine a c ++ y) (union-found s n (bond?K x) (atoms c) g bs q (n + 1) ∙ ap (λ (y : Lead). foundP s n y (atoms c) g (partRun q (n + 1) bs)) (sym k))
       ∙ run-full s (after a c l) (linkK l) n (atoms c) g m (enter-ok (after a c l) g m n ok p) bs q (n + 1) h (here-next e) (placed (aroundS a ++ (spell c ++ linkS l)) [] (partS q) b n (rw append-nil p) r)
 
-  union-none : (a : Around) (c : Line) (x : Option Bond) (g : Rest) (n b : ℕ) (bs : List ℕ) → Here s n (b ∷ bs) → digitOf b ≡ none → eqb b (byte "%") ≡ false
+  union-none : (a : Around) (c : Line) (x : Option BondSign) (g : Rest) (n b : ℕ) (bs : List ℕ) → Here s n (b ∷ bs) → digitOf b ≡ none → eqb b (byte "%") ≡ false
       → toldLine a c ++ unionBy s n (bond?K x) (atoms c) g found.Nothing ≡ toldLine a c ++ (Miss (Character n) ∷ [])
   unfolding unionBy ringP missP
   union-none a c x g n b bs e z y = rw (ring-none e z y, here-character e)
 
   -- after a bond: a ring number or an atom
-  union-list : (a : Around) (c : Line) (x : Bond) (g : Rest) (m n : ℕ) (bs : List ℕ) → BodiesOk a g m → length bs < suc m → Here s n bs → n ≡ length (aroundS a ++ (spell c ++ (bondS x ∷ [])))
+  union-list : (a : Around) (c : Line) (x : BondSign) (g : Rest) (m n : ℕ) (bs : List ℕ) → BodiesOk a g m → length bs < suc m → Here s n bs → n ≡ length (aroundS a ++ (spell c ++ (bondS x ∷ [])))
       → toldLine a c ++ unionP s n (bondK x) (atoms c) g ≡ full (want (after a c (bond x))) n bs
   unfolding unionP full told toldWhere ending halt step wantStep refusal late lacked bond?K bond?S linkK linkS Grew foundRun
   union-list a c x g m n [] ok l e p = rw (found-run s n [] e) (unfold unionBy ringP missP in rw (ring-end e, here-missing e))
@@ -435,7 +435,7 @@ module _ (s : List ℕ) where
       at-part (some q) r = run-full s (begin (inside a c elided)) (lead.Bond kind.Elided) n 0 g m (enter-ok (begin (inside a c elided)) g m n (ok elided) p) bs q (n + 1) (omega arith) (here-next e)
           (placed (aroundS a ++ (spell c ++ (byte "(" ∷ []))) [] (partS q) b n (rw append-nil p) r)
 
-      by : (i : Option Bond) (t : Bool) → bondOf b ≡ i → eqb b (byte ".") ≡ t
+      by : (i : Option BondSign) (t : Bool) → bondOf b ≡ i → eqb b (byte ".") ≡ t
           → toldLine a c ++ atomP s (ledAt s n .next) (ledAt s n .lead) 0 g
           ≡ stepL a c (on i (λ x. some (want (begin (inside a c (bond x))))) (pick t (some (want (begin (inside a c dot)))) (fromPart (begin (inside a c elided)) (begins b)))) n bs
       by (some x) t z y = rw (led-bond x e z, shallow)
@@ -461,8 +461,8 @@ module _ (s : List ℕ) where
   shut-line a c l g m ok = record {
     nil = λ d n e. rw (here-end e, here-missing e);
     later = λ d b bs n h e p. rw (here-byte e, here-character e)
-        (guard2 (λ (y : List Event) (o : Option State). toldLine (inside a c l) d ++ y ≡ stepL (inside a c l) d o n bs) b (byte ")") _ _ _ _
-        (λ z. sym (append-assoc (toldLine (inside a c l) d) (Pop (atoms d) ∷ []) (g (n + 1) (atoms c))) ∙ ap (λ (y : List Event). y ++ g (n + 1) (atoms c)) (sym (branch-told a c l d))
+        (guard2 (λ (y : List ReadEvent) (o : Option State). toldLine (inside a c l) d ++ y ≡ stepL (inside a c l) d o n bs) b (byte ")") _ _ _ _
+        (λ z. sym (append-assoc (toldLine (inside a c l) d) (Pop (atoms d) ∷ []) (g (n + 1) (atoms c))) ∙ ap (λ (y : List ReadEvent). y ++ g (n + 1) (atoms c)) (sym (branch-told a c l d))
         ∙ ok (branch c l d) bs (n + 1) h (here-next e) (shut-place d n p))
         (λ z. refl));
   }
@@ -481,10 +481,10 @@ module _ (s : List ℕ) where
       by d n bs true = refl
       by d n bs false = refl
 
-  module _ (a : Around) (c : Line) (k g : Rest) (more : ℕ → ℕ → ℕ → Rest → List Event) (room m : ℕ) (fits : room + height a ≡ branchLimit) (ih : BodiesOk a g m)
+  module _ (a : Around) (c : Line) (k g : Rest) (more : ℕ → ℕ → ℕ → Rest → List ReadEvent) (room m : ℕ) (fits : room + height a ≡ branchLimit) (ih : BodiesOk a g m)
       (inner : (d : Link) → room - 1 + height (inside a c d) ≡ branchLimit → BodiesOk (inside a c d) (λ at n. more (room - 1) at n (closeP s (λ at. g at (atoms c)))) m)
       (b : ℕ) (bs : List ℕ) (n : ℕ) (l : length bs < m) (e : Here s n (b ∷ bs)) (p : n ≡ length (aroundS a ++ spell c)) where
-    abbrev stepB : Option State → List Event
+    abbrev stepB : Option State → List ReadEvent
     stepB o = stepL a c o n bs
 
     placeB : n ≡ length (aroundS a ++ (spell c ++ []))
@@ -497,15 +497,15 @@ module _ (s : List ℕ) where
     unit-digit : (d : Digit) → digitOf b ≡ some d → toldLine a c ++ unitP s n (atoms c) g ≡ stepB (some (body a (ring c none (ring1 d))))
     unfolding onward deep bond?K bond?S
     unit-digit d z = let h = figure-of b d z in
-        ap (λ (y : List Event). toldLine a c ++ y) (unit-elided (h .pnt) (h .bnd)) ∙ union-ring a c none g m ih n placeB b bs e (h .beg) ∙ digit-list a c none g m ih n placeB b bs d l e z
+        ap (λ (y : List ReadEvent). toldLine a c ++ y) (unit-elided (h .pnt) (h .bnd)) ∙ union-ring a c none g m ih n placeB b bs e (h .beg) ∙ digit-list a c none g m ih n placeB b bs d l e z
 
     unit-percent : b ≡ byte "%" → toldLine a c ++ unitP s n (atoms c) g ≡ stepB (some (percent a c none))
     unfolding onward deep bond?K bond?S
     unit-percent z = let f : Figure b = subst Figure (sym z) figure-percent in let h : Here s n (byte "%" ∷ bs) = subst (λ (v : ℕ). Here s n (v ∷ bs)) z e in
-        ap (λ (y : List Event). toldLine a c ++ y) (unit-elided (f .pnt) (f .bnd)) ∙ union-ring a c none g m ih n placeB b bs e (f .beg)
+        ap (λ (y : List ReadEvent). toldLine a c ++ y) (unit-elided (f .pnt) (f .bnd)) ∙ union-ring a c none g m ih n placeB b bs e (f .beg)
         ∙ ap (λ (r : Ring). toldLine a c ++ ringP s n kind.Elided (atoms c) g r) (ring-percent h) ∙ percent-list a c none g m ih n placeB bs (n + 1) l (here-next e) refl
 
-    unit-bond : (x : Bond) → bondOf b ≡ some x → toldLine a c ++ unitP s n (atoms c) g ≡ stepB (some (want (after a c (bond x))))
+    unit-bond : (x : BondSign) → bondOf b ≡ some x → toldLine a c ++ unitP s n (atoms c) g ≡ stepB (some (want (after a c (bond x))))
     unfolding onward deep unitP unitBy
     unit-bond x z = rw (led-bond x e z) (union-list a c x g m (n + 1) bs ih (omega arith) (here-next e) (further (aroundS a) (spell c) [] (bondS x ∷ []) n (n + 1) placeB (omega arith)))
 
@@ -531,7 +531,7 @@ module _ (s : List ℕ) where
     unit-atom : eqb b (byte ".") ≡ false → bondOf b ≡ none → (q : Part) → begins b ≡ some q → toldLine a c ++ unitP s n (atoms c) g ≡ stepB (some (inAtom (after a c elided) q))
     unfolding onward deep unionP foundRun bond?K linkK linkS Grew
     unit-atom y z q r =
-        ap (λ (y : List Event). toldLine a c ++ y) (unit-elided y z ∙ rw (found-run s n (b ∷ bs) e, r))
+        ap (λ (y : List ReadEvent). toldLine a c ++ y) (unit-elided y z ∙ rw (found-run s n (b ∷ bs) e, r))
         ∙ union-atom a c elided none g m n b bs refl ih l e placeB q (subst (Grew [] b) r (begins-ok b))
 
     body-byte : toldLine a c ++ k n (atoms c) ≡ stepB (pick (eqb b (byte ")")) (shut a c) none)

@@ -8,7 +8,7 @@ use lib.Dec.{eqb, T}
 use Rattle.feature.specs.Pick.{pick}
 use Rattle.feature.specs.Text.{byte}
 use Rattle.grammar.specs.Names.{Name, one, two, has1, has2}
-use Rattle.grammar.specs.Grammar.{Digit, d0, d1, d2, d3, d4, d5, d6, d7, d8, d9, Bond, single, double, triple, quadruple, aromatic, up, down, Organic, organics, bare1, bare2, names, Symbol, short, long, Isotope, iso0, iso1, iso2, iso3, Chiral, flat, at, atat, code1, code2, Class, TH, AL, SP, TB, OH, valid1, valid2, class1, bald, H, Hn, Head, head, Sign, plus, minus, signS, okay1, okay2, Charge, neutral, sign, twice, num1, num2, Map, nomap, m1, m2, m3, Atom, organic, bracket, ring1, ring2, Link, elided, bond, dot, Line, start, link, ring, branch}
+use Rattle.grammar.specs.Grammar.{Digit, d0, d1, d2, d3, d4, d5, d6, d7, d8, d9, BondSign, single, double, triple, quadruple, aromatic, up, down, Organic, organics, bare1, bare2, symbolNames, Symbol, short, long, Isotope, iso0, iso1, iso2, iso3, Chiral, flat, at, atat, code1, code2, Class, TH, AL, SP, TB, OH, valid1, valid2, class1, bald, H, Hn, Head, head, Sign, plus, minus, signS, okay1, okay2, Charge, neutral, sign, twice, num1, num2, Map, nomap, m1, m2, m3, Atom, organic, bracket, ring1, ring2, Link, elided, bond, dot, Line, start, link, ring, branch}
 
 -- a test that hands on its evidence
 abbrev pub test : {X : Type 0} (t : Bool) → (T t → X) → X → X
@@ -30,7 +30,7 @@ digitOf b =
     pick (eqb b 48) (some d0) (pick (eqb b 49) (some d1) (pick (eqb b 50) (some d2) (pick (eqb b 51) (some d3) (pick (eqb b 52) (some d4)
     (pick (eqb b 53) (some d5) (pick (eqb b 54) (some d6) (pick (eqb b 55) (some d7) (pick (eqb b 56) (some d8) (pick (eqb b 57) (some d9) none)))))))))
 
-unfoldable pub bondOf : ℕ → Option Bond
+unfoldable pub bondOf : ℕ → Option BondSign
 bondOf b = pick (eqb b 45) (some single) (pick (eqb b (byte "=")) (some double) (pick (eqb b (byte "#")) (some triple) (pick (eqb b 36) (some quadruple) (pick (eqb b 58) (some aromatic) (pick (eqb b 47) (some up) (pick (eqb b 92) (some down) none))))))
 
 unfoldable pub signOf : ℕ → Option Sign
@@ -52,7 +52,7 @@ pub data Part : Type 0 where
   bare : (a : ℕ) → T (leads a organics) → Part  -- the first letter of an atom without brackets
   whole : Organic → Part  -- both letters
   isotope : Isotope → Part  -- (byte "[") isotope
-  lead : Isotope → (a : ℕ) → T (leads a names) → Part  -- (byte "[") isotope and a symbol's first letter
+  lead : Isotope → (a : ℕ) → T (leads a symbolNames) → Part  -- (byte "[") isotope and a symbol's first letter
   symbol : Isotope → Symbol → Part
   chiral1 : Isotope → Symbol → Part  -- .. '@'
   chiral2 : Isotope → Symbol → Part  -- .. '@@'
@@ -97,13 +97,13 @@ unfoldable pub toChiral : Isotope → Symbol → ℕ → Option Part
 toChiral i s b = pick (eqb b (byte "@")) (some (chiral1 i s)) (toHcount i s flat b)
 
 unfoldable pub toSymbol : Isotope → ℕ → Option Part
-toSymbol i b = test (leads b names) (λ p. some (lead i b p)) none
+toSymbol i b = test (leads b symbolNames) (λ p. some (lead i b p)) none
 
 unfoldable pub partStep : Part → ℕ → Option Part
 partStep (bare a p) b = test (has2 a b organics) (λ q. some (whole (bare2 a b q))) none
 partStep (whole s) b = none
 partStep (isotope i) b = on (digitOf b) (grow i) (toSymbol i b)
-partStep (lead i a p) b = test (has2 a b names) (λ q. some (symbol i (long a b q))) (test (has1 a names) (λ q. toChiral i (short a q) b) none)
+partStep (lead i a p) b = test (has2 a b symbolNames) (λ q. some (symbol i (long a b q))) (test (has1 a symbolNames) (λ q. toChiral i (short a q) b) none)
 partStep (symbol i s) b = toChiral i s b
 partStep (chiral1 i s) b = pick (eqb b (byte "@")) (some (chiral2 i s)) (on (famOf b) (λ k. some (family i s k)) (toHcount i s at b))
 partStep (family i s k) b = on (classOf (class1 k) b) (λ c. some (class i s c)) none
@@ -169,8 +169,8 @@ pub data State : Type 0 where
   want : Where → State  -- an atom must stand here
   inAtom : Where → Part → State
   body : Around → Line → State  -- after an atom, a ring number or a branch
-  percent : Around → Line → Option Bond → State
-  percent1 : Around → Line → Option Bond → Digit → State
+  percent : Around → Line → Option BondSign → State
+  percent1 : Around → Line → Option BondSign → Digit → State
 
 unfoldable pub fromPart : Where → Option Part → Option State
 fromPart w none = none

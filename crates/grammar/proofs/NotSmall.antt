@@ -14,7 +14,7 @@ use Rattle.grammar.proofs.Machine.{Part, isotope, signed, charge1, char
 use Rattle.grammar.proofs.Table.{test-yes, test-not, at-second}
 use Rattle.grammar.proofs.Complete.{chain, steps, steps-then, parts, parts-then, now, read-line, digit-of, afterSymbol, afterChiral, read-isotope, read-symbol, past-symbol, read-class, read-chiral, afterHead, afterCharge, read-head, read-sign, read-charge, read-colon, atom-steps, read-open, open-link, open-first}
 use Rattle.grammar.proofs.Reading.{zero-state, read-stuck}
-use Rattle.grammar.specs.OpenSmiles.{Chiral′, flat′, at′, atat′, code1′, code2′, pair′, chiralS′, SmallChiral, Atom′, organic′, bracket′, Charge′, neutral′, sign′, twice′, digit′, digits′, Chain, first, then, Branched, branched, Branches, no-branches, and-branch, Rings, numberS, chargeS′, classS′, atomS′, ringsS, chainS, branchedS, branchesS, Small, SmallBranched, SmallBranches, SmallAtom, SmallCharge, Strict}
+use Rattle.grammar.specs.OpenSmiles.{Chiral′, flat′, at′, atat′, code1′, code2′, pair′, chiralS′, SmallChiral, Atom′, organic′, bracket′, Charge′, neutral′, sign′, twice′, digit′, digits′, Chain, first, then, Branched, branched, Branches, no-branches, and-branch, Rings, digitsS, chargeS′, classS′, atomS′, ringsS, chainS, branchedS, branchesS, Small, SmallBranched, SmallBranches, SmallAtom, SmallCharge, Strict}
 use Rattle.grammar.proofs.Chains.{same1, same2, isotopeOf, chiralOf, chargeOf, atomOf, ringsOf, lineOf, branchesOf, small-read, number-ok, chiral-ok, charge-ok, atom-ok, rings-ok, chain-ok, branches-ok}
 
 record PStuck (q : Part) (bs : List ℕ) : Type 0 where
@@ -33,13 +33,13 @@ p-more cs z = record { before = z .before; byte = z .byte; behind = z .behind ++
 p-after : {q p : Part} {bs : List ℕ} (xs : List ℕ) → parts q xs ≡ some p → PStuck p bs → PStuck q (xs ++ bs)
 p-after {q} {p} xs e z = record { before = xs ++ z .before; byte = z .byte; behind = z .behind; last = z .last; is = ap (λ (l : List ℕ). xs ++ l) (z .is) ∙ sym (append-assoc xs (z .before) (z .byte ∷ z .behind)); gone = parts-then xs (z .before) q p e ∙ z .gone; halts = z .halts; open′ = z .open′ }
 
-number-run : (i : List Digit) → (length i ≤ 3) ⊎ PStuck (isotope iso0) (numberS i)
-unfolding numberS parts chain partStep grow partEnd
+number-run : (i : List Digit) → (length i ≤ 3) ⊎ PStuck (isotope iso0) (digitsS i)
+unfolding digitsS parts chain partStep grow partEnd
 number-run [] = inl (omega arith)
 number-run (a ∷ []) = inl (omega arith)
 number-run (a ∷ b ∷ []) = inl (omega arith)
 number-run (a ∷ b ∷ c ∷ []) = inl (omega arith)
-number-run (a ∷ b ∷ c ∷ d ∷ r) = inr (record { before = digitS a ∷ digitS b ∷ digitS c ∷ []; byte = digitS d; behind = numberS r; last = isotope (iso3 a b c); is = refl; gone = simp digit-of; halts = rw (digit-of d); open′ = refl })
+number-run (a ∷ b ∷ c ∷ d ∷ r) = inr (record { before = digitS a ∷ digitS b ∷ digitS c ∷ []; byte = digitS d; behind = digitsS r; last = isotope (iso3 a b c); is = refl; gone = simp digit-of; halts = rw (digit-of d); open′ = refl })
 
 chiral-run : (i : Isotope) (s : Symbol) (c : Chiral′) → SmallChiral c ⊎ PStuck (afterSymbol i s) (chiralS′ c)
 unfolding SmallChiral chiralS′
@@ -113,7 +113,7 @@ digit-unclose d8 = refl
 digit-unclose d9 = refl
 
 class-run : (x : Head) (q : Charge) (m : List Digit) → (length m ≤ 3) ⊎ PStuck (afterCharge x q) (classS′ m)
-unfolding classS′ numberS parts chain partEnd
+unfolding classS′ digitsS parts chain partEnd
 class-run x q [] = inl (omega arith)
 class-run x q (a ∷ []) = inl (omega arith)
 class-run x q (a ∷ b ∷ []) = inl (omega arith)
@@ -121,7 +121,7 @@ class-run x q (a ∷ b ∷ c ∷ []) = inl (omega arith)
 class-run x q (a ∷ b ∷ c ∷ d ∷ r) = inr (record {
   before = (byte ":") ∷ digitS a ∷ digitS b ∷ digitS c ∷ [];
   byte = digitS d;
-  behind = numberS r;
+  behind = digitsS r;
   last = map3 x q a b c;
   is = refl;
   gone = rw (read-colon x q) (unfold partStep in simp digit-of);
@@ -143,15 +143,15 @@ atom-run (bracket′ i s c h k q m) = by (number-run i)
     tail = hcountS h ++ (chargeS′ q ++ (classS′ m ++ ((byte "]") ∷ [])))
 
     text : List ℕ
-    text = numberS i ++ (symbolS s ++ (chiralS′ c ++ tail))
+    text = digitsS i ++ (symbolS s ++ (chiralS′ c ++ tail))
 
     x : Head
     x = head (isotopeOf i) s (chiralOf c) h
 
-    symbols : length i ≤ 3 → parts (isotope iso0) (numberS i ++ symbolS s) ≡ some (afterSymbol (isotopeOf i) s)
-    symbols l = parts-then (numberS i) (symbolS s) _ _ (rw (number-ok i l) at (read-isotope (isotopeOf i))) ∙ read-symbol (isotopeOf i) s
+    symbols : length i ≤ 3 → parts (isotope iso0) (digitsS i ++ symbolS s) ≡ some (afterSymbol (isotopeOf i) s)
+    symbols l = parts-then (digitsS i) (symbolS s) _ _ (rw (number-ok i l) at (read-isotope (isotopeOf i))) ∙ read-symbol (isotopeOf i) s
 
-    heads : length i ≤ 3 → SmallChiral c → parts (isotope iso0) (numberS i ++ (symbolS s ++ (chiralS′ c ++ hcountS h))) ≡ some (afterHead x)
+    heads : length i ≤ 3 → SmallChiral c → parts (isotope iso0) (digitsS i ++ (symbolS s ++ (chiralS′ c ++ hcountS h))) ≡ some (afterHead x)
     heads l v = unfold headS in rw (number-ok i l, chiral-ok c v) at (read-head x)
 
     fourth : length i ≤ 3 → SmallChiral c → SmallCharge q → (length m ≤ 3) ⊎ PStuck (afterCharge x (chargeOf q)) (classS′ m) → ((length i ≤ 3) × SmallCharge q × (length m ≤ 3) × SmallChiral c) ⊎ AtomStuck (bracket′ i s c h k q m)
@@ -170,7 +170,7 @@ atom-run (bracket′ i s c h k q m) = by (number-run i)
     second l (inl v) = third l v (charge-run x q)
     second l (inr z) = inr (record { rest = text; is = refl; stuck = simp append-assoc at (p-after _ (symbols l) (p-more tail z)) })
 
-    by : (length i ≤ 3) ⊎ PStuck (isotope iso0) (numberS i) → ((length i ≤ 3) × SmallCharge q × (length m ≤ 3) × SmallChiral c) ⊎ AtomStuck (bracket′ i s c h k q m)
+    by : (length i ≤ 3) ⊎ PStuck (isotope iso0) (digitsS i) → ((length i ≤ 3) × SmallCharge q × (length m ≤ 3) × SmallChiral c) ⊎ AtomStuck (bracket′ i s c h k q m)
     by (inl l) = second l (chiral-run (isotopeOf i) s c)
     by (inr z) = inr (record { rest = text; is = refl; stuck = p-more (symbolS s ++ (chiralS′ c ++ tail)) z })
 

@@ -6,10 +6,10 @@ use mathlib.Core.List.{List, [], _∷_, _++_, append-assoc, append-nil}
 use native.Mathlib.Omega.{arith}
 use lib.ListN.{length}
 use Rattle.builder.specs.Limits.{branchLimit}
-use Rattle.read_line.specs.Events.{Event, Enter}
+use Rattle.read_line.specs.Events.{ReadEvent, Enter}
 use Rattle.read_line.specs.Parse.{parse}
 use Rattle.grammar.specs.Grammar.{Digit, flat, code1, code2, valid1, valid2, chiralK, okay1, okay2, neutral, num1, num2, isotopeK, mapK, chargeK, bracketK, Atom, atomS, atomK, Link, linkS, linkK, dot, Line, start, link, spell, enter, atoms, tells, meaning}
-use Rattle.grammar.specs.Lines.{Fits, Clean, Refused}
+use Rattle.grammar.specs.Lines.{Fits, Clean, WrongAt}
 use Rattle.grammar.specs.OpenSmiles.{Chiral′, flat′, at′, atat′, code1′, code2′, pair′, chiralK′, SmallChiral, Charge′, neutral′, sign′, twice′, digit′, digits′, Atom′, organic′, bracket′, Rings, no-rings, and-ring, Chain, first, then, Branched, branched, Branches, no-branches, and-branch, chainS, numberK, chargeK′, atomK′, along, ringsE, chainE, branchedE, branchesE, says, SmallCharge, SmallAtom, Small, SmallBranched, SmallBranches, FitsChain, FitsBranched, FitsBranches, Strict}
 use Rattle.grammar.proofs.Table.{test-yes}
 use Rattle.grammar.proofs.Machine.{done, read}
@@ -102,7 +102,7 @@ mutual
       branched-says b w l (λ a. link (lineOf c) k a) (chainS c ++ linkS k) k (chainE w l c) (λ a. link-spelled (lineOf c) (chainS c) k a (chain-ok c (h .0)))
       (λ a. rw (chain-says c w l (h .0), chain-ok c (h .0))) (h .1)
 
-  branched-says : (b : Branched) (w : List ℕ) (l : Link) (f : Atom → Line) (v : List ℕ) (k : Link) (es : List Event) → ((a : Atom) → spell (f a) ≡ v ++ atomS a)
+  branched-says : (b : Branched) (w : List ℕ) (l : Link) (f : Atom → Line) (v : List ℕ) (k : Link) (es : List ReadEvent) → ((a : Atom) → spell (f a) ≡ v ++ atomS a)
       → ((a : Atom) → tells w l (f a) ≡ es ++ (enter k a (length (w ++ v)) ∷ [])) → SmallBranched b → tells w l (branchedOf b f) ≡ es ++ branchedE (w ++ v) k b
   branched-says (branched a rs bs) w l f v k es p q h =
       branches-says bs (ringsOf (f (atomOf a)) rs) w l (h .1)
@@ -154,7 +154,7 @@ open-small u c = by (sound (chainS u) (chain-bytes u) c)
         (g .0, v .3 ∙ ap meaning (sym i) ∙ meaning-says u (g .0))
 
 -- one that is not is wrong at some place
-pub big-refused : (u : Chain) → ¬ Small u → (n : ℕ) × Refused (chainS u) n
+pub big-refused : (u : Chain) → ¬ Small u → (n : ℕ) × WrongAt (chainS u) n
 big-refused u h = let r = wide-refused u h in (r .0, character-refused (chainS u) (r .0) (r .1))
 
 -- a tree is an OpenSMILES chain exactly if it is strict

@@ -10,8 +10,8 @@ use lib.ListN.{length}
 use native.Mathlib.Omega.{arith}
 use Rattle.feature.specs.Text.{byte}
 use Rattle.grammar.specs.Names.{has1}
-use Rattle.grammar.specs.Grammar.{known, d0, d1, Bond, organics, bare1, bare2, names, Symbol, short, long, organicS, Isotope, Chiral, flat, at, atat, code1, code2, Class, TH, AL, SP, TB, OH, valid1, value, most, class2, Hcount, bald, H, Hn, Head, head, headS, Charge, neutral, sign, twice, num1, num2, chargeS, Map, nomap, m1, m2, m3, mapS, Atom, organic, bracket, Rnum, ring2, Line, ring, branch, digitS, symbolS, chiralS, hcountS, atomS, rnumS, bond?S, spell}
-use Rattle.grammar.specs.Lines.{Spelled, Viable, Refused}
+use Rattle.grammar.specs.Grammar.{known, d0, d1, BondSign, organics, bare1, bare2, symbolNames, Symbol, short, long, organicS, Isotope, Chiral, flat, at, atat, code1, code2, Class, TH, AL, SP, TB, OH, valid1, value, most, class2, Hcount, bald, H, Hn, Head, head, headS, Charge, neutral, sign, twice, num1, num2, chargeS, Map, nomap, m1, m2, m3, mapS, Atom, organic, bracket, Rnum, ring2, Line, ring, branch, digitS, symbolS, chiralS, hcountS, atomS, rnumS, bond?S, spell}
+use Rattle.grammar.specs.Lines.{Spelled, Viable, WrongAt}
 use Rattle.grammar.proofs.Table.{Led, led1, led2, led}
 use Rattle.grammar.proofs.Machine.{Part, bare, whole, isotope, lead, symbol, chiral1, chiral2, family, class, coded1, coded2, hcount, hcountN, signed, doubled, charge1, charge2, colon, map1, map2, map3, closed, Around, top, inside, Where, begin, around, put, State, want, inAtom, body, percent, percent1, step, ending, done, endOfLine, character, finished, next, go, read}
 use Rattle.grammar.proofs.Sound.{sofar, whereS, aroundS, partS, opened, tailed, Moved, step-ok, Told, ending-ok, put-ok}
@@ -92,7 +92,7 @@ valid-one TB = tt
 valid-one OH = tt
 
 pub made : (q : Part) → Made q
-unfolding atomS partS symbolS organicS chiralS hcountS has1 names known opened headS chargeS mapS tailed
+unfolding atomS partS symbolS organicS chiralS hcountS has1 symbolNames known opened headS chargeS mapS tailed
 made (bare a p) = by (led a organics p)
   where
     by : Led a organics → Made (bare a p)
@@ -100,9 +100,9 @@ made (bare a p) = by (led a organics p)
     by (led2 b q) = record { atom = organic (bare2 a b q); more = b ∷ []; is = refl }
 made (whole s) = record { atom = organic s; more = []; is = simp append-nil }
 made (isotope i) = record { atom = bracket (head i (short (byte "O") tt) flat bald) neutral nomap; more = (byte "O") ∷ (byte "]") ∷ []; is = simp append-assoc }
-made (lead i a p) = by (led a names p)
+made (lead i a p) = by (led a symbolNames p)
   where
-    by : Led a names → Made (lead i a p)
+    by : Led a symbolNames → Made (lead i a p)
     by (led1 q) = record { atom = bracket (head i (short a q) flat bald) neutral nomap; more = (byte "]") ∷ []; is = simp append-assoc }
     by (led2 b q) = record { atom = bracket (head i (long a b q) flat bald) neutral nomap; more = b ∷ (byte "]") ∷ []; is = simp append-assoc }
 made (symbol i s) = record { atom = bracket (head i s flat bald) neutral nomap; more = _; is = bracketed i s flat bald }
@@ -136,7 +136,7 @@ viable-cut p q v = (v .0, q ++ v .1, simp append-assoc at (v .2))
 viable-atom : (w : Where) (a : Atom) → Viable (whereS w ++ atomS a)
 viable-atom w a = rw put-ok at (viable-body (around w) (put w a))
 
-viable-ring : (k : Around) (c : Line) (x : Option Bond) (r : Rnum) → Viable (aroundS k ++ (spell c ++ (bond?S x ++ rnumS r)))
+viable-ring : (k : Around) (c : Line) (x : Option BondSign) (r : Rnum) → Viable (aroundS k ++ (spell c ++ (bond?S x ++ rnumS r)))
 unfolding spell
 viable-ring k c x r = viable-body k (ring c x r)
 
@@ -201,7 +201,7 @@ stuck-dead p x t e f v =
     let h : read (spell u) ≡ done u = complete u in
     let z : _≡_ {A = ℕ} 0 1 = cc in absurd (omega arith)
 
-unfoldable pub stuck-refused : (p : List ℕ) (x : ℕ) (r : List ℕ) (t : State) → steps zero-state p ≡ some t → step t x ≡ none → Refused (p ++ (x ∷ r)) (length p)
+unfoldable pub stuck-refused : (p : List ℕ) (x : ℕ) (r : List ℕ) (t : State) → steps zero-state p ≡ some t → step t x ≡ none → WrongAt (p ++ (x ∷ r)) (length p)
 stuck-refused p x r t e f =
     record { before = p; byte = x; behind = r; is = refl; place = refl; alive = rw (reached p t e) at (viable t); dead = stuck-dead p x t e f }
 
@@ -210,7 +210,7 @@ pub through-viable : (p : List ℕ) (t : State) → steps zero-state p ≡ some 
 through-viable p t e = rw (reached p t e) at (viable t)
 
 -- CHARACTER: the bytes before the place begin a line, and with the byte there they do not
-pub character-refused : (s : List ℕ) (n : ℕ) → read s ≡ character n → Refused s n
+pub character-refused : (s : List ℕ) (n : ℕ) → read s ≡ character n → WrongAt s n
 unfolding finished
 character-refused s n e = by (trace s zero-state)
   where
@@ -218,7 +218,7 @@ character-refused s n e = by (trace s zero-state)
     ended-by none g = let z : _≡_ {A = ℕ} 0 1 = cc in absurd (omega arith)
     ended-by (some u) g = let z : _≡_ {A = ℕ} 0 1 = cc in absurd (omega arith)
 
-    by : Trace zero-state s → Refused s n
+    by : Trace zero-state s → WrongAt s n
     by (through t g) = absurd (ended-by (ending t) (sym (read-through s t g) ∙ e))
     by (stuck p x r t h g f) =
         let a : read s ≡ character (length p) = rw h (read-stuck p x r t g f) in
@@ -232,7 +232,7 @@ viable-through s v = by (trace s zero-state)
     by (through t g) = (t, g)
     by (stuck p x r t h g f) = absurd (stuck-dead p x t g f (viable-cut (p ++ (x ∷ [])) r (simp append-assoc (rw h at v))))
 
-pub refused-character : (s : List ℕ) (n : ℕ) → Refused s n → read s ≡ character n
+pub refused-character : (s : List ℕ) (n : ℕ) → WrongAt s n → read s ≡ character n
 unfolding steps chain
 refused-character s n c = by (step t (c .byte)) refl
   where

@@ -10,7 +10,7 @@ use borrow.Author.Tests.{eqb-true}
 use Rattle.feature.specs.Pick.{pick}
 use Rattle.feature.specs.Text.{byte}
 use Rattle.grammar.specs.Names.{has1, has2}
-use Rattle.grammar.specs.Grammar.{Digit, Bond, organics, names, Symbol, short, organicS, Isotope, iso0, iso1, iso2, iso3, Chiral, flat, at, atat, code1, code2, Class, valid1, valid2, class1, class2, Hcount, bald, H, Hn, Head, head, headS, Sign, signS, okay1, okay2, Charge, neutral, sign, twice, num1, num2, chargeS, Map, nomap, m1, m2, m3, mapS, Atom, bracket, elided, bond, dot, Line, digitS, bondS, symbolS, isotopeS, chiralS, hcountS, atomS, rnumS, bond?S, linkS, spell}
+use Rattle.grammar.specs.Grammar.{Digit, BondSign, organics, symbolNames, Symbol, short, organicS, Isotope, iso0, iso1, iso2, iso3, Chiral, flat, at, atat, code1, code2, Class, valid1, valid2, class1, class2, Hcount, bald, H, Hn, Head, head, headS, Sign, signS, okay1, okay2, Charge, neutral, sign, twice, num1, num2, chargeS, Map, nomap, m1, m2, m3, mapS, Atom, bracket, elided, bond, dot, Line, digitS, bondS, symbolS, isotopeS, chiralS, hcountS, atomS, rnumS, bond?S, linkS, spell}
 use Rattle.grammar.proofs.Machine.{test, leads, on, digitOf, bondOf, Part, bare, whole, isotope, lead, symbol, chiral1, chiral2, family, class, coded1, coded2, famOf, classOf, hcount, hcountN, signed, doubled, charge1, charge2, colon, map1, map2, map3, signOf, toMap, toCharge, closed, begins, grow, toClose, toHcount, toChiral, toSymbol, partStep, partEnd, Around, top, inside, Where, begin, after, around, put, State, want, inAtom, body, percent, percent1, fromPart, shut, bodyStep, wantStep, atomStep, step, topmost, atomEnd, ending}
 
 -- a guard, by the two outcomes of its test
@@ -45,7 +45,7 @@ pub digit-is : (b : ℕ) (d : Digit) → digitOf b ≡ some d → b ≡ digitS d
 unfolding Digital
 digit-is b d e = subst (Digital b) e (digital b)
 
-Bonded : ℕ → Option Bond → Type 0
+Bonded : ℕ → Option BondSign → Type 0
 Bonded b none = Unit {0}
 Bonded b (some d) = b ≡ bondS d
 
@@ -53,7 +53,7 @@ bonded : (b : ℕ) → Bonded b (bondOf b)
 unfolding Bonded bondOf bondS
 bonded b = let P = Bonded b in guard P b 45 _ _ (λ e. e) (guard P b (byte "=") _ _ (λ e. e) (guard P b (byte "#") _ _ (λ e. e) (guard P b 36 _ _ (λ e. e) (guard P b 58 _ _ (λ e. e) (guard P b 47 _ _ (λ e. e) (guard P b 92 _ _ (λ e. e) tt))))))
 
-pub bond-is : (b : ℕ) (d : Bond) → bondOf b ≡ some d → b ≡ bondS d
+pub bond-is : (b : ℕ) (d : BondSign) → bondOf b ≡ some d → b ≡ bondS d
 unfolding Bonded
 bond-is b d e = subst (Bonded b) e (bonded b)
 
@@ -165,7 +165,7 @@ chiral-ok i s b = guard (Grew (opened i s flat bald) b) b (byte "@") _ _ (λ e. 
 
 symbol-ok : (i : Isotope) (b : ℕ) → Grew (partS (isotope i)) b (toSymbol i b)
 unfolding Grew toSymbol partS
-symbol-ok i b = guardT (Grew (partS (isotope i)) b) (leads b names) _ _ (λ q. refl) tt
+symbol-ok i b = guardT (Grew (partS (isotope i)) b) (leads b symbolNames) _ _ (λ q. refl) tt
 
 grow-ok : (i : Isotope) (d : Digit) → Grew (partS (isotope i)) (digitS d) (grow i d)
 unfolding Grew grow partS isotopeS
@@ -182,7 +182,7 @@ unfolding Grew partStep partS opened hcountS chiralS symbolS organicS tailed cha
 part-ok (bare a p) b = guardT (Grew (partS (bare a p)) b) (has2 a b organics) _ _ (λ q. refl) tt
 part-ok (whole s) b = tt
 part-ok (isotope i) b = guardOn (Grew (partS (isotope i)) b) (digitOf b) _ _ (λ d e. rw (digit-is b d e) (grow-ok i d)) (symbol-ok i b)
-part-ok (lead i a p) b = guardT (Grew (partS (lead i a p)) b) (has2 a b names) _ _ (λ q. simp append-assoc) (guardT (Grew (partS (lead i a p)) b) (has1 a names) _ _ (λ q. chiral-ok i (short a q) b) tt)
+part-ok (lead i a p) b = guardT (Grew (partS (lead i a p)) b) (has2 a b symbolNames) _ _ (λ q. simp append-assoc) (guardT (Grew (partS (lead i a p)) b) (has1 a symbolNames) _ _ (λ q. chiral-ok i (short a q) b) tt)
 part-ok (symbol i s) b = chiral-ok i s b
 part-ok (chiral1 i s) b = guard (Grew (partS (chiral1 i s)) b) b (byte "@") _ _ (λ e. simp (e, append-assoc, append-nil))
     (guardOn (Grew (partS (chiral1 i s)) b) (famOf b) _ _ (λ k e. rw (fam-is b k e)) (hcount-ok i s at b))

@@ -10,9 +10,9 @@ use borrow.Author.Tests.{eqb-true}
 use Rattle.feature.specs.Pick.{pick, both}
 use Rattle.feature.proofs.Table.{both-left, both-right}
 use Rattle.grammar.specs.Names.{Name, one, two, has1, has2}
-use Rattle.grammar.specs.Grammar.{Digit, d0, d1, d2, d3, d4, d5, d6, d7, d8, d9, digitS, Bond, single, double, triple, quadruple, aromatic, up, down, bondS, Organic, bare1, bare2, organics, organicS, Symbol, short, long, names, known, symbolS, Isotope, iso0, iso1, iso2, iso3, isotopeS, Chiral, flat, at, atat, code1, code2, Class, TH, AL, SP, TB, OH, class1, class2, chiralS, Hcount, bald, H, Hn, hcountS, Head, head, headS, Sign, plus, minus, signS, Charge, neutral, sign, twice, num1, num2, chargeS, Map, nomap, m1, m2, m3, mapS, Atom, organic, bracket, atomS, Rnum, ring1, ring2, rnumS, bond?S, Link, elided, bond, dot, linkS, Line, start, link, ring, branch, spell}
+use Rattle.grammar.specs.Grammar.{Digit, d0, d1, d2, d3, d4, d5, d6, d7, d8, d9, digitS, BondSign, single, double, triple, quadruple, aromatic, up, down, bondS, Organic, bare1, bare2, organics, organicS, Symbol, short, long, symbolNames, known, symbolS, Isotope, iso0, iso1, iso2, iso3, isotopeS, Chiral, flat, at, atat, code1, code2, Class, TH, AL, SP, TB, OH, class1, class2, chiralS, Hcount, bald, H, Hn, hcountS, Head, head, headS, Sign, plus, minus, signS, Charge, neutral, sign, twice, num1, num2, chargeS, Map, nomap, m1, m2, m3, mapS, Atom, organic, bracket, atomS, Rnum, ring1, ring2, rnumS, bond?S, Link, elided, bond, dot, linkS, Line, start, link, ring, branch, spell}
 use Rattle.grammar.specs.Lines.{Bytes}
-use Rattle.grammar.specs.OpenSmiles.{Chiral′, flat′, at′, atat′, code1′, code2′, pair′, chiralS′, Charge′, neutral′, sign′, twice′, digit′, digits′, Atom′, organic′, bracket′, Rings, no-rings, and-ring, Chain, first, then, Branched, branched, Branches, no-branches, and-branch, numberS, chargeS′, classS′, atomS′, ringsS, chainS, branchedS, branchesS}
+use Rattle.grammar.specs.OpenSmiles.{Chiral′, flat′, at′, atat′, code1′, code2′, pair′, chiralS′, Charge′, neutral′, sign′, twice′, digit′, digits′, Atom′, organic′, bracket′, Rings, no-rings, and-ring, Chain, first, then, Branched, branched, Branches, no-branches, and-branch, digitsS, chargeS′, classS′, atomS′, ringsS, chainS, branchedS, branchesS}
 
 bytes-append : (xs ys : List ℕ) → Bytes xs → Bytes ys → Bytes (xs ++ ys)
 unfolding Bytes
@@ -64,9 +64,9 @@ organic-bytes (bare1 a p) = (byte-small a (has1-all isByte organics tt a p), tt)
 organic-bytes (bare2 a b p) = let h = has2-all isByte organics tt a b p in (byte-small a (h .0), (byte-small b (h .1), tt))
 
 symbol-bytes : (y : Symbol) → Bytes (symbolS y)
-unfolding Bytes symbolS allOf names known isByte
-symbol-bytes (short a p) = (byte-small a (has1-all isByte names tt a p), tt)
-symbol-bytes (long a b p) = let h = has2-all isByte names tt a b p in (byte-small a (h .0), (byte-small b (h .1), tt))
+unfolding Bytes symbolS allOf symbolNames known isByte
+symbol-bytes (short a p) = (byte-small a (has1-all isByte symbolNames tt a p), tt)
+symbol-bytes (long a b p) = let h = has2-all isByte symbolNames tt a b p in (byte-small a (h .0), (byte-small b (h .1), tt))
 
 -- ---- single bytes
 digit-byte : (d : Digit) → digitS d < 256
@@ -82,7 +82,7 @@ digit-byte d7 = omega arith
 digit-byte d8 = omega arith
 digit-byte d9 = omega arith
 
-bond-byte : (x : Bond) → bondS x < 256
+bond-byte : (x : BondSign) → bondS x < 256
 unfolding bondS
 bond-byte single = omega arith
 bond-byte double = omega arith
@@ -164,7 +164,7 @@ unfolding Bytes rnumS
 rnum-bytes (ring1 d) = (digit-byte d, tt)
 rnum-bytes (ring2 d e) = (omega arith, (digit-byte d, (digit-byte e, tt)))
 
-bond?-bytes : (x : Option Bond) → Bytes (bond?S x)
+bond?-bytes : (x : Option BondSign) → Bytes (bond?S x)
 unfolding Bytes bond?S
 bond?-bytes none = tt
 bond?-bytes (some x) = (bond-byte x, tt)
@@ -184,8 +184,8 @@ spelled-bytes (branch c l d) =
     bytes-append (spell c) _ (spelled-bytes c) (omega arith, bytes-append (linkS l) _ (link-bytes l) (bytes-append (spell d) _ (spelled-bytes d) (omega arith, tt)))
 
 -- ---- and so for OpenSMILES chains
-number-bytes : (ds : List Digit) → Bytes (numberS ds)
-unfolding Bytes numberS
+number-bytes : (ds : List Digit) → Bytes (digitsS ds)
+unfolding Bytes digitsS
 number-bytes [] = tt
 number-bytes (d ∷ ds) = (digit-byte d, number-bytes ds)
 
@@ -216,7 +216,7 @@ unfolding Bytes atomS′
 atom′-bytes (organic′ o k) = organic-bytes o
 atom′-bytes (bracket′ i y c h k q m) = (
   omega arith,
-  bytes-append (numberS i) _ (number-bytes i) (bytes-append (symbolS y) _ (symbol-bytes y) (bytes-append (chiralS′ c) _ (chiral′-bytes c)
+  bytes-append (digitsS i) _ (number-bytes i) (bytes-append (symbolS y) _ (symbol-bytes y) (bytes-append (chiralS′ c) _ (chiral′-bytes c)
       (bytes-append (hcountS h) _ (hcount-bytes h) (bytes-append (chargeS′ q) _ (charge′-bytes q) (bytes-append (classS′ m) _ (class-bytes m) (omega arith, tt)))))),
 )
 

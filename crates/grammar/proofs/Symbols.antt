@@ -9,13 +9,13 @@ use lib.ListN.{length}
 use lib.Dec.{T, eqb, ltb, eqb→eq, ltb→lt}
 use borrow.Author.Tests.{eqb-true, eqb-false, eq-eqb, ne-eqb, ltb-true, ltb-false, lt-ltb, le-ltb}
 use Rattle.feature.specs.Pick.{pick, both, either}
-use Rattle.feature.specs.Text.{byte, letter, oneLetter, twoLetters}
+use Rattle.feature.specs.Text.{byte, letterStep, oneLetter, twoLetters}
 use Rattle.feature.specs.Names.{symbols, placeOf, begins}
 use Rattle.feature.specs.Names as feature
 use Rattle.feature.proofs.Table.{both-left, both-right}
 use Rattle.read_token.specs.Scan.{slip}
 use Rattle.grammar.specs.Names.{Name, one, two, has1, has2}
-use Rattle.grammar.specs.Grammar.{names, known}
+use Rattle.grammar.specs.Grammar.{symbolNames, known}
 use Rattle.grammar.proofs.Machine.{leads}
 use Rattle.grammar.proofs.Table.{seconds, no-second}
 
@@ -38,8 +38,8 @@ known-length = refl
 -- second letters are bytes, and a number begins with its first letter
 unfoldable sane : List Name → Bool
 sane [] = true
-sane (one x ∷ l) = both (eqb (oneLetter x / letter) x) (sane l)
-sane (two x y ∷ l) = both (ltb y 511) (both (eqb (twoLetters x y / letter) x) (sane l))
+sane (one x ∷ l) = both (eqb (oneLetter x / letterStep) x) (sane l)
+sane (two x y ∷ l) = both (ltb y 511) (both (eqb (twoLetters x y / letterStep) x) (sane l))
 
 known-sane : T (sane known)
 unfolding sane known
@@ -56,28 +56,28 @@ place2-in : (l : List Name) → T (sane l) → (a b : ℕ) → b < 511 → ltb (
 unfolding sane numbers number placeOf has2
 place2-in [] t a b h = refl
 place2-in (one x ∷ l) t a b h =
-    rw (ne-eqb (oneLetter x) (twoLetters a b) (λ e. omega (arith, e)), next-lt) (place2-in l (both-right (eqb (oneLetter x / letter) x) (sane l) t) a b h)
+    rw (ne-eqb (oneLetter x) (twoLetters a b) (λ e. omega (arith, e)), next-lt) (place2-in l (both-right (eqb (oneLetter x / letterStep) x) (sane l) t) a b h)
 place2-in (two x y ∷ l) t a b h =
-    by (eqb a x) (eqb b y) refl refl (place2-in l (both-right (eqb (twoLetters x y / letter) x) (sane l) (both-right (ltb y 511) (both (eqb (twoLetters x y / letter) x) (sane l)) t)) a b h)
+    by (eqb a x) (eqb b y) refl refl (place2-in l (both-right (eqb (twoLetters x y / letterStep) x) (sane l) (both-right (ltb y 511) (both (eqb (twoLetters x y / letterStep) x) (sane l)) t)) a b h)
   where
     by : (u v : Bool) → eqb a x ≡ u → eqb b y ≡ v → ltb (placeOf (twoLetters a b) (numbers l)) (length l) ≡ has2 a b l
         → ltb (pick (eqb (twoLetters x y) (twoLetters a b)) 0 (suc (placeOf (twoLetters a b) (numbers l)))) (suc (length l)) ≡ pick u (pick v true (has2 a b l)) (has2 a b l)
     by true true e f g = rw (eq-eqb (twoLetters x y) (twoLetters a b) (omega (arith, eqb-true a x e, eqb-true b y f))) (lt-ltb 0 (suc (length l)) (omega arith))
     by true false e f g = rw (ne-eqb (twoLetters x y) (twoLetters a b) (λ z. eqb-false b y f (omega (arith, z, eqb-true a x e))), next-lt) g
-    by false v e f g = rw (ne-eqb (twoLetters x y) (twoLetters a b) (λ z. eqb-false a x e (omega (arith, z, ltb→lt y 511 (both-left (ltb y 511) (both (eqb (twoLetters x y / letter) x) (sane l)) t)))), next-lt) g
+    by false v e f g = rw (ne-eqb (twoLetters x y) (twoLetters a b) (λ z. eqb-false a x e (omega (arith, z, ltb→lt y 511 (both-left (ltb y 511) (both (eqb (twoLetters x y / letterStep) x) (sane l)) t)))), next-lt) g
 
 place1-in : (l : List Name) → T (sane l) → (a : ℕ) → ltb (placeOf (oneLetter a) (numbers l)) (length l) ≡ has1 a l
 unfolding sane numbers number placeOf has1
 place1-in [] t a = refl
-place1-in (one x ∷ l) t a = by (eqb a x) refl (place1-in l (both-right (eqb (oneLetter x / letter) x) (sane l) t) a)
+place1-in (one x ∷ l) t a = by (eqb a x) refl (place1-in l (both-right (eqb (oneLetter x / letterStep) x) (sane l) t) a)
   where
     by : (u : Bool) → eqb a x ≡ u → ltb (placeOf (oneLetter a) (numbers l)) (length l) ≡ has1 a l
         → ltb (pick (eqb (oneLetter x) (oneLetter a)) 0 (suc (placeOf (oneLetter a) (numbers l)))) (suc (length l)) ≡ pick u true (has1 a l)
     by true e g = rw (eq-eqb (oneLetter x) (oneLetter a) (omega (arith, eqb-true a x e))) (lt-ltb 0 (suc (length l)) (omega arith))
     by false e g = rw (ne-eqb (oneLetter x) (oneLetter a) (λ z. eqb-false a x e (omega (arith, z))), next-lt) g
 place1-in (two x y ∷ l) t a =
-    rw (ne-eqb (twoLetters x y) (oneLetter a) (λ z. omega (arith, z, ltb→lt y 511 (both-left (ltb y 511) (both (eqb (twoLetters x y / letter) x) (sane l)) t))), next-lt)
-    (place1-in l (both-right (eqb (twoLetters x y / letter) x) (sane l) (both-right (ltb y 511) (both (eqb (twoLetters x y / letter) x) (sane l)) t)) a)
+    rw (ne-eqb (twoLetters x y) (oneLetter a) (λ z. omega (arith, z, ltb→lt y 511 (both-left (ltb y 511) (both (eqb (twoLetters x y / letterStep) x) (sane l)) t))), next-lt)
+    (place1-in l (both-right (eqb (twoLetters x y / letterStep) x) (sane l) (both-right (ltb y 511) (both (eqb (twoLetters x y / letterStep) x) (sane l)) t)) a)
 
 turned : (a x k : ℕ) (u v : Bool) → k ≡ x → u ≡ v → either (eqb k a) u ≡ pick (eqb a x) true v
 turned a x k u v e f = rw (e, f) (by (eqb a x) refl)
@@ -90,32 +90,32 @@ leads-in : (l : List Name) → T (sane l) → (a : ℕ) → begins a (numbers l)
 unfolding sane numbers number begins leads
 leads-in [] t a = refl
 leads-in (one x ∷ l) t a =
-    turned a x (oneLetter x / letter) _ _ (eqb→eq _ _ (both-left (eqb (oneLetter x / letter) x) (sane l) t)) (leads-in l (both-right (eqb (oneLetter x / letter) x) (sane l) t) a)
+    turned a x (oneLetter x / letterStep) _ _ (eqb→eq _ _ (both-left (eqb (oneLetter x / letterStep) x) (sane l) t)) (leads-in l (both-right (eqb (oneLetter x / letterStep) x) (sane l) t) a)
 leads-in (two x y ∷ l) t a =
-    let r = both-right (ltb y 511) (both (eqb (twoLetters x y / letter) x) (sane l)) t in
-    turned a x (twoLetters x y / letter) _ _ (eqb→eq _ _ (both-left (eqb (twoLetters x y / letter) x) (sane l) r)) (leads-in l (both-right (eqb (twoLetters x y / letter) x) (sane l) r) a)
+    let r = both-right (ltb y 511) (both (eqb (twoLetters x y / letterStep) x) (sane l)) t in
+    turned a x (twoLetters x y / letterStep) _ _ (eqb→eq _ _ (both-left (eqb (twoLetters x y / letterStep) x) (sane l) r)) (leads-in l (both-right (eqb (twoLetters x y / letterStep) x) (sane l) r) a)
 
 -- ---- the tables of the two crates
-pub two-in : (a b : ℕ) → b < 511 → ltb (placeOf (twoLetters a b) feature.names) symbols ≡ has2 a b names
-unfolding names has2
+pub two-in : (a b : ℕ) → b < 511 → ltb (placeOf (twoLetters a b) feature.names) symbols ≡ has2 a b symbolNames
+unfolding symbolNames has2
 two-in a b h = rw (← the-table, ← known-length) (place2-in known known-sane a b h)
 
-pub one-in : (a : ℕ) → ltb (placeOf (oneLetter (slip a)) feature.names) symbols ≡ has1 a names
-unfolding names has1 slip
+pub one-in : (a : ℕ) → ltb (placeOf (oneLetter (slip a)) feature.names) symbols ≡ has1 a symbolNames
+unfolding symbolNames has1 slip
 one-in a = by (eqb a (byte "G")) refl
   where
     by : (t : Bool) → eqb a (byte "G") ≡ t → ltb (placeOf (oneLetter (pick t (byte "F") a)) feature.names) symbols ≡ pick t true (has1 a known)
     by true e = unfold placeOf feature.names in refl
     by false e = rw (← the-table, ← known-length) (place1-in known known-sane a)
 
-pub begins-in : (a : ℕ) → begins a feature.names ≡ leads a names
-unfolding names leads
+pub begins-in : (a : ℕ) → begins a feature.names ≡ leads a symbolNames
+unfolding symbolNames leads
 begins-in a = by (eqb a (byte "G")) refl
   where
     by : (t : Bool) → eqb a (byte "G") ≡ t → begins a feature.names ≡ pick t true (leads a known)
     by true e = rw (eqb-true a (byte "G") e) (unfold begins feature.names in refl)
     by false e = rw (← the-table) (leads-in known known-sane a)
 
-pub no-end : (a : ℕ) → has2 a 256 names ≡ false
-unfolding seconds names known
-no-end a = no-second a 256 names refl
+pub no-end : (a : ℕ) → has2 a 256 symbolNames ≡ false
+unfolding seconds symbolNames known
+no-end a = no-second a 256 symbolNames refl

@@ -10,7 +10,7 @@ use borrow.Author.Tests.{eqb-true, eq-eqb}
 use Rattle.feature.specs.Pick.{pick}
 use Rattle.feature.specs.Text.{byte}
 use Rattle.grammar.specs.Names.{Name, one, two, has1, has2}
-use Rattle.grammar.specs.Grammar.{known, Digit, d0, d1, d2, d3, d4, d5, d6, d7, d8, d9, digitS, bondS, Bond, single, double, triple, quadruple, aromatic, up, down, organics, names}
+use Rattle.grammar.specs.Grammar.{known, Digit, d0, d1, d2, d3, d4, d5, d6, d7, d8, d9, digitS, bondS, BondSign, single, double, triple, quadruple, aromatic, up, down, organics, symbolNames}
 use Rattle.grammar.proofs.Machine.{test, leads, digitOf, bondOf, famOf}
 
 pub test-yes : {X : Type 0} (t : Bool) (p : T t) (f : T t → X) (y : X) → test t f y ≡ f p
@@ -120,40 +120,40 @@ undigit a (one x ∷ l) u p = first-no a x (undigits l) (leads a l) u p (undigit
 undigit a (two x y ∷ l) u p = first-no a x (undigits l) (leads a l) u p (undigit a l)
 
 -- THE TESTS OF THE TABLE, computed
-pub name-undigit : (a : ℕ) → T (leads a names) → digitOf a ≡ none
-unfolding undigits blank digitOf names known
-name-undigit a p = undigit a names refl p
+pub name-undigit : (a : ℕ) → T (leads a symbolNames) → digitOf a ≡ none
+unfolding undigits blank digitOf symbolNames known
+name-undigit a p = undigit a symbolNames refl p
 
-pub at-second : seconds (byte "@") names ≡ false
-unfolding seconds names known
+pub at-second : seconds (byte "@") symbolNames ≡ false
+unfolding seconds symbolNames known
 at-second = refl
 
-pub H-second : seconds (byte "H") names ≡ false
-unfolding seconds names known
+pub H-second : seconds (byte "H") symbolNames ≡ false
+unfolding seconds symbolNames known
 H-second = refl
 
 -- a byte that only a charge, a class or the end of a bracket begins
 pub record Quiet (b : ℕ) : Type 0 where
-  pub sec : seconds b names ≡ false
+  pub sec : seconds b symbolNames ≡ false
   pub ats : eqb b (byte "@") ≡ false
   pub fam : famOf b ≡ none
   pub dig : digitOf b ≡ none
   pub hyd : eqb b (byte "H") ≡ false
 
 pub quiet-plus : Quiet 43
-unfolding seconds names known famOf digitOf
+unfolding seconds symbolNames known famOf digitOf
 quiet-plus = record { sec = refl; ats = refl; fam = refl; dig = refl; hyd = refl }
 
 pub quiet-minus : Quiet 45
-unfolding seconds names known famOf digitOf
+unfolding seconds symbolNames known famOf digitOf
 quiet-minus = record { sec = refl; ats = refl; fam = refl; dig = refl; hyd = refl }
 
 pub quiet-colon : Quiet (byte ":")
-unfolding seconds names known famOf digitOf
+unfolding seconds symbolNames known famOf digitOf
 quiet-colon = record { sec = refl; ats = refl; fam = refl; dig = refl; hyd = refl }
 
 pub quiet-close : Quiet (byte "]")
-unfolding seconds names known famOf digitOf
+unfolding seconds symbolNames known famOf digitOf
 quiet-close = record { sec = refl; ats = refl; fam = refl; dig = refl; hyd = refl }
 
 -- ---- the table of atoms without brackets
@@ -268,7 +268,7 @@ digit-free d7 = free 55 refl
 digit-free d8 = free 56 refl
 digit-free d9 = free 57 refl
 
-pub bond-free : (x : Bond) → Free (bondS x)
+pub bond-free : (x : BondSign) → Free (bondS x)
 unfolding bondS seconds organics
 bond-free single = free 45 refl
 bond-free double = free 61 refl
@@ -278,7 +278,7 @@ bond-free aromatic = free 58 refl
 bond-free up = free 47 refl
 bond-free down = free 92 refl
 
-pub bond-of : (x : Bond) → bondOf (bondS x) ≡ some x
+pub bond-of : (x : BondSign) → bondOf (bondS x) ≡ some x
 unfolding bondS bondOf
 bond-of single = refl
 bond-of double = refl
@@ -288,7 +288,7 @@ bond-of aromatic = refl
 bond-of up = refl
 bond-of down = refl
 
-pub bond-undigit : (x : Bond) → digitOf (bondS x) ≡ none
+pub bond-undigit : (x : BondSign) → digitOf (bondS x) ≡ none
 unfolding bondS digitOf
 bond-undigit single = refl
 bond-undigit double = refl
@@ -298,7 +298,7 @@ bond-undigit aromatic = refl
 bond-undigit up = refl
 bond-undigit down = refl
 
-pub bond-unpercent : (x : Bond) → eqb (bondS x) (byte "%") ≡ false
+pub bond-unpercent : (x : BondSign) → eqb (bondS x) (byte "%") ≡ false
 unfolding bondS
 bond-unpercent single = refl
 bond-unpercent double = refl

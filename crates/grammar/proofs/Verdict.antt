@@ -13,10 +13,10 @@ use Rattle.feature.specs.Pick.{pick, both}
 use Rattle.read_token.specs.declared.scanner.Missing.{Missing}
 use Rattle.read_token.specs.declared.scanner.Missing.the-variants.{EndOfLine, Character}
 use Rattle.builder.specs.Limits.{branchLimit}
-use Rattle.read_line.specs.Events.{Event, Enter, Join, Pop, Miss, Nest}
+use Rattle.read_line.specs.Events.{ReadEvent, Enter, Join, Pop, Miss, Nest}
 use Rattle.read_line.specs.Parse.{parse}
-use Rattle.grammar.specs.Grammar.{Atom, Link, dot, Line, start, link, ring, branch, spell, enter, join, tells, meaning}
-use Rattle.grammar.specs.Lines.{Bytes, Fits, Spelled, Viable, Refused, Eaten, Late, lateMissing, TooDeep, Verdict, reads, ends, refuses, refusesLate, nests, Clean, Ends, Nests}
+use Rattle.grammar.specs.Grammar.{Atom, Link, dot, Line, start, link, ring, branch, spell, enter, joinEvent, tells, meaning}
+use Rattle.grammar.specs.Lines.{Bytes, Fits, Spelled, Viable, WrongAt, Eaten, Late, lateMissing, TooDeep, Verdict, reads, ends, refuses, refusesLate, nests, Clean, Ends, Nests}
 use Rattle.grammar.proofs.Machine.{Around, top, inside, begin, around, put, State, want, inAtom, body, percent, percent1, step, topmost, atomEnd, ending, partEnd, character, finished}
 use Rattle.grammar.proofs.Sound.{sofar, aroundS, Told, ending-ok}
 use Rattle.grammar.proofs.Complete.{chain, steps, steps-then, now, read-line}
@@ -82,7 +82,7 @@ verdict-go [] p u n e h q = subst (λ (x : List ℕ). Verdict x (told u ++ halt 
     by (some t) g = reads t (unfold Told in subst (Told (sofar u)) g (ending-ok u) ∙ reached p u e) (fit-end u t g h) (unfold halt in append-nil (told u) ∙ ending-told u t g)
 verdict-go (b ∷ bs) p u n e h q = by (step u b) refl (λ t f. verdict-go bs (p ++ (b ∷ [])) t (n + 1))
   where
-    refused : step u b ≡ none → Refused (p ++ (b ∷ bs)) n
+    refused : step u b ≡ none → WrongAt (p ++ (b ∷ bs)) n
     refused f = record { before = p; byte = b; behind = bs; is = refl; place = q; alive = through-viable p u e; dead = stuck-dead p b u e f }
 
     judged : (f : step u b ≡ none) (x : Bool) → both (late u) (ltb b 128) ≡ x → Verdict (p ++ (b ∷ bs)) (told u ++ (Miss (lacked x n bs) ∷ []))
@@ -108,7 +108,7 @@ pub verdict : (s : List ℕ) → Bytes s → Verdict s (parse s)
 verdict s h = rw (parse-full s h) (unfold zero-state steps in verdict-go s [] (want (begin top)) 0 refl fit-first refl)
 
 -- ---- a tree's meaning holds no refusal, and every refusal is one
-pub clean-append : (xs ys : List Event) → Clean xs → Clean ys → Clean (xs ++ ys)
+pub clean-append : (xs ys : List ReadEvent) → Clean xs → Clean ys → Clean (xs ++ ys)
 unfolding Clean
 clean-append [] ys h k = k
 clean-append (Enter l a n ∷ xs) ys h k = clean-append xs ys h k
@@ -117,7 +117,7 @@ clean-append (Pop n ∷ xs) ys h k = clean-append xs ys h k
 clean-append (Miss m ∷ xs) ys h k = h
 clean-append (Nest n ∷ xs) ys h k = h
 
-unclean : (xs ys : List Event) → Clean (xs ++ ys) → Clean ys
+unclean : (xs ys : List ReadEvent) → Clean (xs ++ ys) → Clean ys
 unfolding Clean
 unclean [] ys h = h
 unclean (Enter l a n ∷ xs) ys h = unclean xs ys h
@@ -126,14 +126,14 @@ unclean (Pop n ∷ xs) ys h = unclean xs ys h
 unclean (Miss m ∷ xs) ys h = absurd h
 unclean (Nest n ∷ xs) ys h = absurd h
 
-unmissed : (xs : List Event) (m : Missing) → ¬ Clean (xs ++ (Miss m ∷ []))
+unmissed : (xs : List ReadEvent) (m : Missing) → ¬ Clean (xs ++ (Miss m ∷ []))
 unmissed xs m h = unfold Clean in unclean xs (Miss m ∷ []) h
 
-unnested : (xs : List Event) (n : ℕ) → ¬ Clean (xs ++ (Nest n ∷ []))
+unnested : (xs : List ReadEvent) (n : ℕ) → ¬ Clean (xs ++ (Nest n ∷ []))
 unnested xs n h = unfold Clean in unclean xs (Nest n ∷ []) h
 
 pub clean-tells : (t : Line) (w : List ℕ) (l : Link) → Clean (tells w l t)
-unfolding Clean tells enter join
+unfolding Clean tells enter joinEvent
 clean-tells (start a) w l = tt
 clean-tells (link c k a) w l = clean-append (tells w l c) _ (clean-tells c w l) tt
 clean-tells (ring c b r) w l = clean-append (tells w l c) _ (clean-tells c w l) tt
@@ -155,7 +155,7 @@ sound s h c = by (verdict s h)
     by (nests n es e r) = absurd (unnested es n (subst Clean e c))
 
 -- a line is refused nowhere
-unrefused : (s : List ℕ) (n : ℕ) → Refused s n → ¬ Spelled s
+unrefused : (s : List ℕ) (n : ℕ) → WrongAt s n → ¬ Spelled s
 unfolding Spelled Viable
 unrefused s n r v = r .dead (v .0, r .behind, v .1 ∙ r .is ∙ sym (append-assoc (r .before) (r .byte ∷ []) (r .behind)))
 
@@ -174,7 +174,7 @@ read-tree t f = by (verdict (spell t) (spelled-bytes t))
     by (nests n es e r) = absurd (r .deep t (r .behind) (r .is) f)
 
 -- ---- REFUSALS, by the last event
-pub snoc-last : (xs ys : List Event) (a b : Event) → xs ++ (a ∷ []) ≡ ys ++ (b ∷ []) → a ≡ b
+pub snoc-last : (xs ys : List ReadEvent) (a b : ReadEvent) → xs ++ (a ∷ []) ≡ ys ++ (b ∷ []) → a ≡ b
 snoc-last [] [] a b e = cc
 snoc-last [] (y ∷ []) a b e = let z : _≡_ {A = ℕ} 0 1 = cc in absurd (omega arith)
 snoc-last [] (y ∷ (x ∷ ys)) a b e = let z : _≡_ {A = ℕ} 0 1 = cc in absurd (omega arith)
@@ -183,7 +183,7 @@ snoc-last (x ∷ (y ∷ xs)) [] a b e = let z : _≡_ {A = ℕ} 0 1 = cc in absu
 snoc-last (x ∷ xs) (y ∷ ys) a b e = let g : xs ++ (a ∷ []) ≡ ys ++ (b ∷ []) = cc in snoc-last xs ys a b g
 
 -- a text is wrong at one place
-pub one-place : (s : List ℕ) (m n : ℕ) → Refused s m → Refused s n → m ≡ n
+pub one-place : (s : List ℕ) (m n : ℕ) → WrongAt s m → WrongAt s n → m ≡ n
 one-place s m n r q = let e : character m ≡ character n = sym (refused-character s m r) ∙ refused-character s n q in cc
 
 -- the two parts of a text at a place
@@ -195,7 +195,7 @@ same-split (x ∷ p) (y ∷ q) a b u v e h =
     let g : x ≡ y = cc in let f : p ++ (a ∷ u) ≡ q ++ (b ∷ v) = cc in let k = same-split p q a b u v f (omega arith) in
     (ap₂ (λ (i : ℕ) (l : List ℕ). i ∷ l) g (k .0), k .1, k .2)
 
-module _ (s : List ℕ) (n : ℕ) (r q : Refused s n) where
+module _ (s : List ℕ) (n : ℕ) (r q : WrongAt s n) where
   same-refused : (r .before ≡ q .before) × (r .byte ≡ q .byte) × (r .behind ≡ q .behind)
   same-refused = same-split (r .before) (q .before) (r .byte) (q .byte) (r .behind) (q .behind) (sym (r .is) ∙ q .is) (r .place ∙ sym (q .place))
 
@@ -206,19 +206,19 @@ module _ (s : List ℕ) (n : ℕ) (r q : Refused s n) where
 module _ (s : List ℕ) (h : Bytes s) where
   -- CHARACTER: the bytes before the place begin a line, and with the byte there they don't; or the place is one late
   pub character-is : (n : ℕ) → Ends (parse s) (Miss (Character n))
-      → ((r : Refused s n) × ¬ Late r) ⊎ ((m : ℕ) × (r : Refused s m) × Late r × (lateMissing m (r .behind) ≡ Character n))
+      → ((r : WrongAt s n) × ¬ Late r) ⊎ ((m : ℕ) × (r : WrongAt s m) × Late r × (lateMissing m (r .behind) ≡ Character n))
   unfolding Ends
   character-is n e = by (verdict s h)
     where
-      by : Verdict s (parse s) → ((r : Refused s n) × ¬ Late r) ⊎ ((m : ℕ) × (r : Refused s m) × Late r × (lateMissing m (r .behind) ≡ Character n))
+      by : Verdict s (parse s) → ((r : WrongAt s n) × ¬ Late r) ⊎ ((m : ℕ) × (r : WrongAt s m) × Late r × (lateMissing m (r .behind) ≡ Character n))
       by (reads t i f m) = absurd (unmissed (e .0) (Character n) (subst Clean (sym m ∙ e .1) (clean-meaning t)))
       by (ends es i v u) = let g : Miss EndOfLine ≡ Miss (Character n) = snoc-last es (e .0) _ _ (sym i ∙ e .1) in let z : _≡_ {A = ℕ} 0 1 = cc in absurd (omega arith)
       by (refuses m es i r u) = let g : Miss (Character m) ≡ Miss (Character n) = snoc-last es (e .0) _ _ (sym i ∙ e .1) in let z : m ≡ n = cc in
-          inl (subst (λ (k : ℕ). (r : Refused s k) × ¬ Late r) z (r, u))
+          inl (subst (λ (k : ℕ). (r : WrongAt s k) × ¬ Late r) z (r, u))
       by (refusesLate m es r i u) = let g : Miss (lateMissing m (r .behind)) ≡ Miss (Character n) = snoc-last es (e .0) _ _ (sym i ∙ e .1) in inr (m, r, u, cc)
       by (nests m es i r) = let g : Nest m ≡ Miss (Character n) = snoc-last es (e .0) _ _ (sym i ∙ e .1) in let z : _≡_ {A = ℕ} 0 1 = cc in absurd (omega arith)
 
-  pub refused-is : (n : ℕ) (r : Refused s n) → ¬ Late r → Ends (parse s) (Miss (Character n)) ⊎ Nests s
+  pub refused-is : (n : ℕ) (r : WrongAt s n) → ¬ Late r → Ends (parse s) (Miss (Character n)) ⊎ Nests s
   unfolding Ends Nests
   refused-is n r timely = by (verdict s h)
     where
@@ -231,12 +231,12 @@ module _ (s : List ℕ) (h : Bytes s) where
       by (refuses m es i q u) = inl (es, i ∙ ap (λ (k : ℕ). es ++ (Miss (Character k) ∷ [])) (one-place s m n q r))
       by (refusesLate m es q i u) = absurd (timely (moved m (one-place s m n q r) q u))
         where
-          moved : (m : ℕ) → m ≡ n → (q : Refused s m) → Late q → Late r
-          moved m z = subst (λ (k : ℕ). (q : Refused s k) → Late q → Late r) (sym z) (λ q u. same-late s n q r u)
+          moved : (m : ℕ) → m ≡ n → (q : WrongAt s m) → Late q → Late r
+          moved m z = subst (λ (k : ℕ). (q : WrongAt s k) → Late q → Late r) (sym z) (λ q u. same-late s n q r u)
       by (nests m es i t) = inr (m, t, (es, i))
 
   -- one late, after "@TB" and "@OH"
-  pub late-told : (n : ℕ) (r : Refused s n) → Late r → Ends (parse s) (Miss (lateMissing n (r .behind))) ⊎ Nests s
+  pub late-told : (n : ℕ) (r : WrongAt s n) → Late r → Ends (parse s) (Miss (lateMissing n (r .behind))) ⊎ Nests s
   unfolding Ends Nests
   late-told n r late = by (verdict s h)
     where
@@ -248,20 +248,20 @@ module _ (s : List ℕ) (h : Bytes s) where
           unviable v = r .dead (viable-cut (r .before ++ (r .byte ∷ [])) (r .behind) (subst Viable (r .is ∙ sym (append-assoc (r .before) (r .byte ∷ []) (r .behind))) v))
       by (refuses m es i q u) = absurd (moved m (one-place s m n q r) q u)
         where
-          moved : (m : ℕ) → m ≡ n → (q : Refused s m) → ¬ Late q → ⊥
-          moved m z = subst (λ (k : ℕ). (q : Refused s k) → ¬ Late q → ⊥) (sym z) (λ q u. u (same-late s n r q late))
+          moved : (m : ℕ) → m ≡ n → (q : WrongAt s m) → ¬ Late q → ⊥
+          moved m z = subst (λ (k : ℕ). (q : WrongAt s k) → ¬ Late q → ⊥) (sym z) (λ q u. u (same-late s n r q late))
       by (refusesLate m es q i u) = inl (es, i ∙ ap (λ (x : Missing). es ++ (Miss x ∷ [])) (moved m (one-place s m n q r) q))
         where
-          moved : (m : ℕ) → m ≡ n → (q : Refused s m) → lateMissing m (q .behind) ≡ lateMissing n (r .behind)
-          moved m z = subst (λ (k : ℕ). (q : Refused s k) → lateMissing k (q .behind) ≡ lateMissing n (r .behind)) (sym z) (λ q. ap (lateMissing n) (same-refused s n q r .2))
+          moved : (m : ℕ) → m ≡ n → (q : WrongAt s m) → lateMissing m (q .behind) ≡ lateMissing n (r .behind)
+          moved m z = subst (λ (k : ℕ). (q : WrongAt s k) → lateMissing k (q .behind) ≡ lateMissing n (r .behind)) (sym z) (λ q. ap (lateMissing n) (same-refused s n q r .2))
       by (nests m es i t) = inr (m, t, (es, i))
 
   -- END OF LINE: the whole text begins a line and is none; or the byte that is taken late is the last
-  pub end-is : Ends (parse s) (Miss EndOfLine) → (Viable s × ¬ Spelled s) ⊎ ((m : ℕ) × (r : Refused s m) × Late r × (lateMissing m (r .behind) ≡ EndOfLine))
+  pub end-is : Ends (parse s) (Miss EndOfLine) → (Viable s × ¬ Spelled s) ⊎ ((m : ℕ) × (r : WrongAt s m) × Late r × (lateMissing m (r .behind) ≡ EndOfLine))
   unfolding Ends
   end-is e = by (verdict s h)
     where
-      by : Verdict s (parse s) → (Viable s × ¬ Spelled s) ⊎ ((m : ℕ) × (r : Refused s m) × Late r × (lateMissing m (r .behind) ≡ EndOfLine))
+      by : Verdict s (parse s) → (Viable s × ¬ Spelled s) ⊎ ((m : ℕ) × (r : WrongAt s m) × Late r × (lateMissing m (r .behind) ≡ EndOfLine))
       by (reads t i f m) = absurd (unmissed (e .0) EndOfLine (subst Clean (sym m ∙ e .1) (clean-meaning t)))
       by (ends es i v u) = inl (v, u)
       by (refuses m es i r u) = let g : Miss (Character m) ≡ Miss EndOfLine = snoc-last es (e .0) _ _ (sym i ∙ e .1) in let z : _≡_ {A = ℕ} 0 1 = cc in absurd (omega arith)
@@ -272,7 +272,7 @@ module _ (s : List ℕ) (h : Bytes s) where
   unfolding Ends Nests
   ended-is v none-so = by (verdict s h)
     where
-      unviable : (m : ℕ) → Refused s m → ⊥
+      unviable : (m : ℕ) → WrongAt s m → ⊥
       unviable m r = r .dead (viable-cut (r .before ++ (r .byte ∷ [])) (r .behind) (subst Viable (r .is ∙ sym (append-assoc (r .before) (r .byte ∷ []) (r .behind))) v))
 
       by : Verdict s (parse s) → Ends (parse s) (Miss EndOfLine) ⊎ Nests s

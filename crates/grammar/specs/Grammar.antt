@@ -19,7 +19,7 @@ use Rattle.feature.specs.declared.bond_kind.BondKind.{BondKind}
 use Rattle.feature.specs.declared.bond_kind.BondKind.the-variants as kind
 use Rattle.read_line.specs.declared.lead.Lead.{Lead}
 use Rattle.read_line.specs.declared.lead.Lead.the-variants as lead
-use Rattle.read_line.specs.Events.{Event, Enter, Join, Pop}
+use Rattle.read_line.specs.Events.{ReadEvent, Enter, Join, Pop}
 use Rattle.grammar.specs.Names.{Name, one, table, has1, has2, place1, place2}
 
 -- ---- SYNTAX
@@ -40,8 +40,8 @@ value d8 = 8
 value d9 = 9
 
 -- A bond is one of - = # $ : / \.
-pub data Bond : Type 0 where
-  single double triple quadruple aromatic up down : Bond
+pub data BondSign : Type 0 where
+  single double triple quadruple aromatic up down : BondSign
 
 -- An atom without brackets, in the order of their kinds. At and Ts are a departure.
 unfoldable pub aliphatics : List Name
@@ -67,12 +67,12 @@ known =
     ++ (table "Ra Rb Re Rf Rg Rh Rn Ru S  Sb Sc Se Sg Si Sm Sn Sr Ta Tb Tc Te Th Ti Tl Tm Ts "
     ++ (table "U  V  W  Xe Y  Yb Zn Zr as b  c  n  o  p  s  se ")))))
 
-unfoldable pub names : List Name
-names = one (byte "G") ∷ known
+unfoldable pub symbolNames : List Name
+symbolNames = one (byte "G") ∷ known
 
 pub data Symbol : Type 0 where
-  short : (a : ℕ) → T (has1 a names) → Symbol
-  long : (a b : ℕ) → T (has2 a b names) → Symbol
+  short : (a : ℕ) → T (has1 a symbolNames) → Symbol
+  long : (a b : ℕ) → T (has2 a b symbolNames) → Symbol
 
 -- An isotope has at most three digits, or there is none.
 pub data Isotope : Type 0 where
@@ -151,14 +151,14 @@ pub data Rnum : Type 0 where
 -- What stands before an atom is nothing, a bond, or a dot.
 pub data Link : Type 0 where
   elided : Link
-  bond : Bond → Link
+  bond : BondSign → Link
   dot : Link
 
 -- A line is an atom; or a line and an atom by a link, a ring number with or without its bond, or a branch by a link.
 pub data Line : Type 0 where
   start : Atom → Line
   link : Line → Link → Atom → Line
-  ring : Line → Option Bond → Rnum → Line
+  ring : Line → Option BondSign → Rnum → Line
   branch : Line → Link → Line → Line
 
 -- ---- SPELLING: the bytes of each part, one after another as its rule says
@@ -174,7 +174,7 @@ digitS d7 = byte "7"
 digitS d8 = byte "8"
 digitS d9 = byte "9"
 
-unfoldable pub bondS : Bond → ℕ
+unfoldable pub bondS : BondSign → ℕ
 bondS single = byte "-"
 bondS double = byte "="
 bondS triple = byte "#"
@@ -251,7 +251,7 @@ unfoldable pub rnumS : Rnum → List ℕ
 rnumS (ring1 d) = digitS d ∷ []
 rnumS (ring2 d e) = byte "%" ∷ digitS d ∷ digitS e ∷ []
 
-unfoldable pub bond?S : Option Bond → List ℕ
+unfoldable pub bond?S : Option BondSign → List ℕ
 bond?S none = []
 bond?S (some b) = bondS b ∷ []
 
@@ -273,7 +273,7 @@ worth n [] = n
 worth n (d ∷ ds) = worth (n * 10 + value d) ds
 
 -- A bond's kind; where no bond is written it is elided.
-unfoldable pub bondK : Bond → BondKind
+unfoldable pub bondK : BondSign → BondKind
 bondK single = kind.Single
 bondK double = kind.Double
 bondK triple = kind.Triple
@@ -282,7 +282,7 @@ bondK aromatic = kind.Aromatic
 bondK up = kind.Up
 bondK down = kind.Down
 
-unfoldable pub bond?K : Option Bond → BondKind
+unfoldable pub bond?K : Option BondSign → BondKind
 bond?K none = kind.Elided
 bond?K (some b) = bondK b
 
@@ -339,8 +339,8 @@ hcountK (Hn d) = value d
 
 -- A charge is held as so many above or below the number of no charge at all.
 unfoldable pub signed : Sign → ℕ → ℕ
-signed plus n = kinds.neutral + n
-signed minus n = kinds.neutral - n
+signed plus n = kinds.neutralCharge + n
+signed minus n = kinds.neutralCharge - n
 
 unfoldable pub chargeK : Charge → ℕ
 chargeK neutral = noCharge
@@ -356,19 +356,19 @@ mapK (m2 a b) = worth 0 (a ∷ b ∷ [])
 mapK (m3 a b c) = worth 0 (a ∷ b ∷ c ∷ [])
 
 unfoldable pub bracketK : Head → Charge → Map → AtomKind
-bracketK (head i s c h) q m = Bracket (kinds.bracket (isotopeK i) (symbolK s) (chiralK c) (hcountK h) (chargeK q) (mapK m))
+bracketK (head i s c h) q m = Bracket (kinds.bracketOfSix (isotopeK i) (symbolK s) (chiralK c) (hcountK h) (chargeK q) (mapK m))
 
 unfoldable pub atomK : Atom → AtomKind
 atomK (organic s) = organicK s
 atomK (bracket x q m) = bracketK x q m
 
 -- An atom comes in by its link, at the place of its first byte.
-unfoldable pub enter : Link → Atom → ℕ → Event
+unfoldable pub enter : Link → Atom → ℕ → ReadEvent
 enter l a n = Enter (linkK l) (atomK a) n
 
 -- A ring number stands at its first byte, after its bond.
-unfoldable pub join : Option Bond → Rnum → ℕ → Event
-join b r n = Join (bond?K b) (rnumK r) n
+unfoldable pub joinEvent : Option BondSign → Rnum → ℕ → ReadEvent
+joinEvent b r n = Join (bond?K b) (rnumK r) n
 
 -- The atoms along a line, its branches left out.
 unfoldable pub atoms : Line → ℕ
@@ -378,12 +378,12 @@ atoms (ring c b r) = atoms c
 atoms (branch c l d) = atoms c
 
 -- The events of a line that stands after a text and is entered by a link; a branch ends by leaving its atoms.
-unfoldable pub tells : List ℕ → Link → Line → List Event
+unfoldable pub tells : List ℕ → Link → Line → List ReadEvent
 tells w l (start a) = enter l a (length w) ∷ []
 tells w l (link c k a) = tells w l c ++ (enter k a (length (w ++ (spell c ++ linkS k))) ∷ [])
-tells w l (ring c b r) = tells w l c ++ (join b r (length (w ++ (spell c ++ bond?S b))) ∷ [])
+tells w l (ring c b r) = tells w l c ++ (joinEvent b r (length (w ++ (spell c ++ bond?S b))) ∷ [])
 tells w l (branch c k d) = tells w l c ++ (tells (w ++ (spell c ++ (byte "(" ∷ linkS k))) k d ++ (Pop (atoms d) ∷ []))
 
 -- A whole line begins as if after a dot.
-unfoldable pub meaning : Line → List Event
+unfoldable pub meaning : Line → List ReadEvent
 meaning t = tells [] dot t

@@ -8,7 +8,7 @@ use Rattle.feature.specs.Text.{byte, bytes}
 use Rattle.read_token.specs.declared.scanner.Missing.{Missing}
 use Rattle.read_token.specs.declared.scanner.Missing.the-variants.{EndOfLine, Character}
 use Rattle.builder.specs.Limits.{branchLimit}
-use Rattle.read_line.specs.Events.{Event, Enter, Join, Pop, Miss, Nest}
+use Rattle.read_line.specs.Events.{ReadEvent, Enter, Join, Pop, Miss, Nest}
 use Rattle.read_line.specs.Parse.{parse}
 use Rattle.grammar.specs.Grammar.{Line, start, link, ring, branch, spell, meaning}
 
@@ -33,7 +33,7 @@ unfoldable pub Viable : List ℕ → Type 0
 Viable p = (t : Line) × (w : List ℕ) × (spell t ≡ p ++ w)
 
 -- A text is wrong at a place: the bytes before it can begin a line, and with the byte that stands there they can't.
-pub record Refused (s : List ℕ) (n : ℕ) : Type 0 where
+pub record WrongAt (s : List ℕ) (n : ℕ) : Type 0 where
   pub before : List ℕ
   pub byte : ℕ
   pub behind : List ℕ
@@ -47,7 +47,7 @@ pub data Eaten (p : List ℕ) : Type 0 where
   afterTB : (u : List ℕ) → p ≡ u ++ bytes "@TB" → Eaten p
   afterOH : (u : List ℕ) → p ≡ u ++ bytes "@OH" → Eaten p
 
-unfoldable pub Late : {s : List ℕ} {n : ℕ} → Refused s n → Type 0
+unfoldable pub Late : {s : List ℕ} {n : ℕ} → WrongAt s n → Type 0
 Late r = Eaten (r .before) × (r .byte < 128)
 
 -- so the place is one late, and the end of the line if the byte is the last
@@ -70,15 +70,15 @@ pub record TooDeep (s : List ℕ) (n : ℕ) : Type 0 where
   pub deep : (t : Line) (w : List ℕ) → spell t ≡ before ++ (byte ∷ w) → ¬ Fits branchLimit t
 
 -- What a text's events are, by what the text is: a tree's meaning, or some events and one refusal.
-pub data Verdict (s : List ℕ) (es : List Event) : Type 0 where
+pub data Verdict (s : List ℕ) (es : List ReadEvent) : Type 0 where
   reads : (t : Line) → spell t ≡ s → Fits branchLimit t → es ≡ meaning t → Verdict s es
-  ends : (told : List Event) → es ≡ told ++ (Miss EndOfLine ∷ []) → Viable s → ¬ Spelled s → Verdict s es
-  refuses : (n : ℕ) (told : List Event) → es ≡ told ++ (Miss (Character n) ∷ []) → (r : Refused s n) → ¬ Late r → Verdict s es
-  refusesLate : (n : ℕ) (told : List Event) (r : Refused s n) → es ≡ told ++ (Miss (lateMissing n (r .behind)) ∷ []) → Late r → Verdict s es
-  nests : (n : ℕ) (told : List Event) → es ≡ told ++ (Nest n ∷ []) → TooDeep s n → Verdict s es
+  ends : (told : List ReadEvent) → es ≡ told ++ (Miss EndOfLine ∷ []) → Viable s → ¬ Spelled s → Verdict s es
+  refuses : (n : ℕ) (told : List ReadEvent) → es ≡ told ++ (Miss (Character n) ∷ []) → (r : WrongAt s n) → ¬ Late r → Verdict s es
+  refusesLate : (n : ℕ) (told : List ReadEvent) (r : WrongAt s n) → es ≡ told ++ (Miss (lateMissing n (r .behind)) ∷ []) → Late r → Verdict s es
+  nests : (n : ℕ) (told : List ReadEvent) → es ≡ told ++ (Nest n ∷ []) → TooDeep s n → Verdict s es
 
 -- Events without a refusal.
-unfoldable pub Clean : List Event → Type 0
+unfoldable pub Clean : List ReadEvent → Type 0
 Clean [] = Unit {0}
 Clean (Enter l k n ∷ es) = Clean es
 Clean (Join k r n ∷ es) = Clean es
@@ -87,8 +87,8 @@ Clean (Miss m ∷ es) = ⊥
 Clean (Nest n ∷ es) = ⊥
 
 -- Events that end so.
-unfoldable pub Ends : List Event → Event → Type 0
-Ends es x = (told : List Event) × (es ≡ told ++ (x ∷ []))
+unfoldable pub Ends : List ReadEvent → ReadEvent → Type 0
+Ends es x = (told : List ReadEvent) × (es ≡ told ++ (x ∷ []))
 
 -- A text that goes too deep before anything else is wrong with it, and is refused for that.
 unfoldable pub Nests : List ℕ → Type 0

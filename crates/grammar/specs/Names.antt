@@ -43,7 +43,7 @@ place2 a b (list._∷_ (one x) l) = suc (place2 a b l)
 place2 a b (list._∷_ (two x y) l) = pick (eqb a x) (pick (eqb b y) 0 (suc (place2 a b l))) (suc (place2 a b l))
 
 -- The names of a table that another lacks.
-unfoldable pub without : List Name → List Name → List Name
-without list.[] l = list.[]
-without (list._∷_ (one x) k) l = pick (has1 x l) (without k l) (list._∷_ (one x) (without k l))
-without (list._∷_ (two x y) k) l = pick (has2 x y l) (without k l) (list._∷_ (two x y) (without k l))
+unfoldable pub lackedNames : List Name → List Name → List Name
+lackedNames list.[] l = list.[]
+lackedNames (list._∷_ (one x) k) l = pick (has1 x l) (lackedNames k l) (list._∷_ (one x) (lackedNames k l))
+lackedNames (list._∷_ (two x y) k) l = pick (has2 x y l) (lackedNames k l) (list._∷_ (two x y) (lackedNames k l))

@@ -15,9 +15,9 @@ use Rattle.feature.specs.Kinds.{noNumber, noCharge, noConfiguration, th1, th2}
 use Rattle.feature.specs.Kinds as kinds
 use Rattle.feature.specs.declared.atom_kind.AtomKind.{AtomKind}
 use Rattle.feature.specs.declared.atom_kind.AtomKind.the-variants.{Bracket}
-use Rattle.read_line.specs.Events.{Event, Enter, Pop}
+use Rattle.read_line.specs.Events.{ReadEvent, Enter, Pop}
 use Rattle.grammar.specs.Names.{Name, table, has1, has2}
-use Rattle.grammar.specs.Grammar.{Digit, value, digitS, worth, Bond, bond?S, Organic, bare1, bare2, organicS, organicK, Symbol, short, long, symbolS, symbolK, Class, TH, AL, SP, TB, OH, class1, class2, valid1, valid2, base, Hcount, bald, H, Hn, hcountS, hcountK, head, Sign, signS, signed, okay1, okay2, Atom, organic, bracket, Rnum, rnumS, Link, linkS, linkK, Line, start, link, ring, branch, join, dot}
+use Rattle.grammar.specs.Grammar.{Digit, value, digitS, worth, BondSign, bond?S, Organic, bare1, bare2, organicS, organicK, Symbol, short, long, symbolS, symbolK, Class, TH, AL, SP, TB, OH, class1, class2, valid1, valid2, base, Hcount, bald, H, Hn, hcountS, hcountK, head, Sign, signS, signed, okay1, okay2, Atom, organic, bracket, Rnum, rnumS, Link, linkS, linkK, Line, start, link, ring, branch, joinEvent, dot}
 
 -- ---- TABLES
 -- Without brackets: aliphatic_organic, aromatic_organic, "*". Departure "bare At, Ts": the reader takes these two as well.
@@ -92,7 +92,7 @@ pub data Atom′ : Type 0 where
 -- ringbond*
 pub data Rings : Type 0 where
   no-rings : Rings
-  and-ring : Rings → Option Bond → Rnum → Rings
+  and-ring : Rings → Option BondSign → Rnum → Rings
 
 mutual
   -- chain ::= branched_atom | chain branched_atom | chain bond branched_atom | chain dot branched_atom
@@ -121,9 +121,9 @@ terminatorS feed = 10
 terminatorS return = 13
 
 -- ---- SPELLING
-unfoldable pub numberS : List Digit → List ℕ
-numberS [] = []
-numberS (d ∷ ds) = digitS d ∷ numberS ds
+unfoldable pub digitsS : List Digit → List ℕ
+digitsS [] = []
+digitsS (d ∷ ds) = digitS d ∷ digitsS ds
 
 unfoldable pub chiralS′ : Chiral′ → List ℕ
 chiralS′ flat′ = []
@@ -142,11 +142,11 @@ chargeS′ (digits′ g d e) = signS g ∷ digitS d ∷ digitS e ∷ []
 
 unfoldable pub classS′ : List Digit → List ℕ
 classS′ [] = []
-classS′ (d ∷ ds) = byte ":" ∷ numberS (d ∷ ds)
+classS′ (d ∷ ds) = byte ":" ∷ digitsS (d ∷ ds)
 
 unfoldable pub atomS′ : Atom′ → List ℕ
 atomS′ (organic′ o k) = organicS o
-atomS′ (bracket′ i s c h k q m) = byte "[" ∷ (numberS i ++ (symbolS s ++ (chiralS′ c ++ (hcountS h ++ (chargeS′ q ++ (classS′ m ++ (byte "]" ∷ [])))))))
+atomS′ (bracket′ i s c h k q m) = byte "[" ∷ (digitsS i ++ (symbolS s ++ (chiralS′ c ++ (hcountS h ++ (chargeS′ q ++ (classS′ m ++ (byte "]" ∷ [])))))))
 
 unfoldable pub ringsS : Rings → List ℕ
 ringsS no-rings = []
@@ -188,31 +188,31 @@ chargeK′ (digits′ g d e) = signed g (10 * value d + value e)
 
 unfoldable pub atomK′ : Atom′ → AtomKind
 atomK′ (organic′ o k) = organicK o
-atomK′ (bracket′ i s c h k q m) = Bracket (kinds.bracket (numberK i) (symbolK s) (chiralK′ c) (hcountK h) (chargeK′ q) (numberK m))
+atomK′ (bracket′ i s c h k q m) = Bracket (kinds.bracketOfSix (numberK i) (symbolK s) (chiralK′ c) (hcountK h) (chargeK′ q) (numberK m))
 
 -- The atoms along a chain, its branches left out.
 unfoldable pub along : Chain → ℕ
 along (first b) = 1
 along (then c l b) = along c + 1
 
-unfoldable pub ringsE : List ℕ → Rings → List Event
+unfoldable pub ringsE : List ℕ → Rings → List ReadEvent
 ringsE w no-rings = []
-ringsE w (and-ring rs b r) = ringsE w rs ++ (join b r (length (w ++ (ringsS rs ++ bond?S b))) ∷ [])
+ringsE w (and-ring rs b r) = ringsE w rs ++ (joinEvent b r (length (w ++ (ringsS rs ++ bond?S b))) ∷ [])
 
 -- An atom by its link, then its ring numbers, then its branches, then the atom that follows; each after the text before it.
 unfoldable mutual
-  pub chainE : List ℕ → Link → Chain → List Event
+  pub chainE : List ℕ → Link → Chain → List ReadEvent
   chainE w l (first b) = branchedE w l b
   chainE w l (then c k b) = chainE w l c ++ branchedE (w ++ (chainS c ++ linkS k)) k b
 
-  pub branchedE : List ℕ → Link → Branched → List Event
+  pub branchedE : List ℕ → Link → Branched → List ReadEvent
   branchedE w l (branched a rs bs) = Enter (linkK l) (atomK′ a) (length w) ∷ (ringsE (w ++ atomS′ a) rs ++ branchesE (w ++ (atomS′ a ++ ringsS rs)) bs)
 
-  pub branchesE : List ℕ → Branches → List Event
+  pub branchesE : List ℕ → Branches → List ReadEvent
   branchesE w no-branches = []
   branchesE w (and-branch bs l c) = branchesE w bs ++ (chainE (w ++ (branchesS bs ++ (byte "(" ∷ linkS l))) l c ++ (Pop (along c) ∷ []))
 
-unfoldable pub says : Chain → List Event
+unfoldable pub says : Chain → List ReadEvent
 says u = chainE [] dot u
 
 -- ---- WHAT OPENSMILES HAS AND THE READER REFUSES

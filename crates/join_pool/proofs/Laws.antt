@@ -11,24 +11,24 @@ use lib.Dec.{eqb}
 use borrow.Author.Tests.{eq-eqb, ne-eqb, lt-ltb, le-ltb}
 use Rattle.join_pool.specs.declared.Pool.{Pool}
 use Rattle.join_pool.specs.declared.Given.the-variants.{Number, Full}
-use Rattle.join_pool.specs.Pairs.{highest, slotWords, pool, opens, numberOf, slot, counterOf, nextOf, hits, openOf, closeOf, calledOf, pairOf}
+use Rattle.join_pool.specs.Pairs.{highest, slotWords, pool, opens, openNumber, slot, counterOf, nextOf, hits, openOf, closeOf, openOrClose, hitPair}
 
 -- ---- the search, which goes down
-pub number-some : (pairs : List ℕ) (lo hi n : ℕ) → 0 < n → opens pairs n lo hi ≡ true → numberOf pairs lo hi n ≡ n
-unfolding numberOf
+pub number-some : (pairs : List ℕ) (lo hi n : ℕ) → 0 < n → opens pairs n lo hi ≡ true → openNumber pairs lo hi n ≡ n
+unfolding openNumber
 number-some pairs lo hi zero h e = absurd (omega arith)
 number-some pairs lo hi (suc n) h e = simp e
 
 pub number-less : (pairs : List ℕ) (lo hi n : ℕ) → 0 < n → opens pairs n lo hi ≡ false
-    → numberOf pairs lo hi n ≡ numberOf pairs lo hi (n - 1)
-unfolding numberOf
+    → openNumber pairs lo hi n ≡ openNumber pairs lo hi (n - 1)
+unfolding openNumber
 number-less pairs lo hi zero h e = absurd (omega arith)
 number-less pairs lo hi (suc n) h e =
     let k : suc n - 1 ≡ n = omega arith in
     simp (e, k)
 
-pub number-none : (pairs : List ℕ) (lo hi n : ℕ) → n ≡ 0 → numberOf pairs lo hi n ≡ 0
-unfolding numberOf
+pub number-none : (pairs : List ℕ) (lo hi n : ℕ) → n ≡ 0 → openNumber pairs lo hi n ≡ 0
+unfolding openNumber
 number-none pairs lo hi n e = rw e
 
 pub opens-last : (pairs : List ℕ) (n lo hi x y z : ℕ) → x ≡ getD pairs (n * slotWords) 0 → y ≡ getD pairs (n * slotWords + 1) 0 → z ≡ getD pairs (n * slotWords + 2) 0 → x ≡ 1 → y ≡ lo → eqb z hi ≡ opens pairs n lo hi
@@ -75,10 +75,10 @@ module _ (p : Pool) (pairs : List ℕ) (lo hi : ℕ) where
       ap (λ (x : List ℕ). hits (Number (pool k 0) n) x) f
       ∙ simp (g, e, le-ltb _ _ (rw e at h))
 
-  pub call-open : (n : ℕ) → n ≡ numberOf pairs lo hi (p .counter) → n ≡ 0 → openOf p pairs lo hi ≡ pairOf p pairs lo hi
-  unfolding pairOf calledOf
+  pub call-open : (n : ℕ) → n ≡ openNumber pairs lo hi (p .counter) → n ≡ 0 → openOf p pairs lo hi ≡ hitPair p pairs lo hi
+  unfolding hitPair openOrClose
   call-open n e h = simp (eq-eqb _ _ (sym e ∙ h))
 
-  pub call-close : (n : ℕ) → n ≡ numberOf pairs lo hi (p .counter) → (n ≡ 0 → ⊥) → closeOf p pairs n ≡ pairOf p pairs lo hi
-  unfolding pairOf calledOf
+  pub call-close : (n : ℕ) → n ≡ openNumber pairs lo hi (p .counter) → (n ≡ 0 → ⊥) → closeOf p pairs n ≡ hitPair p pairs lo hi
+  unfolding hitPair openOrClose
   call-close n e h = simp (e, ne-eqb _ _ (λ z. h (e ∙ z)))

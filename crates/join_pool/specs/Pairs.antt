@@ -36,20 +36,20 @@ opens pairs n lo hi =
     (both (eqb (getD pairs (n * slotWords + 1) 0) lo) (eqb (getD pairs (n * slotWords + 2) 0) hi))
 
 -- the number up to n that is open for the pair, 0 for none
-unfoldable pub numberOf : List ℕ → ℕ → ℕ → ℕ → ℕ
-numberOf pairs lo hi zero = 0
-numberOf pairs lo hi (suc n) = pick (opens pairs (suc n) lo hi) (suc n) (numberOf pairs lo hi n)
+unfoldable pub openNumber : List ℕ → ℕ → ℕ → ℕ → ℕ
+openNumber pairs lo hi zero = 0
+openNumber pairs lo hi (suc n) = pick (opens pairs (suc n) lo hi) (suc n) (openNumber pairs lo hi n)
 
 -- other words for the number n
 unfoldable pub slot : List ℕ → ℕ → ℕ → ℕ → ℕ → List ℕ
 slot pairs n x lo hi = sets pairs (n * slotWords) (x ∷ lo ∷ hi ∷ [])
 
-unfoldable pub grown : ℕ → ℕ
-grown c = pick (ltb highest c) c (c + 1)
+unfoldable pub counterNext : ℕ → ℕ
+counterNext c = pick (ltb highest c) c (c + 1)
 
 -- the counter after a call, opening or closing
 unfoldable pub counterOf : Pool → ℕ
-counterOf p = pick (eqb (p .spare) 0) (grown (p .counter)) (p .counter)
+counterOf p = pick (eqb (p .spare) 0) (counterNext (p .counter)) (p .counter)
 
 -- the number that an opening takes
 unfoldable pub nextOf : Pool → ℕ
@@ -71,12 +71,12 @@ openOf p pairs lo hi =
 unfoldable pub closeOf : Pool → List ℕ → ℕ → Hits
 closeOf p pairs r = hits (Number (pool (counterOf p) r) r) (slot pairs r 0 0 0)
 
-unfoldable pub calledOf : Pool → List ℕ → ℕ → ℕ → ℕ → Hits
-calledOf p pairs lo hi r = pick (eqb r 0) (openOf p pairs lo hi) (closeOf p pairs r)
+unfoldable pub openOrClose : Pool → List ℕ → ℕ → ℕ → ℕ → Hits
+openOrClose p pairs lo hi r = pick (eqb r 0) (openOf p pairs lo hi) (closeOf p pairs r)
 
-unfoldable pub pairOf : Pool → List ℕ → ℕ → ℕ → Hits
-pairOf p pairs lo hi = calledOf p pairs lo hi (numberOf pairs lo hi (p .counter))
+unfoldable pub hitPair : Pool → List ℕ → ℕ → ℕ → Hits
+hitPair p pairs lo hi = openOrClose p pairs lo hi (openNumber pairs lo hi (p .counter))
 
 -- a call for the pair of a and b
 unfoldable pub hitOf : Pool → List ℕ → ℕ → ℕ → Hits
-hitOf p pairs a b = pick (ltb a b) (pairOf p pairs a b) (pairOf p pairs b a)
+hitOf p pairs a b = pick (ltb a b) (hitPair p pairs a b) (hitPair p pairs b a)

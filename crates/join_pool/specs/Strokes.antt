@@ -4,11 +4,11 @@ use Rattle.join_pool.specs.declared.Given.{Given}
 use Rattle.join_pool.specs.declared.Given.the-variants.{Number, Full}
 use Rattle.join_pool.specs.declared.lent.Told.{Told}
 use Rattle.join_pool.specs.declared.lent.Told.the-variants as told
-use Rattle.join_pool.specs.declared.lent.Stroke.{Stroke}
+use Rattle.join_pool.specs.declared.lent.PoolAnswer.{PoolAnswer}
 
-abbrev pub stroke : Pool → Told → Stroke
-stroke p t = record { pool = p; told = t }
+abbrev pub withAnswer : Pool → Told → PoolAnswer
+withAnswer p t = record { pool = p; told = t }
 
-unfoldable pub strokeOf : Pool → Given → Stroke
-strokeOf p (Number q n) = stroke q (told.Number n)
-strokeOf p Full = stroke p told.Full
+unfoldable pub answerApart : Pool → Given → PoolAnswer
+answerApart p (Number q n) = withAnswer q (told.Number n)
+answerApart p Full = withAnswer p told.Full

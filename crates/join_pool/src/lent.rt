@@ -2,7 +2,7 @@
 // value.
 ghost use mathlib.Core.Path.{_≡_};
 ghost use Rattle.join_pool.specs.Pairs.{hitOf};
-ghost use Rattle.join_pool.specs.Strokes.{stroke, strokeOf};
+ghost use Rattle.join_pool.specs.Strokes.{withAnswer, answerApart};
 use crate::Given;
 use crate::Pool;
 
@@ -12,21 +12,21 @@ pub enum Told {
     Full,
 }
 
-pub struct Stroke {
+pub struct PoolAnswer {
     pub pool: Pool,
     pub told: Told,
 }
 
 // The call by value; a refused one leaves the pool as it was.
-fn strike(pairs: &mut [u32], p: Pool, a: u32, b: u32) -> Stroke
-    ensures { λ r. ⌜ (r ≡ strokeOf p (hitOf p (now (pairs .entry)) a b .answer)) × (now (pairs .exit) ≡ hitOf p (now (pairs .entry)) a b .left) ⌝ }
+fn hit_by_value(pairs: &mut [u32], p: Pool, a: u32, b: u32) -> PoolAnswer
+    ensures { λ r. ⌜ (r ≡ answerApart p (hitOf p (now (pairs .entry)) a b .answer)) × (now (pairs .exit) ≡ hitOf p (now (pairs .entry)) a b .left) ⌝ }
 {
     match crate::hit(pairs, p, a, b) {
-        Given::Number(q, n) => Stroke {
+        Given::Number(q, n) => PoolAnswer {
             pool: q,
             told: Told::Number(n),
         },
-        Given::Full => Stroke {
+        Given::Full => PoolAnswer {
             pool: p,
             told: Told::Full,
         },
@@ -35,9 +35,9 @@ fn strike(pairs: &mut [u32], p: Pool, a: u32, b: u32) -> Stroke
 
 // A call for the pair of two atoms.
 pub fn hit(pool: &mut Pool, pairs: &mut [u32], a: u32, b: u32) -> Told
-    ensures { λ r. ⌜ (stroke (now (pool .exit)) r ≡ strokeOf (now (pool .entry)) (hitOf (now (pool .entry)) (now (pairs .entry)) a b .answer)) × (now (pairs .exit) ≡ hitOf (now (pool .entry)) (now (pairs .entry)) a b .left) ⌝ }
+    ensures { λ r. ⌜ (withAnswer (now (pool .exit)) r ≡ answerApart (now (pool .entry)) (hitOf (now (pool .entry)) (now (pairs .entry)) a b .answer)) × (now (pairs .exit) ≡ hitOf (now (pool .entry)) (now (pairs .entry)) a b .left) ⌝ }
 {
-    let s = strike(pairs, *pool, a, b);
+    let s = hit_by_value(pairs, *pool, a, b);
     *pool = s.pool;
     s.told
 }

@@ -7,7 +7,7 @@
 // lent: the same of a pool that is lent.
 ghost use mathlib.Core.Path.{_≡_};
 ghost use lib.ListN.{length, replicate};
-ghost use Rattle.join_pool.specs.Pairs.{emptyOf, opens, numberOf, slot, counterOf, nextOf, hits, openOf, closeOf, pairOf, hitOf};
+ghost use Rattle.join_pool.specs.Pairs.{emptyOf, opens, openNumber, slot, counterOf, nextOf, hits, openOf, closeOf, hitPair, hitOf};
 use packing::look;
 use packing::poke;
 
@@ -54,7 +54,7 @@ fn is_open(pairs: &[u32], number: u32, lower: u32, higher: u32) -> bool
 
 // The number up to n that is open for a pair, or 0.
 pub fn find(pairs: &[u32], n: u32, lower: u32, higher: u32) -> u32
-    ensures { λ r. ⌜ r ≡ numberOf (now (pairs .entry)) lower higher n ⌝ }
+    ensures { λ r. ⌜ r ≡ openNumber (now (pairs .entry)) lower higher n ⌝ }
 {
     let mut number = n;
     while number > 0 {
@@ -152,7 +152,7 @@ fn close(pairs: &mut [u32], p: Pool, number: u32) -> Given
 
 // A call for a pair, the lower atom first.
 fn call(pairs: &mut [u32], p: Pool, lower: u32, higher: u32) -> Given
-    ensures { λ r. ⌜ hits r (now (pairs .exit)) ≡ pairOf p (now (pairs .entry)) lower higher ⌝ }
+    ensures { λ r. ⌜ hits r (now (pairs .exit)) ≡ hitPair p (now (pairs .entry)) lower higher ⌝ }
 {
     let number = find(pairs, p.counter, lower, higher);
     if number == 0 {

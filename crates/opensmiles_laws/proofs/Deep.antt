@@ -12,7 +12,7 @@ use Rattle.feature.specs.Pick.{pick}
 use Rattle.feature.specs.Text.{byte}
 use Rattle.read_token.specs.declared.scanner.Missing.{Missing}
 use Rattle.builder.specs.Limits.{branchLimit}
-use Rattle.read_line.specs.Events.{Event, Enter, Join, Pop, Miss, Nest}
+use Rattle.read_line.specs.Events.{ReadEvent, Enter, Join, Pop, Miss, Nest}
 use Rattle.read_line.specs.Parse.{parse}
 use Rattle.grammar.specs.Names.{has1}
 use Rattle.grammar.specs.Grammar.{d0, organics, bare1, Atom, organic, Line, ring, ring2, branch, spell, atomS, rnumS, digitS}
@@ -56,19 +56,19 @@ fitting (percent k c x) h = fitting-cut _ (digitS d0 ∷ digitS d0 ∷ []) (simp
 fitting (percent1 k c x d) h = fitting-cut _ (digitS d0 ∷ []) (simp append-assoc (fitting-body k (ring c x (ring2 d d0)) (h .0) (h .1)))
 
 -- ---- as far as a text is read it is within the limit, or it is refused before
-unfoldable pub Nested : List Event → ℕ → Type 0
-Nested es n = (told : List Event) × (m : ℕ) × (es ≡ told ++ (Nest m ∷ [])) × (m < n)
+unfoldable pub Nested : List ReadEvent → ℕ → Type 0
+Nested es n = (told : List ReadEvent) × (m : ℕ) × (es ≡ told ++ (Nest m ∷ [])) × (m < n)
 
 pub fit-full : (q bs : List ℕ) (u v : State) (n : ℕ) → steps u q ≡ some v → Fit u → Nested (full u n (q ++ bs)) (n + length q) ⊎ (Fit v × (full u n (q ++ bs) ≡ full v (n + length q) bs))
 unfolding steps chain full Nested
 fit-full [] bs u v n e h = let g : u ≡ v = cc in inr (subst Fit g h, ap₂ (λ (x : State) (i : ℕ). full x i bs) g (omega arith))
 fit-full (b ∷ q) bs u v n e h = by (step u b) refl e (λ t g f. fit-full q bs t v (n + 1) g f)
   where
-    Rest : List Event → Type 0
-    Rest es = ((told : List Event) × (m : ℕ) × (es ≡ told ++ (Nest m ∷ [])) × (m < n + length (b ∷ q))) ⊎ (Fit v × (es ≡ full v (n + length (b ∷ q)) bs))
+    Rest : List ReadEvent → Type 0
+    Rest es = ((told : List ReadEvent) × (m : ℕ) × (es ≡ told ++ (Nest m ∷ [])) × (m < n + length (b ∷ q))) ⊎ (Fit v × (es ≡ full v (n + length (b ∷ q)) bs))
 
     by : (o : Option State) → step u b ≡ o → chain o (λ t. steps t q) ≡ some v
-        → ((t : State) → steps t q ≡ some v → Fit t → ((told : List Event) × (m : ℕ) × (full t (n + 1) (q ++ bs) ≡ told ++ (Nest m ∷ [])) × (m < n + 1 + length q)) ⊎ (Fit v × (full t (n + 1) (q ++ bs) ≡ full v (n + 1 + length q) bs)))
+        → ((t : State) → steps t q ≡ some v → Fit t → ((told : List ReadEvent) × (m : ℕ) × (full t (n + 1) (q ++ bs) ≡ told ++ (Nest m ∷ [])) × (m < n + 1 + length q)) ⊎ (Fit v × (full t (n + 1) (q ++ bs) ≡ full v (n + 1 + length q) bs)))
         → Rest (onward o (told u ++ (Miss (refusal u n b (q ++ bs)) ∷ [])) (told u ++ (Nest n ∷ [])) (λ t. full t (n + 1) (q ++ bs)))
     by none i g go = let z : _≡_ {A = ℕ} 0 1 = cc in absurd (omega arith)
     by (some t) i g go = unfold onward in deeper (deep t) refl
@@ -77,7 +77,7 @@ fit-full (b ∷ q) bs u v n e h = by (step u b) refl e (λ t g f. fit-full q bs 
         deeper true d = inl (told u, n, refl, omega arith)
         deeper false d = later (go t g (fit-next u t b i d h))
           where
-            later : ((told : List Event) × (m : ℕ) × (full t (n + 1) (q ++ bs) ≡ told ++ (Nest m ∷ [])) × (m < n + 1 + length q)) ⊎ (Fit v × (full t (n + 1) (q ++ bs) ≡ full v (n + 1 + length q) bs)) → Rest (full t (n + 1) (q ++ bs))
+            later : ((told : List ReadEvent) × (m : ℕ) × (full t (n + 1) (q ++ bs) ≡ told ++ (Nest m ∷ [])) × (m < n + 1 + length q)) ⊎ (Fit v × (full t (n + 1) (q ++ bs) ≡ full v (n + 1 + length q) bs)) → Rest (full t (n + 1) (q ++ bs))
             later (inl y) = inl (y .0, y .1, y .2, omega (arith, y .3))
             later (inr y) = inr (y .0, y .1 ∙ ap (λ (i : ℕ). full v i bs) (omega arith))
 
@@ -104,12 +104,12 @@ deep-nests s h n d = by (fit-full q (d .behind) zero-state v 0 e (unfold zero-st
     no : Fit v → ⊥
     no f = let w = fitting v f in unfold Fitting in d .deep (w .0) (w .1) (w .2 ∙ ap (λ (x : List ℕ). x ++ w .1) (reached q v e) ∙ append-assoc (d .before) (d .byte ∷ []) (w .1)) (w .3)
 
-    by : ((told : List Event) × (m : ℕ) × (full zero-state 0 (q ++ d .behind) ≡ told ++ (Nest m ∷ [])) × (m < 0 + length q)) ⊎ (Fit v × (full zero-state 0 (q ++ d .behind) ≡ full v (0 + length q) (d .behind))) → (m : ℕ) × ((told : List Event) × (parse s ≡ told ++ (Nest m ∷ []))) × (m ≤ n)
+    by : ((told : List ReadEvent) × (m : ℕ) × (full zero-state 0 (q ++ d .behind) ≡ told ++ (Nest m ∷ [])) × (m < 0 + length q)) ⊎ (Fit v × (full zero-state 0 (q ++ d .behind) ≡ full v (0 + length q) (d .behind))) → (m : ℕ) × ((told : List ReadEvent) × (parse s ≡ told ++ (Nest m ∷ []))) × (m ≤ n)
     by (inl y) = (y .1, (y .0, parsed ∙ y .2), omega (arith, y .3, length-append (d .before) (d .byte ∷ []), d .place))
     by (inr f) = absurd (no (f .0))
 
 -- ---- a refusal is the last event
-unfoldable pub Tidy : List Event → Type 0
+unfoldable pub Tidy : List ReadEvent → Type 0
 Tidy [] = Unit {0}
 Tidy (Enter l k at ∷ es) = Tidy es
 Tidy (Join e r at ∷ es) = Tidy es
@@ -117,7 +117,7 @@ Tidy (Pop i ∷ es) = Tidy es
 Tidy (Miss x ∷ es) = es ≡ []
 Tidy (Nest at ∷ es) = es ≡ []
 
-tidy-append : (xs ys : List Event) → Clean xs → Tidy ys → Tidy (xs ++ ys)
+tidy-append : (xs ys : List ReadEvent) → Clean xs → Tidy ys → Tidy (xs ++ ys)
 unfolding Tidy Clean
 tidy-append [] ys c t = t
 tidy-append (Enter l k at ∷ xs) ys c t = tidy-append xs ys c t
@@ -173,8 +173,8 @@ pub tidy-parse : (s : List ℕ) → Bytes s → Tidy (parse s)
 tidy-parse s h = rw (parse-full s h) (tidy-full s (want (begin top)) 0)
 
 -- what a tidy list of events holds after a refusal
-module _ (x : Missing) (after : List Event) where
-  pub tidy-miss : (before : List Event) → Tidy (before ++ (Miss x ∷ after)) → after ≡ []
+module _ (x : Missing) (after : List ReadEvent) where
+  pub tidy-miss : (before : List ReadEvent) → Tidy (before ++ (Miss x ∷ after)) → after ≡ []
   unfolding Tidy
   tidy-miss [] t = t
   tidy-miss (Enter l k at ∷ es) t = tidy-miss es t
@@ -185,8 +185,8 @@ module _ (x : Missing) (after : List Event) where
   tidy-miss (Nest at ∷ []) t = let z : _≡_ {A = ℕ} 0 1 = cc in absurd (omega arith)
   tidy-miss (Nest at ∷ (e ∷ es)) t = let z : _≡_ {A = ℕ} 0 1 = cc in absurd (omega arith)
 
-module _ (n : ℕ) (after : List Event) where
-  pub tidy-nest : (before : List Event) → Tidy (before ++ (Nest n ∷ after)) → after ≡ []
+module _ (n : ℕ) (after : List ReadEvent) where
+  pub tidy-nest : (before : List ReadEvent) → Tidy (before ++ (Nest n ∷ after)) → after ≡ []
   unfolding Tidy
   tidy-nest [] t = t
   tidy-nest (Enter l k at ∷ es) t = tidy-nest es t

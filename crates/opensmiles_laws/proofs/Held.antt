@@ -11,10 +11,10 @@ use Rattle.feature.specs.declared.atom_kind.AtomKind.the-variants.{Star}
 use Rattle.feature.specs.declared.bond_kind.BondKind.{BondKind}
 use Rattle.read_line.specs.declared.lead.Lead.{Lead}
 use Rattle.read_line.specs.declared.lead.Lead.the-variants.{Dot, Bond}
-use Rattle.read_line.specs.Events.{Event, Enter, Join, Pop, Miss, Nest}
+use Rattle.read_line.specs.Events.{ReadEvent, Enter, Join, Pop, Miss, Nest}
 use Rattle.builder_meaning.specs.Sketch.{Edge, Node, Held, node, upd, edgesAt, addEdge, fill, lookup, firstOpenS}
 use Rattle.grammar.specs.OpenSmiles.{Chain, says}
-use Rattle.opensmiles_laws.specs.Molecule.{Molecule, molecule, placed, closed, ringed, numbered, asWritten, asHeld, told, next, tellAll, moleculeOf, neighbours, kinds, kindTold, kindsTold, Allowed, Meant, HeldFor}
+use Rattle.opensmiles_laws.specs.Molecule.{Molecule, molecule, atomPlaced, closed, moleculeRinged, numbered, asWritten, asHeld, moleculeTold, next, tellAll, moleculeOf, neighbours, nodeKinds, kindTold, kindsTold, Allowed, Meant, HeldFor}
 
 -- ---- a molecule without its kinds
 bare : Lead → AtomKind → AtomKind
@@ -65,8 +65,8 @@ unfolding fill clear
 clear-fill j k t n = refl
 
 -- ---- is told in the same way
-placed-erased : (m : Molecule) (l : Lead) (k : AtomKind) (at : List ℕ) → placed (eraseM m) l Star at ≡ erased (placed m l k at)
-unfolding placed erased eraseM erase clear
+placed-erased : (m : Molecule) (l : Lead) (k : AtomKind) (at : List ℕ) → atomPlaced (eraseM m) l Star at ≡ erased (atomPlaced m l k at)
+unfolding atomPlaced erased eraseM erase clear
 placed-erased m Dot k at = rw (erase-length (m .atoms), erase-append (m .atoms) (node k [] ∷ []))
 placed-erased m (Bond e) k [] = refl
 placed-erased m (Bond e) k (s ∷ at) = rw (erase-length (m .atoms), erase-append, erase-upd (addEdge _) (clear-add _) s (m .atoms))
@@ -77,8 +77,8 @@ closed-erased m n s h none = refl
 closed-erased m n s h (some k) =
     rw (erase-upd (fill (h .join) k s) (clear-fill (h .join) k s) (h .atom) (m .atoms), erase-upd (addEdge _) (clear-add _) s (upd (h .atom) (fill (h .join) k s) (m .atoms)))
 
-ringed-erased : (m : Molecule) (e : BondKind) (n s : ℕ) (o : Option Held) → ringed (eraseM m) e n s o ≡ erased (ringed m e n s o)
-unfolding ringed erased eraseM
+ringed-erased : (m : Molecule) (e : BondKind) (n s : ℕ) (o : Option Held) → moleculeRinged (eraseM m) e n s o ≡ erased (moleculeRinged m e n s o)
+unfolding moleculeRinged erased eraseM
 ringed-erased m e n s none = rw (erase-upd (addEdge _) (clear-add _) s (m .atoms))
 ringed-erased m e n s (some h) = rw (erase-edges (h .atom) (m .atoms)) (closed-erased m n s h _)
 
@@ -88,37 +88,37 @@ numbered-erased m e n [] = refl
 numbered-erased m e n (s ∷ at) = ringed-erased m e n s (lookup n (m .opens))
 
 module _ (hold : Lead → AtomKind → AtomKind) where
-  told-erased : (m : Molecule) (e : Event) → told bare (eraseM m) e ≡ erased (told hold m e)
-  unfolding told bare erased eraseM
+  told-erased : (m : Molecule) (e : ReadEvent) → moleculeTold bare (eraseM m) e ≡ erased (moleculeTold hold m e)
+  unfolding moleculeTold bare erased eraseM
   told-erased m (Enter l k place) = placed-erased m l (hold l k) (m .path)
   told-erased m (Join e n place) = numbered-erased m e n (m .path)
   told-erased m (Pop n) = refl
   told-erased m (Miss x) = refl
   told-erased m (Nest place) = refl
 
-  next-erased : (o : Option Molecule) (e : Event) → next bare (erased o) e ≡ erased (next hold o e)
+  next-erased : (o : Option Molecule) (e : ReadEvent) → next bare (erased o) e ≡ erased (next hold o e)
   unfolding next erased
   next-erased none e = refl
   next-erased (some m) e = told-erased m e
 
-  all-erased : (es : List Event) (o : Option Molecule) → tellAll bare (erased o) es ≡ erased (tellAll hold o es)
+  all-erased : (es : List ReadEvent) (o : Option Molecule) → tellAll bare (erased o) es ≡ erased (tellAll hold o es)
   unfolding tellAll
   all-erased [] o = refl
   all-erased (e ∷ es) o = rw (next-erased o e) (all-erased es (next hold o e))
 
-  molecule-erased : (es : List Event) → moleculeOf bare es ≡ erased (moleculeOf hold es)
+  molecule-erased : (es : List ReadEvent) → moleculeOf bare es ≡ erased (moleculeOf hold es)
   unfolding moleculeOf erased eraseM erase
   molecule-erased es = all-erased es (some (molecule [] [] [] 0))
 
 -- ---- the kinds
-kinds-upd : (f : Node → Node) → ((n : Node) → f n .kind ≡ n .kind) → (i : ℕ) (ns : List Node) → kinds (upd i f ns) ≡ kinds ns
-unfolding kinds upd
+kinds-upd : (f : Node → Node) → ((n : Node) → f n .kind ≡ n .kind) → (i : ℕ) (ns : List Node) → nodeKinds (upd i f ns) ≡ nodeKinds ns
+unfolding nodeKinds upd
 kinds-upd f h i [] = refl
 kinds-upd f h zero (n ∷ ns) = rw (h n)
 kinds-upd f h (suc i) (n ∷ ns) = rw (kinds-upd f h i ns)
 
-kinds-append : (ns ms : List Node) → kinds (ns ++ ms) ≡ kinds ns ++ kinds ms
-unfolding kinds
+kinds-append : (ns ms : List Node) → nodeKinds (ns ++ ms) ≡ nodeKinds ns ++ nodeKinds ms
+unfolding nodeKinds
 kinds-append [] ms = refl
 kinds-append (n ∷ ns) ms = rw (kinds-append ns ms)
 
@@ -133,50 +133,50 @@ kind-fill j k t n = refl
 -- a molecule with these kinds, if any
 Kinds : List AtomKind → Option Molecule → Type 0
 Kinds ks none = Unit {0}
-Kinds ks (some m) = kinds (m .atoms) ≡ ks
+Kinds ks (some m) = nodeKinds (m .atoms) ≡ ks
 
-placed-kinds : (m : Molecule) (l : Lead) (k : AtomKind) (at : List ℕ) → Kinds (kinds (m .atoms) ++ (k ∷ [])) (placed m l k at)
-unfolding placed Kinds kinds
+placed-kinds : (m : Molecule) (l : Lead) (k : AtomKind) (at : List ℕ) → Kinds (nodeKinds (m .atoms) ++ (k ∷ [])) (atomPlaced m l k at)
+unfolding atomPlaced Kinds nodeKinds
 placed-kinds m Dot k at = kinds-append (m .atoms) (node k [] ∷ [])
 placed-kinds m (Bond e) k [] = tt
 placed-kinds m (Bond e) k (s ∷ at) = rw (kinds-append, kinds-upd (addEdge _) (kind-add _) s (m .atoms))
 
-closed-kinds : (m : Molecule) (n s : ℕ) (h : Held) (o : Option BondKind) → Kinds (kinds (m .atoms)) (closed m n s h o)
+closed-kinds : (m : Molecule) (n s : ℕ) (h : Held) (o : Option BondKind) → Kinds (nodeKinds (m .atoms)) (closed m n s h o)
 unfolding closed Kinds
 closed-kinds m n s h none = tt
 closed-kinds m n s h (some k) = kinds-upd (addEdge _) (kind-add _) s _ ∙ kinds-upd (fill (h .join) k s) (kind-fill (h .join) k s) (h .atom) (m .atoms)
 
-ringed-kinds : (m : Molecule) (e : BondKind) (n s : ℕ) (o : Option Held) → Kinds (kinds (m .atoms)) (ringed m e n s o)
-unfolding ringed Kinds
+ringed-kinds : (m : Molecule) (e : BondKind) (n s : ℕ) (o : Option Held) → Kinds (nodeKinds (m .atoms)) (moleculeRinged m e n s o)
+unfolding moleculeRinged Kinds
 ringed-kinds m e n s none = kinds-upd (addEdge _) (kind-add _) s (m .atoms)
 ringed-kinds m e n s (some h) = closed-kinds m n s h _
 
-numbered-kinds : (m : Molecule) (e : BondKind) (n : ℕ) (at : List ℕ) → Kinds (kinds (m .atoms)) (numbered m e n at)
+numbered-kinds : (m : Molecule) (e : BondKind) (n : ℕ) (at : List ℕ) → Kinds (nodeKinds (m .atoms)) (numbered m e n at)
 unfolding numbered Kinds
 numbered-kinds m e n [] = tt
 numbered-kinds m e n (s ∷ at) = ringed-kinds m e n s (lookup n (m .opens))
 
 module _ (hold : Lead → AtomKind → AtomKind) where
-  told-kinds : (m : Molecule) (e : Event) → Kinds (kinds (m .atoms) ++ kindTold hold e) (told hold m e)
-  unfolding told kindTold Kinds
+  told-kinds : (m : Molecule) (e : ReadEvent) → Kinds (nodeKinds (m .atoms) ++ kindTold hold e) (moleculeTold hold m e)
+  unfolding moleculeTold kindTold Kinds
   told-kinds m (Enter l k place) = placed-kinds m l (hold l k) (m .path)
   told-kinds m (Join e n place) = rw append-nil (numbered-kinds m e n (m .path))
   told-kinds m (Pop n) = rw append-nil
   told-kinds m (Miss x) = tt
   told-kinds m (Nest place) = tt
 
-  next-kinds : (o : Option Molecule) (e : Event) (ks : List AtomKind) → Kinds ks o → Kinds (ks ++ kindTold hold e) (next hold o e)
+  next-kinds : (o : Option Molecule) (e : ReadEvent) (ks : List AtomKind) → Kinds ks o → Kinds (ks ++ kindTold hold e) (next hold o e)
   unfolding next Kinds
   next-kinds none e ks h = tt
   next-kinds (some m) e ks h = rw h at (told-kinds m e)
 
-  all-kinds : (es : List Event) (ks : List AtomKind) (o : Option Molecule) → Kinds ks o → Kinds (ks ++ kindsTold hold es) (tellAll hold o es)
+  all-kinds : (es : List ReadEvent) (ks : List AtomKind) (o : Option Molecule) → Kinds ks o → Kinds (ks ++ kindsTold hold es) (tellAll hold o es)
   unfolding tellAll kindsTold
   all-kinds [] ks o h = rw append-nil h
   all-kinds (e ∷ es) ks o h = rw append-assoc at (all-kinds es (ks ++ kindTold hold e) (next hold o e) (next-kinds o e ks h))
 
-  molecule-kinds : (es : List Event) (m : Molecule) → moleculeOf hold es ≡ some m → kinds (m .atoms) ≡ kindsTold hold es
-  unfolding moleculeOf Kinds kinds
+  molecule-kinds : (es : List ReadEvent) (m : Molecule) → moleculeOf hold es ≡ some m → nodeKinds (m .atoms) ≡ kindsTold hold es
+  unfolding moleculeOf Kinds nodeKinds
   molecule-kinds es m h = subst (Kinds (kindsTold hold es)) h (all-kinds es [] (some (molecule [] [] [] 0)) refl)
 
 -- ---- two molecules that differ in kinds alone
@@ -216,7 +216,7 @@ other none m h = absurd (let z : _≡_ {A = ℕ} 0 1 = cc in omega arith)
 other (some x) m h = (x, refl, unfold atomsIn in ap atomsIn h)
 
 -- held in one way and in another
-otherwise : (f g : Lead → AtomKind → AtomKind) (es : List Event) (m : Molecule) → moleculeOf f es ≡ some m
+otherwise : (f g : Lead → AtomKind → AtomKind) (es : List ReadEvent) (m : Molecule) → moleculeOf f es ≡ some m
     → (x : Molecule) × (moleculeOf g es ≡ some x) × (erase (x .atoms) ≡ erase (m .atoms))
 otherwise f g es m h = other (moleculeOf g es) m (sym (molecule-erased g es) ∙ molecule-erased f es ∙ ap erased h)
 
@@ -231,7 +231,7 @@ meant-held u meant m =
       record {
         around = same-neighbours (o .0 .atoms) meant e;
         here = molecule-kinds asHeld (says u) (o .0) (o .1);
-        there = ap kinds (sym (m .atoms)) ∙ molecule-kinds asWritten (says u) (m .whole) (m .is);
+        there = ap nodeKinds (sym (m .atoms)) ∙ molecule-kinds asWritten (says u) (m .whole) (m .is);
       },
     )
 

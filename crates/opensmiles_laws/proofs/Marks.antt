@@ -14,11 +14,11 @@ use Rattle.feature.specs.declared.atom_kind.Inverted.the-variants.{Turned, Refu
 use Rattle.feature.specs.declared.bond_kind.BondKind.{BondKind}
 use Rattle.feature.proofs.Cases.{by-test}
 use Rattle.read_line.specs.declared.lead.Lead.the-variants.{Dot, Bond}
-use Rattle.read_line.specs.Events.{Event, Enter, Join, Pop, Miss, Nest}
+use Rattle.read_line.specs.Events.{ReadEvent, Enter, Join, Pop, Miss, Nest}
 use Rattle.builder_meaning.specs.Sketch.{countOf}
 use Rattle.read.specs.declared.Answer.{Answer}
 use Rattle.read.specs.declared.Answer.the-variants as answer
-use Rattle.opensmiles_laws.specs.Molecule.{Molecule, asHeld, told}
+use Rattle.opensmiles_laws.specs.Molecule.{Molecule, asHeld, moleculeTold}
 use Rattle.opensmiles_laws.specs.Stops.{Unturnable, unturnable, Meets, no-place, no-slots, not-turned, no-slot, not-turned-after, ends, wrong, deep, Passes, countAll, Marked, Turnable, Stops}
 
 pub refused-unturnable : (k : AtomKind) → invertOf k ≡ Refused → Unturnable k
@@ -53,12 +53,12 @@ module _ (p l : ℕ) (m : Molecule) (n : ℕ) where
   bond-passes e k at h g u _ (no-slots _ _ _ _ _ y z) = omega arith
   bond-passes e k at h g u _ (not-turned _ _ _ _ _ x y z) = u z
 
-  pub join-passes : (e : BondKind) (r at : ℕ) → ((x : Molecule) → told asHeld m (Join e r at) ≡ some x → countOf (m .atoms) + 1 ≤ l) → Passes p l (some m) n (Join e r at)
+  pub join-passes : (e : BondKind) (r at : ℕ) → ((x : Molecule) → moleculeTold asHeld m (Join e r at) ≡ some x → countOf (m .atoms) + 1 ≤ l) → Passes p l (some m) n (Join e r at)
   unfolding Passes
   join-passes e r at h _ (no-slot _ x _ _ _ _ y z) = let g = h x y in omega arith
 
 -- where an event can meet something at all
-Busy : Option Molecule → Event → Type 0
+Busy : Option Molecule → ReadEvent → Type 0
 Busy (some m) (Enter l k at) = Unit {0}
 Busy none (Enter Dot k at) = ⊥
 Busy none (Enter (Bond e) k at) = Unit {0}
@@ -68,7 +68,7 @@ Busy o (Pop i) = ⊥
 Busy o (Miss x) = Unit {0}
 Busy o (Nest at) = Unit {0}
 
-busy : (p l : ℕ) (o : Option Molecule) (n : ℕ) (e : Event) (a : Answer) → Meets p l o n e a → Busy o e
+busy : (p l : ℕ) (o : Option Molecule) (n : ℕ) (e : ReadEvent) (a : Answer) → Meets p l o n e a → Busy o e
 unfolding Busy
 busy p l _ _ _ _ (no-place m n k at c h) = tt
 busy p l _ _ _ _ (no-slots m n e k at g z) = tt
@@ -104,7 +104,7 @@ unfolding Passes
 bond-after p l n e k at u _ (not-turned-after _ _ _ _ h) = u h
 
 -- an event meets one thing
-pub meets-one : (p l : ℕ) (o : Option Molecule) (n : ℕ) (e : Event) (a b : Answer) → Meets p l o n e a → Meets p l o n e b → a ≡ b
+pub meets-one : (p l : ℕ) (o : Option Molecule) (n : ℕ) (e : ReadEvent) (a b : Answer) → Meets p l o n e a → Meets p l o n e b → a ≡ b
 meets-one p l _ _ _ _ _ (no-place m n k at c h) (no-place _ _ _ _ _ g) = refl
 meets-one p l _ _ _ _ _ (no-place m n k at c h) (no-slots _ _ _ _ _ g z) = absurd (omega arith)
 meets-one p l _ _ _ _ _ (no-place m n k at c h) (not-turned _ _ _ _ _ g z u) = absurd (omega arith)
@@ -121,7 +121,7 @@ meets-one p l _ _ _ _ _ (wrong o n at) (wrong _ _ _) = refl
 meets-one p l _ _ _ _ _ (deep o n at) (deep _ _ _) = refl
 
 -- ---- no mark that has to be turned can't be: atom by atom
-unfoldable pub Turns : List Event → Type 0
+unfoldable pub Turns : List ReadEvent → Type 0
 Turns [] = Unit {0}
 Turns (Enter Dot k at ∷ es) = Turns es
 Turns (Enter (Bond e) k at ∷ es) = ¬ Unturnable k × Turns es
@@ -130,7 +130,7 @@ Turns (Pop i ∷ es) = Turns es
 Turns (Miss x ∷ es) = Turns es
 Turns (Nest at ∷ es) = Turns es
 
-pub turns-after : (e : Event) (es : List Event) → Turns (e ∷ es) → Turns es
+pub turns-after : (e : ReadEvent) (es : List ReadEvent) → Turns (e ∷ es) → Turns es
 unfolding Turns
 turns-after (Enter Dot k at) es h = h
 turns-after (Enter (Bond e) k at) es h = h .1
@@ -139,32 +139,32 @@ turns-after (Pop i) es h = h
 turns-after (Miss x) es h = h
 turns-after (Nest at) es h = h
 
-turns-there : (before : List Event) (e : BondKind) (k : AtomKind) (at : ℕ) (after : List Event) → Turns (before ++ (Enter (Bond e) k at ∷ after)) → ¬ Unturnable k
+turns-there : (before : List ReadEvent) (e : BondKind) (k : AtomKind) (at : ℕ) (after : List ReadEvent) → Turns (before ++ (Enter (Bond e) k at ∷ after)) → ¬ Unturnable k
 unfolding Turns
 turns-there [] e k at after h = h .0
 turns-there (b ∷ before) e k at after h = turns-there before e k at after (turns-after b (before ++ (Enter (Bond e) k at ∷ after)) h)
 
-pub turns-turnable : (es : List Event) → Turns es → Turnable es
+pub turns-turnable : (es : List ReadEvent) → Turns es → Turnable es
 unfolding Turnable
 turns-turnable es h n m = turns-there (m .before) (m .bond) (m .kind) (m .at) (m .after) (subst Turns (m .is) h) (m .mark)
 
-marked-here : (e : BondKind) (k : AtomKind) (at : ℕ) (es : List Event) → Unturnable k → Marked (Enter (Bond e) k at ∷ es) 0
+marked-here : (e : BondKind) (k : AtomKind) (at : ℕ) (es : List ReadEvent) → Unturnable k → Marked (Enter (Bond e) k at ∷ es) 0
 unfolding countAll
 marked-here e k at es u = record { before = []; bond = e; kind = k; at = at; after = es; is = refl; number = refl; mark = u }
 
-marked-later : (e : Event) (es : List Event) (n : ℕ) (m : Marked es n) → Marked (e ∷ es) (countAll 0 (e ∷ m .before))
+marked-later : (e : ReadEvent) (es : List ReadEvent) (n : ℕ) (m : Marked es n) → Marked (e ∷ es) (countAll 0 (e ∷ m .before))
 marked-later e es n m =
-    record { before = e ∷ m .before; bond = m .bond; kind = m .kind; at = m .at; after = m .after; is = ap (λ (x : List Event). e ∷ x) (m .is); number = refl; mark = m .mark }
+    record { before = e ∷ m .before; bond = m .bond; kind = m .kind; at = m .at; after = m .after; is = ap (λ (x : List ReadEvent). e ∷ x) (m .is); number = refl; mark = m .mark }
 
-turnable-after : (e : Event) (es : List Event) → Turnable (e ∷ es) → Turnable es
+turnable-after : (e : ReadEvent) (es : List ReadEvent) → Turnable (e ∷ es) → Turnable es
 unfolding Turnable
 turnable-after e es h n m = h (countAll 0 (e ∷ m .before)) (marked-later e es n m)
 
-turnable-here : (e : BondKind) (k : AtomKind) (at : ℕ) (es : List Event) → Turnable (Enter (Bond e) k at ∷ es) → ¬ Unturnable k
+turnable-here : (e : BondKind) (k : AtomKind) (at : ℕ) (es : List ReadEvent) → Turnable (Enter (Bond e) k at ∷ es) → ¬ Unturnable k
 unfolding Turnable
 turnable-here e k at es h u = h 0 (marked-here e k at es u)
 
-pub turnable-turns : (es : List Event) → Turnable es → Turns es
+pub turnable-turns : (es : List ReadEvent) → Turnable es → Turns es
 unfolding Turns
 turnable-turns [] h = tt
 turnable-turns (Enter Dot k at ∷ es) h = turnable-turns es (turnable-after (Enter Dot k at) es h)
@@ -175,7 +175,7 @@ turnable-turns (Miss x ∷ es) h = turnable-turns es (turnable-after (Miss x) es
 turnable-turns (Nest at ∷ es) h = turnable-turns es (turnable-after (Nest at) es h)
 
 -- where it stops at a mark, that atom has one that can't be turned
-At : ℕ → Event → Answer → Type 0
+At : ℕ → ReadEvent → Answer → Type 0
 At n e (answer.Done i j) = Unit {0}
 At n e answer.EndOfLine = Unit {0}
 At n e (answer.Character i) = Unit {0}
@@ -188,7 +188,7 @@ At n e (answer.BondRoom at) = Unit {0}
 At n e (answer.Nesting i) = Unit {0}
 At n e answer.NoAtom = Unit {0}
 
-meets-at : (p l : ℕ) (o : Option Molecule) (n : ℕ) (e : Event) (a : Answer) → Meets p l o n e a → At n e a
+meets-at : (p l : ℕ) (o : Option Molecule) (n : ℕ) (e : ReadEvent) (a : Answer) → Meets p l o n e a → At n e a
 unfolding At
 meets-at p l _ _ _ _ (no-place m n k at c h) = tt
 meets-at p l _ _ _ _ (no-slots m n e k at g z) = tt
@@ -199,8 +199,8 @@ meets-at p l _ _ _ _ (ends o n) = tt
 meets-at p l _ _ _ _ (wrong o n at) = tt
 meets-at p l _ _ _ _ (deep o n at) = tt
 
-pub stops-marked : (p l : ℕ) (o : Option Molecule) (es : List Event) (n : ℕ) → Stops p l o 0 es (answer.Inversion n) → Marked es n
+pub stops-marked : (p l : ℕ) (o : Option Molecule) (es : List ReadEvent) (n : ℕ) → Stops p l o 0 es (answer.Inversion n) → Marked es n
 unfolding At
 stops-marked p l o es n s =
     let m = meets-at p l _ _ (s .event) (answer.Inversion n) (s .meets) in
-    record { before = s .before; bond = m .0; kind = m .1; at = m .2; after = s .after; is = s .is ∙ ap (λ (x : Event). s .before ++ (x ∷ s .after)) (m .3); number = m .4; mark = m .5 }
+    record { before = s .before; bond = m .0; kind = m .1; at = m .2; after = s .after; is = s .is ∙ ap (λ (x : ReadEvent). s .before ++ (x ∷ s .after)) (m .3); number = m .4; mark = m .5 }

@@ -10,14 +10,14 @@ use lib.Dec.{ltb}
 use lib.ListN.{length}
 use borrow.Author.Tests.{ltb-true, ltb-false}
 use Rattle.builder.specs.Limits.{textLimit, branchLimit}
-use Rattle.read_line.specs.Events.{Event, Nest}
+use Rattle.read_line.specs.Events.{ReadEvent, Nest}
 use Rattle.read_line.specs.Parse.{parse}
 use Rattle.builder_meaning.specs.Sketch.{Edge, Node, countOf, firstOpenS, sketchOf}
 use Rattle.read.specs.declared.Answer.{Answer}
 use Rattle.read.specs.declared.Answer.the-variants as answer
-use Rattle.read.specs.Line.{refusing, lineOf}
+use Rattle.read.specs.Line.{readRefusing, readText}
 use Rattle.grammar.specs.Grammar.{spell, meaning}
-use Rattle.grammar.specs.Lines.{opening, Spelled, Viable, Refused, TooDeep, Verdict, reads, refuses, refusesLate, nests, Clean}
+use Rattle.grammar.specs.Lines.{opening, Spelled, Viable, WrongAt, TooDeep, Verdict, reads, refuses, refusesLate, nests, Clean}
 use Rattle.grammar.specs.Lines as lines
 use Rattle.grammar.specs.OpenSmiles.{Chain, chainS, says, Small, FitsChain}
 use Rattle.grammar.proofs.Reading.{unique, complete, viable-cut}
@@ -28,7 +28,7 @@ use Rattle.grammar.proofs.Spelling.{spelled-bytes, chain-bytes}
 use Rattle.grammar.proofs.Verdict.{verdict}
 use Rattle.grammar.proofs.Open.{meaning-says, chain-fit, open-says, strict-open}
 use Rattle.opensmiles_laws.specs.Molecule.{Molecule, asHeld, tellAll, moleculeOf, neighbours, Allowed, Meant, HeldFor}
-use Rattle.opensmiles_laws.specs.Stops.{placesIn, slotsIn, Meets, Runs, Stops, begun}
+use Rattle.opensmiles_laws.specs.Stops.{placesIn, bondSlotsIn, Meets, Runs, Stops, begun}
 use Rattle.opensmiles_laws.specs.Answers.{DoneAs, doneSaid, When, MeantIsRead, MeantSaid, done, too-long, too-deep, no-place, no-slot, not-turned, MeantIsAnswered, BigIsRefused, ReadIsMeant}
 use Rattle.opensmiles_laws.proofs.Held.{meant-held, held-meant}
 use Rattle.opensmiles_laws.proofs.Marks.{stops-marked}
@@ -65,42 +65,42 @@ module _ (u : Chain) (meant : List Node) (m : Meant u meant) (la lb : ℕ) where
   as-many = around-same (held .0 .atoms) meant (held .3 .around)
 
   -- what stops it exceeds a limit
-  excess : (a : Answer) → Stops (placesIn la) (slotsIn lb) begun 0 (says u) a → MeantSaid u meant la lb (refusing a la lb)
-  excess a q = by a q (stopped-excess (placesIn la) (slotsIn lb) (says u) (held .0) (held .1) a q)
+  excess : (a : Answer) → Stops (placesIn la) (bondSlotsIn lb) begun 0 (says u) a → MeantSaid u meant la lb (readRefusing a la lb)
+  excess a q = by a q (stopped-excess (placesIn la) (bondSlotsIn lb) (says u) (held .0) (held .1) a q)
     where
-      by : (a : Answer) → Stops (placesIn la) (slotsIn lb) begun 0 (says u) a → Excess (placesIn la) (slotsIn lb) (held .0) (says u) a → MeantSaid u meant la lb (refusing a la lb)
+      by : (a : Answer) → Stops (placesIn la) (bondSlotsIn lb) begun 0 (says u) a → Excess (placesIn la) (bondSlotsIn lb) (held .0) (says u) a → MeantSaid u meant la lb (readRefusing a la lb)
       by _ q (room.places at h) = no-place at (omega (arith, h, as-many .0))
       by _ q (room.slots at h) = no-slot at (omega (arith, h, as-many .1))
-      by _ q (room.marks n) = not-turned n (stops-marked (placesIn la) (slotsIn lb) begun (says u) n q)
+      by _ q (room.marks n) = not-turned n (stops-marked (placesIn la) (bondSlotsIn lb) begun (says u) n q)
 
   -- a chain that is read to what it says
   module _ (said-so : parse (chainS u) ≡ says u) (short : length (chainS u) ≤ textLimit) where
     made : tellAll asHeld begun (parse (chainS u)) ≡ some (held .0)
     made = ap (tellAll asHeld begun) said-so ∙ (unfold moleculeOf in held .1)
 
-    read-so : Runs (placesIn la) (slotsIn lb) begun 0 (parse (chainS u)) → lineOf (chainS u) la lb ≡ doneSaid la lb (held .0 .atoms)
+    read-so : Runs (placesIn la) (bondSlotsIn lb) begun 0 (parse (chainS u)) → readText (chainS u) la lb ≡ doneSaid la lb (held .0 .atoms)
     read-so r = done-by (chainS u) la lb short (held .0) made r (held .2)
 
-    fitting-said : MeantSaid u meant la lb (lineOf (chainS u) la lb)
+    fitting-said : MeantSaid u meant la lb (readText (chainS u) la lb)
     fitting-said = by (text-ran (chainS u) la lb)
       where
-        by : Ran (placesIn la) (slotsIn lb) begun 0 (parse (chainS u)) (sketchOf (chainS u) la lb) → MeantSaid u meant la lb (lineOf (chainS u) la lb)
+        by : Ran (placesIn la) (bondSlotsIn lb) begun 0 (parse (chainS u)) (sketchOf (chainS u) la lb) → MeantSaid u meant la lb (readText (chainS u) la lb)
         by (stopped a q t) =
-            subst (MeantSaid u meant la lb) (sym (halts-by (chainS u) la lb short a q)) (excess a (subst (λ (es : List Event). Stops (placesIn la) (slotsIn lb) begun 0 es a) said-so q))
+            subst (MeantSaid u meant la lb) (sym (halts-by (chainS u) la lb short a q)) (excess a (subst (λ (es : List ReadEvent). Stops (placesIn la) (bondSlotsIn lb) begun 0 es a) said-so q))
         by (ran r z f v t) = subst (MeantSaid u meant la lb) (sym (read-so r)) (done (held .0 .atoms) (held .3))
         by (broke x y r z f g t) = clash-some _ (held .0) t made
 
   -- one with a branch too many: what is told before it the chain tells first
-  module _ (small : Small u) (short : length (chainS u) ≤ textLimit) (n : ℕ) (d : TooDeep (chainS u) n) (es : List Event) (i : parse (chainS u) ≡ es ++ (Nest n ∷ [])) where
+  module _ (small : Small u) (short : length (chainS u) ≤ textLimit) (n : ℕ) (d : TooDeep (chainS u) n) (es : List ReadEvent) (i : parse (chainS u) ≡ es ++ (Nest n ∷ [])) where
     split-so : spell (chains.lineOf u) ≡ d .before ++ (opening ∷ d .behind)
     split-so = chain-ok u small ∙ d .is ∙ ap (λ (b : ℕ). d .before ++ (b ∷ d .behind)) (d .opens)
 
-    first-so : (rest : List Event) × (says u ≡ es ++ rest)
+    first-so : (rest : List ReadEvent) × (says u ≡ es ++ rest)
     first-so =
         let sp = deep-spoken (chainS u) (chain-bytes u) n d (first-deep (chainS u) (chain-bytes u) la lb n es i) in
         let f = told-first (chains.lineOf u) (d .before) (d .behind) split-so in
         let same : f .0 ≡ es = told-one (d .before) (f .0) (sp .told) (f .1) (sp .tells) ∙ sym (snoc-init es (sp .told) (Nest n) (sp .last) (sym i ∙ sp .is)) in
-        (f .2 .0, sym (meaning-says u small) ∙ f .2 .1 ∙ ap (λ (x : List Event). x ++ f .2 .0) same)
+        (f .2 .0, sym (meaning-says u small) ∙ f .2 .1 ∙ ap (λ (x : List ReadEvent). x ++ f .2 .0) same)
 
     unfit : ¬ FitsChain branchLimit u
     unfit f = d .deep (chains.lineOf u) (d .behind) (chain-ok u small ∙ d .is) (chain-fit u branchLimit f)
@@ -108,20 +108,20 @@ module _ (u : Chain) (meant : List Node) (m : Meant u meant) (la lb : ℕ) where
     nest-final : Final (Nest n)
     nest-final = unfold Final in tt
 
-    unclean : Runs (placesIn la) (slotsIn lb) begun 0 (parse (chainS u)) → ⊥
-    unclean r = clean-final es (Nest n) (subst Clean i (runs-clean (placesIn la) (slotsIn lb) (parse (chainS u)) begun 0 r)) nest-final
+    unclean : Runs (placesIn la) (bondSlotsIn lb) begun 0 (parse (chainS u)) → ⊥
+    unclean r = clean-final es (Nest n) (subst Clean i (runs-clean (placesIn la) (bondSlotsIn lb) (parse (chainS u)) begun 0 r)) nest-final
 
-    deep-said : MeantSaid u meant la lb (lineOf (chainS u) la lb)
+    deep-said : MeantSaid u meant la lb (readText (chainS u) la lb)
     deep-said = by (text-ran (chainS u) la lb)
       where
-        which : (a : Answer) → Stops (placesIn la) (slotsIn lb) begun 0 es a ⊎ ((q : Option Molecule) × (m : ℕ) × Meets (placesIn la) (slotsIn lb) q m (Nest n) a) → MeantSaid u meant la lb (refusing a la lb)
-        which a (inl q) = excess a (subst (λ (x : List Event). Stops (placesIn la) (slotsIn lb) begun 0 x a) (sym (first-so .1)) (stops-more (placesIn la) (slotsIn lb) es (first-so .0) begun 0 a q))
-        which a (inr q) = subst (λ (x : Answer). MeantSaid u meant la lb (refusing x la lb)) (sym (nest-met (placesIn la) (slotsIn lb) (q .0) (q .1) n a (q .2))) (too-deep n unfit)
+        which : (a : Answer) → Stops (placesIn la) (bondSlotsIn lb) begun 0 es a ⊎ ((q : Option Molecule) × (m : ℕ) × Meets (placesIn la) (bondSlotsIn lb) q m (Nest n) a) → MeantSaid u meant la lb (readRefusing a la lb)
+        which a (inl q) = excess a (subst (λ (x : List ReadEvent). Stops (placesIn la) (bondSlotsIn lb) begun 0 x a) (sym (first-so .1)) (stops-more (placesIn la) (bondSlotsIn lb) es (first-so .0) begun 0 a q))
+        which a (inr q) = subst (λ (x : Answer). MeantSaid u meant la lb (readRefusing x la lb)) (sym (nest-met (placesIn la) (bondSlotsIn lb) (q .0) (q .1) n a (q .2))) (too-deep n unfit)
 
-        by : Ran (placesIn la) (slotsIn lb) begun 0 (parse (chainS u)) (sketchOf (chainS u) la lb) → MeantSaid u meant la lb (lineOf (chainS u) la lb)
+        by : Ran (placesIn la) (bondSlotsIn lb) begun 0 (parse (chainS u)) (sketchOf (chainS u) la lb) → MeantSaid u meant la lb (readText (chainS u) la lb)
         by (stopped a q t) =
             subst (MeantSaid u meant la lb) (sym (halts-by (chainS u) la lb short a q))
-            (which a (stops-last-or (placesIn la) (slotsIn lb) es (Nest n) begun 0 a (subst (λ (x : List Event). Stops (placesIn la) (slotsIn lb) begun 0 x a) i q)))
+            (which a (stops-last-or (placesIn la) (bondSlotsIn lb) es (Nest n) begun 0 a (subst (λ (x : List ReadEvent). Stops (placesIn la) (bondSlotsIn lb) begun 0 x a) i q)))
         by (ran r z f v t) = absurd (unclean r)
         by (broke x y r z f g t) = absurd (unclean r)
 
@@ -130,10 +130,10 @@ module _ (u : Chain) (meant : List Node) (m : Meant u meant) (la lb : ℕ) where
     unfolding Viable
     spelled-so = (chains.lineOf u, [], chain-ok u small ∙ sym (append-nil (chainS u)))
 
-    unwrong : (n : ℕ) → ¬ Refused (chainS u) n
+    unwrong : (n : ℕ) → ¬ WrongAt (chainS u) n
     unwrong n r = r .dead (viable-cut (r .before ++ (r .byte ∷ [])) (r .behind) (subst Viable (r .is ∙ sym (append-assoc (r .before) (r .byte ∷ []) (r .behind))) spelled-so))
 
-    within : length (chainS u) ≤ textLimit → Verdict (chainS u) (parse (chainS u)) → MeantSaid u meant la lb (lineOf (chainS u) la lb)
+    within : length (chainS u) ≤ textLimit → Verdict (chainS u) (parse (chainS u)) → MeantSaid u meant la lb (readText (chainS u) la lb)
     unfolding Spelled
     within short (reads t e f w) = fitting-said (w ∙ ap meaning (unique t (chains.lineOf u) (e ∙ sym (chain-ok u small))) ∙ meaning-says u small) short
     within short (lines.ends es i v unspelled) = absurd (unspelled (chains.lineOf u, chain-ok u small))
@@ -141,10 +141,10 @@ module _ (u : Chain) (meant : List Node) (m : Meant u meant) (la lb : ℕ) where
     within short (refusesLate n es r i l) = absurd (unwrong n r)
     within short (nests n es i d) = deep-said small short n d es i
 
-    answered : MeantSaid u meant la lb (lineOf (chainS u) la lb)
+    answered : MeantSaid u meant la lb (readText (chainS u) la lb)
     answered = by (ltb textLimit (length (chainS u))) refl
       where
-        by : (t : Bool) → ltb textLimit (length (chainS u)) ≡ t → MeantSaid u meant la lb (lineOf (chainS u) la lb)
+        by : (t : Bool) → ltb textLimit (length (chainS u)) ≡ t → MeantSaid u meant la lb (readText (chainS u) la lb)
         by true q = let l = ltb-true textLimit (length (chainS u)) q in subst (MeantSaid u meant la lb) (sym (long-line (chainS u) la lb l)) (too-long l)
         by false q = within (ltb-false textLimit (length (chainS u)) q) (verdict (chainS u) (chain-bytes u))
 
@@ -154,8 +154,8 @@ meant-is-read u small fits short meant m la lb places slots marks =
     let h = held u meant m la lb in
     let n = as-many u meant m la lb in
     let e : parse (chainS u) ≡ says u = open-says u small fits in
-    let r : Runs (placesIn la) (slotsIn lb) begun 0 (says u) = roomy-runs (placesIn la) (slotsIn lb) (says u) (h .0) (h .1) (omega (arith, places, n .0)) (omega (arith, slots, n .1)) marks in
-    (h .0 .atoms, h .3, read-so u meant m la lb e short (subst (Runs (placesIn la) (slotsIn lb) begun 0) (sym e) r), n .0, n .1)
+    let r : Runs (placesIn la) (bondSlotsIn lb) begun 0 (says u) = roomy-runs (placesIn la) (bondSlotsIn lb) (says u) (h .0) (h .1) (omega (arith, places, n .0)) (omega (arith, slots, n .1)) marks in
+    (h .0 .atoms, h .3, read-so u meant m la lb e short (subst (Runs (placesIn la) (bondSlotsIn lb) begun 0) (sym e) r), n .0, n .1)
 
 pub meant-is-answered : MeantIsAnswered
 meant-is-answered u small meant m la lb = answered u meant m la lb small

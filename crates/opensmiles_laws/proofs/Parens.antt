@@ -10,8 +10,8 @@ use native.Mathlib.Omega.{arith}
 use lib.Dec.{T, ltb, ltb→lt}
 use lib.ListN.{length, length-append}
 use Rattle.feature.specs.Text.{byte}
-use Rattle.read_line.specs.Events.{Event, Pop}
-use Rattle.grammar.specs.Grammar.{Digit, d0, d1, d2, d3, d4, d5, d6, d7, d8, d9, digitS, Bond, single, double, triple, quadruple, aromatic, up, down, bondS, Organic, bare1, bare2, organics, organicS, Symbol, short, long, names, known, symbolS, Isotope, iso0, iso1, iso2, iso3, isotopeS, Chiral, flat, at, atat, code1, code2, Class, TH, AL, SP, TB, OH, class1, class2, chiralS, Hcount, bald, H, Hn, hcountS, Head, head, headS, Sign, plus, minus, signS, Charge, neutral, sign, twice, num1, num2, chargeS, Map, nomap, m1, m2, m3, mapS, Atom, organic, bracket, atomS, Rnum, ring1, ring2, rnumS, bond?S, Link, elided, bond, dot, linkS, Line, start, link, ring, branch, spell, enter, join, atoms, tells, meaning}
+use Rattle.read_line.specs.Events.{ReadEvent, Pop}
+use Rattle.grammar.specs.Grammar.{Digit, d0, d1, d2, d3, d4, d5, d6, d7, d8, d9, digitS, BondSign, single, double, triple, quadruple, aromatic, up, down, bondS, Organic, bare1, bare2, organics, organicS, Symbol, short, long, symbolNames, known, symbolS, Isotope, iso0, iso1, iso2, iso3, isotopeS, Chiral, flat, at, atat, code1, code2, Class, TH, AL, SP, TB, OH, class1, class2, chiralS, Hcount, bald, H, Hn, hcountS, Head, head, headS, Sign, plus, minus, signS, Charge, neutral, sign, twice, num1, num2, chargeS, Map, nomap, m1, m2, m3, mapS, Atom, organic, bracket, atomS, Rnum, ring1, ring2, rnumS, bond?S, Link, elided, bond, dot, linkS, Line, start, link, ring, branch, spell, enter, joinEvent, atoms, tells, meaning}
 use Rattle.grammar.specs.Lines.{opening}
 use Rattle.grammar.proofs.Spelling.{allOf, has1-all, has2-all}
 use Rattle.opensmiles_laws.specs.Telling.{Making, whole, branching, makingS, makingE, HasTold, so-far}
@@ -53,7 +53,7 @@ digit-plain d7 e = omega (arith, e)
 digit-plain d8 e = omega (arith, e)
 digit-plain d9 e = omega (arith, e)
 
-bond-plain : (x : Bond) → ¬ (bondS x ≡ opening)
+bond-plain : (x : BondSign) → ¬ (bondS x ≡ opening)
 unfolding bondS
 bond-plain single e = omega (arith, e)
 bond-plain double e = omega (arith, e)
@@ -90,9 +90,9 @@ organic-plain (bare1 a p) = (beyond-plain a (has1-all beyond organics tt a p), t
 organic-plain (bare2 a b p) = let h = has2-all beyond organics tt a b p in (beyond-plain a (h .0), (beyond-plain b (h .1), tt))
 
 symbol-plain : (y : Symbol) → Plain (symbolS y)
-unfolding Plain symbolS allOf names known beyond
-symbol-plain (short a p) = (beyond-plain a (has1-all beyond names tt a p), tt)
-symbol-plain (long a b p) = let h = has2-all beyond names tt a b p in (beyond-plain a (h .0), (beyond-plain b (h .1), tt))
+unfolding Plain symbolS allOf symbolNames known beyond
+symbol-plain (short a p) = (beyond-plain a (has1-all beyond symbolNames tt a p), tt)
+symbol-plain (long a b p) = let h = has2-all beyond symbolNames tt a b p in (beyond-plain a (h .0), (beyond-plain b (h .1), tt))
 
 isotope-plain : (i : Isotope) → Plain (isotopeS i)
 unfolding Plain isotopeS
@@ -144,7 +144,7 @@ unfolding Plain rnumS
 rnum-plain (ring1 d) = (digit-plain d, tt)
 rnum-plain (ring2 d f) = (λ e. omega (arith, e), (digit-plain d, (digit-plain f, tt)))
 
-bond?-plain : (x : Option Bond) → Plain (bond?S x)
+bond?-plain : (x : Option BondSign) → Plain (bond?S x)
 unfolding Plain bond?S
 bond?-plain none = tt
 bond?-plain (some x) = (bond-plain x, tt)
@@ -178,13 +178,13 @@ split (x ∷ xs) ys (z ∷ zs) b ws e =
 record Cut (w : List ℕ) (l : Link) (t : Line) (before : List ℕ) : Type 0 where
   making : Making
   spelled : makingS making ≡ before
-  rest : List Event
+  rest : List ReadEvent
   told : tells w l t ≡ makingE w l making ++ rest
 
 -- of a line that goes on
-longer : (w : List ℕ) (l : Link) (c t : Line) (before : List ℕ) (more : List Event) → tells w l t ≡ tells w l c ++ more → Cut w l c before → Cut w l t before
+longer : (w : List ℕ) (l : Link) (c t : Line) (before : List ℕ) (more : List ReadEvent) → tells w l t ≡ tells w l c ++ more → Cut w l c before → Cut w l t before
 longer w l c t before more e k =
-    record { making = k .making; spelled = k .spelled; rest = k .rest ++ more; told = e ∙ ap (λ (x : List Event). x ++ more) (k .told) ∙ append-assoc (makingE w l (k .making)) (k .rest) more }
+    record { making = k .making; spelled = k .spelled; rest = k .rest ++ more; told = e ∙ ap (λ (x : List ReadEvent). x ++ more) (k .told) ∙ append-assoc (makingE w l (k .making)) (k .rest) more }
 
 -- at a branch
 fresh : (w : List ℕ) (l : Link) (c : Line) (k : Link) (d : Line) → Cut w l (branch c k d) (spell c)
@@ -211,7 +211,7 @@ cut (ring c x n) w l before behind e = by (split (spell c) (bond?S x ++ rnumS n)
   where
     by : ((r : List ℕ) × (spell c ≡ before ++ (opening ∷ r))) ⊎ ((q : List ℕ) × (before ≡ spell c ++ q) × (bond?S x ++ rnumS n ≡ q ++ (opening ∷ behind)))
         → ((r : List ℕ) → spell c ≡ before ++ (opening ∷ r) → Cut w l c before) → Cut w l (ring c x n) before
-    by (inl r) f = longer w l c (ring c x n) before (join x n (length (w ++ (spell c ++ bond?S x))) ∷ []) (unfold tells in refl) (f (r .0) (r .1))
+    by (inl r) f = longer w l c (ring c x n) before (joinEvent x n (length (w ++ (spell c ++ bond?S x))) ∷ []) (unfold tells in refl) (f (r .0) (r .1))
     by (inr q) f = absurd (plain-none (bond?S x ++ rnumS n) (q .0) behind (plain-append (bond?S x) (rnumS n) (bond?-plain x) (rnum-plain n)) (q .2))
 cut (branch c k d) w l before behind e =
     by (split (spell c) (opening ∷ (linkS k ++ (spell d ++ (byte ")" ∷ [])))) before opening behind e) (λ r i. cut c w l before r i) (λ q r i. cut d (w ++ (spell c ++ (byte "(" ∷ linkS k))) k q r i)
@@ -240,7 +240,7 @@ cut (branch c k d) w l before behind e =
     by (inr q) f g = here (q .0) (q .1) (q .2) g
 
 -- WHAT THE TEXT BEFORE A "(" HAS TOLD, the tree tells first
-pub told-first : (t : Line) (before behind : List ℕ) → spell t ≡ before ++ (opening ∷ behind) → (es : List Event) × HasTold before es × ((rest : List Event) × (meaning t ≡ es ++ rest))
+pub told-first : (t : Line) (before behind : List ℕ) → spell t ≡ before ++ (opening ∷ behind) → (es : List ReadEvent) × HasTold before es × ((rest : List ReadEvent) × (meaning t ≡ es ++ rest))
 unfolding meaning
 told-first t before behind e =
     let k = cut t [] dot before behind e in (

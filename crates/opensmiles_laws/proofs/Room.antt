@@ -14,14 +14,14 @@ use Rattle.feature.specs.declared.atom_kind.AtomKind.{AtomKind}
 use Rattle.feature.specs.declared.bond_kind.BondKind.{BondKind}
 use Rattle.read_line.specs.declared.lead.Lead.{Lead}
 use Rattle.read_line.specs.declared.lead.Lead.the-variants.{Dot, Bond}
-use Rattle.read_line.specs.Events.{Event, Enter, Join, Pop, Miss, Nest}
+use Rattle.read_line.specs.Events.{ReadEvent, Enter, Join, Pop, Miss, Nest}
 use Rattle.feature.specs.Bonds.{reverseOf}
 use Rattle.builder_meaning.specs.Sketch.{To, Held, edge, node, countOf, upd, lookup, addEdge, fill}
 use Rattle.builder_meaning.proofs.Rows.{upd-length, count-append, count-add, count-fill}
 use Rattle.read.specs.declared.Answer.{Answer}
 use Rattle.read.specs.declared.Answer.the-variants as answer
-use Rattle.opensmiles_laws.specs.Molecule.{Molecule, placed, closed, ringed, numbered, asHeld, told, next, tellAll, moleculeOf}
-use Rattle.opensmiles_laws.specs.Stops.{Unturnable, Turnable, Meets, no-place, no-slots, not-turned, no-slot, not-turned-after, ends, wrong, deep, Passes, counted, Runs, Stops, begun}
+use Rattle.opensmiles_laws.specs.Molecule.{Molecule, atomPlaced, closed, moleculeRinged, numbered, asHeld, moleculeTold, next, tellAll, moleculeOf}
+use Rattle.opensmiles_laws.specs.Stops.{Unturnable, Turnable, Meets, no-place, no-slots, not-turned, no-slot, not-turned-after, ends, wrong, deep, Passes, atomsNamed, Runs, Stops, begun}
 use Rattle.opensmiles_laws.proofs.Steps.{grown-length}
 use Rattle.opensmiles_laws.proofs.Marks.{Turns, turns-after, turns-turnable, turnable-turns, dot-passes, bond-passes, join-passes, pop-passes}
 use Rattle.opensmiles_laws.proofs.Trace.{none-told, split, stops-none}
@@ -44,7 +44,7 @@ path-drop (suc i) [] n p = tt
 path-drop (suc i) (s ∷ at) n p = path-drop i at n (p .1)
 
 -- how many entries
-adds : Event → ℕ
+adds : ReadEvent → ℕ
 adds (Enter Dot k at) = 0
 adds (Enter (Bond e) k at) = 2
 adds (Join e r at) = 1
@@ -52,18 +52,18 @@ adds (Pop i) = 0
 adds (Miss x) = 0
 adds (Nest at) = 0
 
-record Grown (m : Molecule) (e : Event) (x : Molecule) : Type 0 where
-  number : length (x .atoms) ≡ counted (length (m .atoms)) e
+record Grown (m : Molecule) (e : ReadEvent) (x : Molecule) : Type 0 where
+  number : length (x .atoms) ≡ atomsNamed (length (m .atoms)) e
   entries : countOf (x .atoms) ≡ countOf (m .atoms) + adds e
   within : InPath (length (x .atoms)) (x .path)
 
-Grows : Molecule → Event → Option Molecule → Type 0
+Grows : Molecule → ReadEvent → Option Molecule → Type 0
 Grows m e none = Unit {0}
 Grows m e (some x) = Grown m e x
 
 module _ (m : Molecule) where
-  placed-grows : (l : Lead) (k : AtomKind) (j : AtomKind) (at : ℕ) (path : List ℕ) → InPath (length (m .atoms)) path → Grows m (Enter l k at) (placed m l j path)
-  unfolding placed Grows adds counted InPath countOf
+  placed-grows : (l : Lead) (k : AtomKind) (j : AtomKind) (at : ℕ) (path : List ℕ) → InPath (length (m .atoms)) path → Grows m (Enter l k at) (atomPlaced m l j path)
+  unfolding atomPlaced Grows adds atomsNamed InPath countOf
   placed-grows Dot k j at path h =
       let n : length (m .atoms ++ (node j [] ∷ [])) ≡ length (m .atoms) + 1 = length-append (m .atoms) (node j [] ∷ []) in
       record { number = n; entries = omega (arith, count-append (m .atoms) (node j [] ∷ [])); within = (omega (arith, n), path-more path (length (m .atoms)) _ (omega (arith, n)) h) }
@@ -73,15 +73,15 @@ module _ (m : Molecule) where
       record { number = n; entries = omega (arith, count-append (upd s (addEdge (edge e (To (length (m .atoms))))) (m .atoms)) (node j (edge (reverseOf e) (To s) ∷ []) ∷ []), count-add s (edge e (To (length (m .atoms)))) (m .atoms) (h .0)); within = (omega (arith, n), path-more (s ∷ path) (length (m .atoms)) _ (omega (arith, n)) h) }
 
   closed-grows : (e : BondKind) (r at s : ℕ) (h : Held) (o : Option BondKind) → s < length (m .atoms) → InPath (length (m .atoms)) (m .path) → Grows m (Join e r at) (closed m r s h o)
-  unfolding closed Grows adds counted
+  unfolding closed Grows adds atomsNamed
   closed-grows e r at s h none w p = tt
   closed-grows e r at s h (some k) w p =
       let f = upd-length (h .atom) (fill (h .join) k s) (m .atoms) in
       let n = upd-length s (addEdge _) (upd (h .atom) (fill (h .join) k s) (m .atoms)) in
       record { number = n ∙ f; entries = count-add s _ (upd (h .atom) (fill (h .join) k s) (m .atoms)) (omega (arith, w, f)) ∙ ap (λ (i : ℕ). i + 1) (count-fill (h .atom) (h .join) k s (m .atoms)); within = path-more (m .path) _ _ (omega (arith, n, f)) p }
 
-  ringed-grows : (e : BondKind) (r at s : ℕ) (o : Option Held) → s < length (m .atoms) → InPath (length (m .atoms)) (m .path) → Grows m (Join e r at) (ringed m e r s o)
-  unfolding ringed Grows adds counted
+  ringed-grows : (e : BondKind) (r at s : ℕ) (o : Option Held) → s < length (m .atoms) → InPath (length (m .atoms)) (m .path) → Grows m (Join e r at) (moleculeRinged m e r s o)
+  unfolding moleculeRinged Grows adds atomsNamed
   ringed-grows e r at s none w p =
       let n = upd-length s (addEdge _) (m .atoms) in
       record { number = n; entries = count-add s _ (m .atoms) w; within = path-more (m .path) _ _ (omega (arith, n)) p }
@@ -92,15 +92,15 @@ module _ (m : Molecule) where
   numbered-grows e r at [] h p = tt
   numbered-grows e r at (s ∷ path) h p = ringed-grows e r at s (lookup r (m .opens)) (h .0) p
 
-  told-grows : (e : Event) → InPath (length (m .atoms)) (m .path) → Grows m e (told asHeld m e)
-  unfolding told Grows adds counted
+  told-grows : (e : ReadEvent) → InPath (length (m .atoms)) (m .path) → Grows m e (moleculeTold asHeld m e)
+  unfolding moleculeTold Grows adds atomsNamed
   told-grows (Enter l k at) h = placed-grows l k (asHeld l k) at (m .path) h
   told-grows (Join e r at) h = numbered-grows e r at (m .path) h h
   told-grows (Pop i) h = record { number = refl; entries = omega arith; within = path-drop i (m .path) (length (m .atoms)) h }
   told-grows (Miss x) h = tt
   told-grows (Nest at) h = tt
 
-  grown : (e : Event) (x : Molecule) → InPath (length (m .atoms)) (m .path) → told asHeld m e ≡ some x → Grown m e x
+  grown : (e : ReadEvent) (x : Molecule) → InPath (length (m .atoms)) (m .path) → moleculeTold asHeld m e ≡ some x → Grown m e x
   unfolding Grows
   grown e x h t = subst (Grows m e) t (told-grows e h)
 
@@ -126,7 +126,7 @@ module _ (p l : ℕ) (m : Molecule) (n : ℕ) where
   unfolding Passes
   pass-mark e k at h u = h (answer.Inversion n) (not-turned m n e k at (pass-place (Bond e) k at h) (pass-slots e k at h) u)
 
-  pass-slot : (e : BondKind) (r at : ℕ) (x : Molecule) → told asHeld m (Join e r at) ≡ some x → Passes p l (some m) n (Join e r at) → countOf (m .atoms) + 1 ≤ l
+  pass-slot : (e : BondKind) (r at : ℕ) (x : Molecule) → moleculeTold asHeld m (Join e r at) ≡ some x → Passes p l (some m) n (Join e r at) → countOf (m .atoms) + 1 ≤ l
   unfolding Passes
   pass-slot e r at x t h = by (ltb l (countOf (m .atoms) + 1)) refl
     where
@@ -136,19 +136,19 @@ module _ (p l : ℕ) (m : Molecule) (n : ℕ) where
 
 -- ---- all events that make a molecule
 -- the molecule after the first event
-first-some : (e : Event) (es : List Event) (m w : Molecule) → tellAll asHeld (some m) (e ∷ es) ≡ some w → (x : Molecule) × (told asHeld m e ≡ some x) × (tellAll asHeld (some x) es ≡ some w)
+first-some : (e : ReadEvent) (es : List ReadEvent) (m w : Molecule) → tellAll asHeld (some m) (e ∷ es) ≡ some w → (x : Molecule) × (moleculeTold asHeld m e ≡ some x) × (tellAll asHeld (some x) es ≡ some w)
 unfolding tellAll next
-first-some e es m w h = by (told asHeld m e) refl h
+first-some e es m w h = by (moleculeTold asHeld m e) refl h
   where
-    by : (o : Option Molecule) → told asHeld m e ≡ o → tellAll asHeld o es ≡ some w → (x : Molecule) × (told asHeld m e ≡ some x) × (tellAll asHeld (some x) es ≡ some w)
+    by : (o : Option Molecule) → moleculeTold asHeld m e ≡ o → tellAll asHeld o es ≡ some w → (x : Molecule) × (moleculeTold asHeld m e ≡ some x) × (tellAll asHeld (some x) es ≡ some w)
     by none t g = let f = none-told es in let z : _≡_ {A = ℕ} 0 1 = cc in absurd (omega arith)
     by (some x) t g = (x, t, g)
 
-next-told : (m x : Molecule) (e : Event) → told asHeld m e ≡ some x → next asHeld (some m) e ≡ some x
+next-told : (m x : Molecule) (e : ReadEvent) → moleculeTold asHeld m e ≡ some x → next asHeld (some m) e ≡ some x
 unfolding next
 next-told m x e t = t
 
-grows-all : (es : List Event) (m w : Molecule) → InPath (length (m .atoms)) (m .path) → tellAll asHeld (some m) es ≡ some w
+grows-all : (es : List ReadEvent) (m w : Molecule) → InPath (length (m .atoms)) (m .path) → tellAll asHeld (some m) es ≡ some w
     → (length (m .atoms) ≤ length (w .atoms)) × (countOf (m .atoms) ≤ countOf (w .atoms))
 unfolding tellAll
 grows-all [] m w h t = let g : m ≡ w = cc in subst (λ (x : Molecule). (length (m .atoms) ≤ length (x .atoms)) × (countOf (m .atoms) ≤ countOf (x .atoms))) g (omega arith, omega arith)
@@ -158,16 +158,16 @@ grows-all (e ∷ es) m w h t =
     let r = grows-all es (f .0) w (g .within) (f .2) in
     (omega (arith, r .0, g .number, counts e (length (m .atoms))), omega (arith, r .1, g .entries))
   where
-    counts : (e : Event) (n : ℕ) → n ≤ counted n e
-    counts (Enter l k at) n = unfold counted in omega arith
-    counts (Join b r at) n = unfold counted in omega arith
-    counts (Pop i) n = unfold counted in omega arith
-    counts (Miss x) n = unfold counted in omega arith
-    counts (Nest at) n = unfold counted in omega arith
+    counts : (e : ReadEvent) (n : ℕ) → n ≤ atomsNamed n e
+    counts (Enter l k at) n = unfold atomsNamed in omega arith
+    counts (Join b r at) n = unfold atomsNamed in omega arith
+    counts (Pop i) n = unfold atomsNamed in omega arith
+    counts (Miss x) n = unfold atomsNamed in omega arith
+    counts (Nest at) n = unfold atomsNamed in omega arith
 
 module _ (p l : ℕ) where
-  fits-passes : (e : Event) (es : List Event) (m x : Molecule) → told asHeld m e ≡ some x → Grown m e x → length (x .atoms) ≤ p → countOf (x .atoms) ≤ l → Turns (e ∷ es) → Passes p l (some m) (length (m .atoms)) e
-  unfolding counted adds Turns told
+  fits-passes : (e : ReadEvent) (es : List ReadEvent) (m x : Molecule) → moleculeTold asHeld m e ≡ some x → Grown m e x → length (x .atoms) ≤ p → countOf (x .atoms) ≤ l → Turns (e ∷ es) → Passes p l (some m) (length (m .atoms)) e
+  unfolding atomsNamed adds Turns moleculeTold
   fits-passes (Enter Dot k at) es m x t g f c u = dot-passes p l m (length (m .atoms)) k at (omega (arith, g .number, f))
   fits-passes (Enter (Bond e) k at) es m x t g f c u = bond-passes p l m (length (m .atoms)) e k at (omega (arith, g .number, f)) (omega (arith, g .entries, c)) (u .0)
   fits-passes (Join e r at) es m x t g f c u = join-passes p l m (length (m .atoms)) e r at (λ y h. omega (arith, g .entries, c))
@@ -175,7 +175,7 @@ module _ (p l : ℕ) where
   fits-passes (Miss y) es m x t g f c u = let z : _≡_ {A = ℕ} 0 1 = cc in absurd (omega arith)
   fits-passes (Nest at) es m x t g f c u = let z : _≡_ {A = ℕ} 0 1 = cc in absurd (omega arith)
 
-  room-runs : (es : List Event) (m w : Molecule) → InPath (length (m .atoms)) (m .path) → tellAll asHeld (some m) es ≡ some w → length (w .atoms) ≤ p → countOf (w .atoms) ≤ l → Turns es
+  room-runs : (es : List ReadEvent) (m w : Molecule) → InPath (length (m .atoms)) (m .path) → tellAll asHeld (some m) es ≡ some w → length (w .atoms) ≤ p → countOf (w .atoms) ≤ l → Turns es
       → Runs p l (some m) (length (m .atoms)) es
   unfolding Runs
   room-runs [] m w h t f c u = tt
@@ -185,21 +185,21 @@ module _ (p l : ℕ) where
       let r = grows-all es (i .0) w (g .within) (i .2) in
       let q = room-runs es (i .0) w (g .within) (i .2) f c (turns-after e es u) in (
         fits-passes e es m (i .0) (i .1) g (omega (arith, r .0, f)) (omega (arith, r .1, c)) u,
-        subst (λ (o : Option Molecule). Runs p l o (counted (length (m .atoms)) e) es) (sym (next-told m (i .0) e (i .1))) (subst (λ (n : ℕ). Runs p l (some (i .0)) n es) (g .number) q),
+        subst (λ (o : Option Molecule). Runs p l o (atomsNamed (length (m .atoms)) e) es) (sym (next-told m (i .0) e (i .1))) (subst (λ (n : ℕ). Runs p l (some (i .0)) n es) (g .number) q),
       )
 
   -- and the other way
-  passes-fits : (e : Event) (es : List Event) (m x : Molecule) → told asHeld m e ≡ some x → Grown m e x → length (m .atoms) ≤ p → countOf (m .atoms) ≤ l → Passes p l (some m) (length (m .atoms)) e → (length (x .atoms) ≤ p) × (countOf (x .atoms) ≤ l) × (Turns es → Turns (e ∷ es))
-  unfolding counted adds Turns told
+  passes-fits : (e : ReadEvent) (es : List ReadEvent) (m x : Molecule) → moleculeTold asHeld m e ≡ some x → Grown m e x → length (m .atoms) ≤ p → countOf (m .atoms) ≤ l → Passes p l (some m) (length (m .atoms)) e → (length (x .atoms) ≤ p) × (countOf (x .atoms) ≤ l) × (Turns es → Turns (e ∷ es))
+  unfolding atomsNamed adds Turns moleculeTold
   passes-fits (Enter Dot k at) es m x t g f c q = (omega (arith, g .number, pass-place p l m (length (m .atoms)) Dot k at q), omega (arith, g .entries, c), λ u. u)
   passes-fits (Enter (Bond e) k at) es m x t g f c q =
       (omega (arith, g .number, pass-place p l m (length (m .atoms)) (Bond e) k at q), omega (arith, g .entries, pass-slots p l m (length (m .atoms)) e k at q), λ u. (pass-mark p l m (length (m .atoms)) e k at q, u))
-  passes-fits (Join e r at) es m x t g f c q = (omega (arith, g .number, f), omega (arith, g .entries, pass-slot p l m (length (m .atoms)) e r at x (unfold told in t) q), λ u. u)
+  passes-fits (Join e r at) es m x t g f c q = (omega (arith, g .number, f), omega (arith, g .entries, pass-slot p l m (length (m .atoms)) e r at x (unfold moleculeTold in t) q), λ u. u)
   passes-fits (Pop i) es m x t g f c q = (omega (arith, g .number, f), omega (arith, g .entries, c), λ u. u)
   passes-fits (Miss y) es m x t g f c q = let z : _≡_ {A = ℕ} 0 1 = cc in absurd (omega arith)
   passes-fits (Nest at) es m x t g f c q = let z : _≡_ {A = ℕ} 0 1 = cc in absurd (omega arith)
 
-  runs-room : (es : List Event) (m w : Molecule) → InPath (length (m .atoms)) (m .path) → length (m .atoms) ≤ p → countOf (m .atoms) ≤ l → Runs p l (some m) (length (m .atoms)) es → tellAll asHeld (some m) es ≡ some w
+  runs-room : (es : List ReadEvent) (m w : Molecule) → InPath (length (m .atoms)) (m .path) → length (m .atoms) ≤ p → countOf (m .atoms) ≤ l → Runs p l (some m) (length (m .atoms)) es → tellAll asHeld (some m) es ≡ some w
       → (length (w .atoms) ≤ p) × (countOf (w .atoms) ≤ l) × Turns es
   unfolding Runs tellAll Turns
   runs-room [] m w h f c q t = let g : m ≡ w = cc in subst (λ (x : Molecule). (length (x .atoms) ≤ p) × (countOf (x .atoms) ≤ l) × Unit {0}) g (f, c, tt)
@@ -207,24 +207,24 @@ module _ (p l : ℕ) where
       let i = first-some e es m w t in
       let g = grown m e (i .0) h (i .1) in
       let k = passes-fits e es m (i .0) (i .1) g f c (q .0) in
-      let y = subst (λ (o : Option Molecule). Runs p l o (counted (length (m .atoms)) e) es) (next-told m (i .0) e (i .1)) (q .1) in
+      let y = subst (λ (o : Option Molecule). Runs p l o (atomsNamed (length (m .atoms)) e) es) (next-told m (i .0) e (i .1)) (q .1) in
       let r = runs-room es (i .0) w (g .within) (k .0) (k .1) (subst (λ (n : ℕ). Runs p l (some (i .0)) n es) (sym (g .number)) y) (i .2) in
       (r .0, r .1, k .2 (r .2))
 
   -- ---- what stops the events of a molecule: too many atoms, too many entries, or a mark
-  pub data Excess (w : Molecule) (es : List Event) : Answer → Type 0 where
+  pub data Excess (w : Molecule) (es : List ReadEvent) : Answer → Type 0 where
     places : (at : ℕ) → p < length (w .atoms) → Excess w es (answer.AtomRoom at)
     slots : (at : ℕ) → l < countOf (w .atoms) → Excess w es (answer.BondRoom at)
     marks : (n : ℕ) → Excess w es (answer.Inversion n)
 
-  excess-on : (w : Molecule) (e : Event) (es : List Event) (a : Answer) → Excess w es a → Excess w (e ∷ es) a
+  excess-on : (w : Molecule) (e : ReadEvent) (es : List ReadEvent) (a : Answer) → Excess w es a → Excess w (e ∷ es) a
   excess-on w e es _ (places at h) = places at h
   excess-on w e es _ (slots at h) = slots at h
   excess-on w e es _ (marks n) = marks n
 
-  meets-excess : (e : Event) (es : List Event) (m x w : Molecule) (n : ℕ) (a : Answer) (o : Option Molecule) → o ≡ some m → n ≡ length (m .atoms) → told asHeld m e ≡ some x → Grown m e x → length (x .atoms) ≤ length (w .atoms) → countOf (x .atoms) ≤ countOf (w .atoms)
+  meets-excess : (e : ReadEvent) (es : List ReadEvent) (m x w : Molecule) (n : ℕ) (a : Answer) (o : Option Molecule) → o ≡ some m → n ≡ length (m .atoms) → moleculeTold asHeld m e ≡ some x → Grown m e x → length (x .atoms) ≤ length (w .atoms) → countOf (x .atoms) ≤ countOf (w .atoms)
       → Meets p l o n e a → Excess w (e ∷ es) a
-  unfolding counted adds Turns told
+  unfolding atomsNamed adds Turns moleculeTold
   meets-excess _ es m x w _ _ _ i j t g f c (no-place y n b k at h) = places at (omega (arith, g .number, f, h, j))
   meets-excess _ es m x w _ _ _ i j t g f c (no-slots y n e k at h s) = let v : y ≡ m = cc in slots at (omega (arith, g .entries, c, s, ap (λ (z : Molecule). countOf (z .atoms)) v))
   meets-excess _ es m x w _ _ _ i j t g f c (not-turned y n e k at h s u) = marks n
@@ -234,7 +234,7 @@ module _ (p l : ℕ) where
   meets-excess _ es m x w _ _ _ i j t g f c (wrong o n at) = let z : _≡_ {A = ℕ} 0 1 = cc in absurd (omega arith)
   meets-excess _ es m x w _ _ _ i j t g f c (deep o n at) = let z : _≡_ {A = ℕ} 0 1 = cc in absurd (omega arith)
 
-  stops-excess : (es : List Event) (m w : Molecule) (a : Answer) → InPath (length (m .atoms)) (m .path) → tellAll asHeld (some m) es ≡ some w → Stops p l (some m) (length (m .atoms)) es a → Excess w es a
+  stops-excess : (es : List ReadEvent) (m w : Molecule) (a : Answer) → InPath (length (m .atoms)) (m .path) → tellAll asHeld (some m) es ≡ some w → Stops p l (some m) (length (m .atoms)) es a → Excess w es a
   stops-excess [] m w a h t s = absurd (stops-none p l (some m) (length (m .atoms)) a s)
   stops-excess (e ∷ es) m w a h t s =
       let i = first-some e es m w t in
@@ -242,15 +242,15 @@ module _ (p l : ℕ) where
       let r = grows-all es (i .0) w (g .within) (i .2) in
       by (i .0) (i .1) g r (split p l (some m) (length (m .atoms)) e es a s) (λ q. stops-excess es (i .0) w a (g .within) (i .2) q)
     where
-      by : (x : Molecule) → told asHeld m e ≡ some x → Grown m e x → (length (x .atoms) ≤ length (w .atoms)) × (countOf (x .atoms) ≤ countOf (w .atoms))
-          → Meets p l (some m) (length (m .atoms)) e a ⊎ (Passes p l (some m) (length (m .atoms)) e × Stops p l (next asHeld (some m) e) (counted (length (m .atoms)) e) es a)
+      by : (x : Molecule) → moleculeTold asHeld m e ≡ some x → Grown m e x → (length (x .atoms) ≤ length (w .atoms)) × (countOf (x .atoms) ≤ countOf (w .atoms))
+          → Meets p l (some m) (length (m .atoms)) e a ⊎ (Passes p l (some m) (length (m .atoms)) e × Stops p l (next asHeld (some m) e) (atomsNamed (length (m .atoms)) e) es a)
           → (Stops p l (some x) (length (x .atoms)) es a → Excess w es a) → Excess w (e ∷ es) a
       by x j g r (inl k) f = meets-excess e es m x w (length (m .atoms)) a (some m) refl refl j g (r .0) (r .1) k
       by x j g r (inr k) f =
-          excess-on w e es a (f (subst (λ (n : ℕ). Stops p l (some x) n es a) (sym (g .number)) (subst (λ (o : Option Molecule). Stops p l o (counted (length (m .atoms)) e) es a) (next-told m x e j) (k .1))))
+          excess-on w e es a (f (subst (λ (n : ℕ). Stops p l (some x) n es a) (sym (g .number)) (subst (λ (o : Option Molecule). Stops p l o (atomsNamed (length (m .atoms)) e) es a) (next-told m x e j) (k .1))))
 
 -- ---- FROM THE BEGINNING
-module _ (p l : ℕ) (es : List Event) (w : Molecule) (t : moleculeOf asHeld es ≡ some w) where
+module _ (p l : ℕ) (es : List ReadEvent) (w : Molecule) (t : moleculeOf asHeld es ≡ some w) where
   pub roomy-runs : length (w .atoms) ≤ p → countOf (w .atoms) ≤ l → Turnable es → Runs p l begun 0 es
   unfolding moleculeOf InPath
   roomy-runs f c u = room-runs p l es _ w tt t f c (turnable-turns es u)

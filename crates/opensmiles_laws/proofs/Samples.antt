@@ -7,7 +7,7 @@ use lib.ListN.{length, length-append}
 use Rattle.feature.specs.Text.{bytes}
 use Rattle.read.specs.declared.Answer.the-variants as answer
 use Rattle.read.specs.Read.{Said}
-use Rattle.read.specs.Line.{refusing, lineOf}
+use Rattle.read.specs.Line.{readRefusing, readText}
 use Rattle.opensmiles_laws.proofs.Came.{long, came-said}
 
 -- a text so many times
@@ -24,8 +24,8 @@ length-times (suc n) x h = length-append x (times n x) ∙ omega (arith, h, leng
 abbrev pub manyDigits : List ℕ
 manyDigits = times 1000 (bytes "[000C:000]")
 
-pub many-digits : (la lb : ℕ) → lineOf manyDigits la lb .answer ≡ answer.TextTooLong 10000
+pub many-digits : (la lb : ℕ) → readText manyDigits la lb .answer ≡ answer.TextTooLong 10000
 many-digits la lb =
     let n : length manyDigits ≡ 10000 = length-times 1000 (bytes "[000C:000]") refl in
-    ap (λ (x : Said). x .answer) (came-said manyDigits la lb (refusing (answer.TextTooLong (length manyDigits)) la lb) (long (omega (arith, n))))
+    ap (λ (x : Said). x .answer) (came-said manyDigits la lb (readRefusing (answer.TextTooLong (length manyDigits)) la lb) (long (omega (arith, n))))
     ∙ ap (λ (i : ℕ). answer.TextTooLong i) n

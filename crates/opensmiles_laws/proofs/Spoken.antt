@@ -7,12 +7,12 @@ use mathlib.Core.Bool.{Bool, true, false}
 use mathlib.Core.Logic.{_⊎_, inl, inr}
 use native.Mathlib.Omega.{arith}
 use lib.ListN.{length}
-use Rattle.read_line.specs.Events.{Event, Enter, Join, Pop, Miss, Nest}
+use Rattle.read_line.specs.Events.{ReadEvent, Enter, Join, Pop, Miss, Nest}
 use Rattle.read_token.specs.declared.scanner.Missing.the-variants as missing
 use Rattle.read_line.specs.Parse.{parse}
 use Rattle.grammar.specs.Grammar.{Line, spell}
 use Rattle.builder.specs.Limits.{branchLimit}
-use Rattle.grammar.specs.Lines.{Bytes, Fits, Spelled, Viable, Refused, TooDeep, Ends}
+use Rattle.grammar.specs.Lines.{Bytes, Fits, Spelled, Viable, WrongAt, TooDeep, Ends}
 use Rattle.grammar.proofs.Machine.{top, begin, State, want, step, ending}
 use Rattle.grammar.proofs.Sound.{sofar, Told, ending-ok}
 use Rattle.grammar.proofs.Complete.{chain, steps, steps-then}
@@ -25,7 +25,7 @@ use Rattle.opensmiles_laws.proofs.Deep.{Fitting, fitting, Nested, fit-f
 use Rattle.opensmiles_laws.proofs.Telling.{has-told}
 
 -- an event that says what is wrong
-unfoldable pub Final : Event → Type 0
+unfoldable pub Final : ReadEvent → Type 0
 Final (Enter l k at) = ⊥
 Final (Join e r at) = ⊥
 Final (Pop i) = ⊥
@@ -33,29 +33,29 @@ Final (Miss x) = Unit {0}
 Final (Nest at) = Unit {0}
 
 pub record Spoken (s upto : List ℕ) : Type 0 where
-  pub told : List Event
-  pub last : Event
+  pub told : List ReadEvent
+  pub last : ReadEvent
   pub tells : HasTold upto told
   pub is : parse s ≡ told ++ (last ∷ [])
   pub final : Final last
 
 module _ (s : List ℕ) (h : Bytes s) where
-  through : (q bs : List ℕ) (v : State) → s ≡ q ++ bs → steps zero-state q ≡ some v → ((told : List Event) × (m : ℕ) × (parse s ≡ told ++ (Nest m ∷ [])) × (m < length q)) ⊎ (Fit v × (parse s ≡ full v (length q) bs))
+  through : (q bs : List ℕ) (v : State) → s ≡ q ++ bs → steps zero-state q ≡ some v → ((told : List ReadEvent) × (m : ℕ) × (parse s ≡ told ++ (Nest m ∷ [])) × (m < length q)) ⊎ (Fit v × (parse s ≡ full v (length q) bs))
   unfolding Nested
   through q bs v i e = by (fit-full q bs zero-state v 0 e (unfold zero-state in fit-first))
     where
       parsed : parse s ≡ full zero-state 0 (q ++ bs)
       parsed = parse-full s h ∙ (unfold zero-state in ap (full (want (begin top)) 0) i)
 
-      by : ((told : List Event) × (m : ℕ) × (full zero-state 0 (q ++ bs) ≡ told ++ (Nest m ∷ [])) × (m < 0 + length q)) ⊎ (Fit v × (full zero-state 0 (q ++ bs) ≡ full v (0 + length q) bs))
-          → ((told : List Event) × (m : ℕ) × (parse s ≡ told ++ (Nest m ∷ [])) × (m < length q)) ⊎ (Fit v × (parse s ≡ full v (length q) bs))
+      by : ((told : List ReadEvent) × (m : ℕ) × (full zero-state 0 (q ++ bs) ≡ told ++ (Nest m ∷ [])) × (m < 0 + length q)) ⊎ (Fit v × (full zero-state 0 (q ++ bs) ≡ full v (0 + length q) bs))
+          → ((told : List ReadEvent) × (m : ℕ) × (parse s ≡ told ++ (Nest m ∷ [])) × (m < length q)) ⊎ (Fit v × (parse s ≡ full v (length q) bs))
       by (inl y) = inl (y .0, y .1, parsed ∙ y .2, omega (arith, y .3))
       by (inr y) = inr (y .0, parsed ∙ y .1 ∙ ap (λ (n : ℕ). full v n bs) (omega arith))
 
-  nested : (es : List Event) (m : ℕ) → parse s ≡ es ++ (Nest m ∷ []) → TooDeep s m
+  nested : (es : List ReadEvent) (m : ℕ) → parse s ≡ es ++ (Nest m ∷ []) → TooDeep s m
   nested es m i = nest-is s h m (unfold Ends in (es, i))
 
-  pub wrong-spoken : (n : ℕ) (r : Refused s n) → Shallow s → Spoken s (r .before)
+  pub wrong-spoken : (n : ℕ) (r : WrongAt s n) → Shallow s → Spoken s (r .before)
   unfolding Shallow
   wrong-spoken n r shallow = by (through (r .before) (r .byte ∷ r .behind) u (r .is) e)
     where
@@ -72,7 +72,7 @@ module _ (s : List ℕ) (h : Bytes s) where
       stuck none f = refl
       stuck (some t) f = absurd (r .dead (through-viable (r .before ++ (r .byte ∷ [])) t (step-on t f)))
 
-      by : ((told : List Event) × (m : ℕ) × (parse s ≡ told ++ (Nest m ∷ [])) × (m < length (r .before))) ⊎ (Fit u × (parse s ≡ full u (length (r .before)) (r .byte ∷ r .behind))) → Spoken s (r .before)
+      by : ((told : List ReadEvent) × (m : ℕ) × (parse s ≡ told ++ (Nest m ∷ [])) × (m < length (r .before))) ⊎ (Fit u × (parse s ≡ full u (length (r .before)) (r .byte ∷ r .behind))) → Spoken s (r .before)
       by (inl y) = absurd (shallow (y .1) (nested (y .0) (y .1) (y .2)))
       by (inr y) =
           record { told = told u; last = Miss (refusal u (length (r .before)) (r .byte) (r .behind)); tells = has-told (r .before) u e; is = y .1 ∙ (unfold full in rw (stuck (step u (r .byte)) refl) (unfold onward in refl)); final = unfold Final in tt }
@@ -91,7 +91,7 @@ module _ (s : List ℕ) (h : Bytes s) where
       unended none g = refl
       unended (some t) g = absurd (unspelled (t, g ∙ reached s u e))
 
-      by : ((told : List Event) × (m : ℕ) × (parse s ≡ told ++ (Nest m ∷ [])) × (m < length s)) ⊎ (Fit u × (parse s ≡ full u (length s) [])) → Spoken s s
+      by : ((told : List ReadEvent) × (m : ℕ) × (parse s ≡ told ++ (Nest m ∷ [])) × (m < length s)) ⊎ (Fit u × (parse s ≡ full u (length s) [])) → Spoken s s
       by (inl y) = absurd (shallow (y .1) (nested (y .0) (y .1) (y .2)))
       by (inr y) =
           record { told = told u; last = Miss missing.EndOfLine; tells = has-told s u e; is = y .1 ∙ (unfold full in rw (unended (ending u) (ending-ok u)) (unfold halt in refl)); final = unfold Final in tt }
@@ -115,7 +115,7 @@ module _ (s : List ℕ) (h : Bytes s) where
           let o : steps zero-state (d .before ++ (d .byte ∷ [])) ≡ some t = steps-then (d .before) (d .byte ∷ []) zero-state u e ∙ (unfold steps chain in rw f) in
           d .deep (w .0) (w .1) (w .2 ∙ ap (λ (x : List ℕ). x ++ w .1) (reached (d .before ++ (d .byte ∷ [])) t o) ∙ append-assoc (d .before) (d .byte ∷ []) (w .1)) (w .3)
 
-      by : ((told : List Event) × (m : ℕ) × (parse s ≡ told ++ (Nest m ∷ [])) × (m < length (d .before))) ⊎ (Fit u × (parse s ≡ full u (length (d .before)) (d .byte ∷ d .behind))) → Spoken s (d .before)
+      by : ((told : List ReadEvent) × (m : ℕ) × (parse s ≡ told ++ (Nest m ∷ [])) × (m < length (d .before))) ⊎ (Fit u × (parse s ≡ full u (length (d .before)) (d .byte ∷ d .behind))) → Spoken s (d .before)
       by (inl y) = absurd (omega (arith, first (y .1) (nested (y .0) (y .1) (y .2)), y .3, d .place))
       by (inr y) = go (step u (d .byte)) refl (y .1 ∙ (unfold full in refl))
         where

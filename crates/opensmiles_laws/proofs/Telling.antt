@@ -7,7 +7,7 @@ use mathlib.Core.Logic.{_⊎_, inl, inr}
 use native.Mathlib.Omega.{arith}
 use lib.ListN.{length, length-append}
 use Rattle.feature.specs.Text.{byte}
-use Rattle.read_line.specs.Events.{Event}
+use Rattle.read_line.specs.Events.{ReadEvent}
 use Rattle.grammar.specs.Names.{has1, has2}
 use Rattle.grammar.specs.Grammar.{organics, bare1, bare2, Atom, organic, bracket, elided, bond, dot, linkS, Line, start, link, ring, branch, spell, bond?S, digitS, tells}
 use Rattle.grammar.proofs.Table.{test-yes}
@@ -61,7 +61,7 @@ spotS : Spot → List ℕ
 spotS nowhere = []
 spotS (spot k c) = aroundS k ++ spell c
 
-spotE : Spot → List Event
+spotE : Spot → List ReadEvent
 spotE nowhere = []
 spotE (spot k c) = toldLine k c
 
@@ -363,7 +363,7 @@ tells-same m n e =
     let h : r .0 ≡ q .0 = cc in
     sym (r .3) ∙ ap told h ∙ q .3
 
-pub told-one : (p : List ℕ) (es ds : List Event) → HasTold p es → HasTold p ds → es ≡ ds
+pub told-one : (p : List ℕ) (es ds : List ReadEvent) → HasTold p es → HasTold p ds → es ≡ ds
 told-one p es ds (nothing h e) (nothing g f) = e ∙ sym f
 told-one p es ds (nothing h e) (so-far m v i g f) = absurd (h m v i)
 told-one p es ds (so-far m v i g f) (nothing h e) = absurd (h m v i)

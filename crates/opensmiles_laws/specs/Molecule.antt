@@ -10,7 +10,7 @@ use mathlib.Core.Bool.{Bool, false}
 use lib.ListN.{length, drop}
 use Rattle.feature.specs.Pick.{pick, both}
 use Rattle.feature.specs.Kinds.{invertOf}
-use Rattle.feature.specs.Bonds.{same, reverseOf}
+use Rattle.feature.specs.Bonds.{sameKind, reverseOf}
 use Rattle.feature.specs.declared.atom_kind.AtomKind.{AtomKind}
 use Rattle.feature.specs.declared.atom_kind.Inverted.{Inverted}
 use Rattle.feature.specs.declared.atom_kind.Inverted.the-variants.{Turned, Refused}
@@ -18,8 +18,8 @@ use Rattle.feature.specs.declared.bond_kind.BondKind.{BondKind}
 use Rattle.feature.specs.declared.bond_kind.BondKind.the-variants.{Elided, Double}
 use Rattle.read_line.specs.declared.lead.Lead.{Lead}
 use Rattle.read_line.specs.declared.lead.Lead.the-variants.{Dot, Bond}
-use Rattle.read_line.specs.Events.{Event, Enter, Join, Pop, Miss, Nest}
-use Rattle.builder_meaning.specs.Sketch.{To, Open, Edge, Node, Held, edge, node, held, upd, edgesAt, addEdge, openKind, fill, lookup, without, leads, firstOpenS}
+use Rattle.read_line.specs.Events.{ReadEvent, Enter, Join, Pop, Miss, Nest}
+use Rattle.builder_meaning.specs.Sketch.{To, Open, Edge, Node, Held, edge, node, held, upd, edgesAt, addEdge, openKind, fill, lookup, ringFreed, leads, firstOpenS}
 use Rattle.grammar.specs.OpenSmiles.{Chain, says}
 
 -- ---- A MOLECULE IN THE MAKING
@@ -35,10 +35,10 @@ abbrev pub molecule : List Node → List ℕ → List Held → ℕ → Molecule
 molecule ns at os j = record { atoms = ns; path = at; opens = os; joins = j }
 
 -- An atom after a dot has no neighbour yet. Else the atom that stands is its first neighbour, and it is that one's last.
-unfoldable pub placed : Molecule → Lead → AtomKind → List ℕ → Option Molecule
-placed m Dot k at = some (molecule (m .atoms ++ (node k [] ∷ [])) (length (m .atoms) ∷ at) (m .opens) (m .joins))
-placed m (Bond e) k [] = none
-placed m (Bond e) k (s ∷ at) =
+unfoldable pub atomPlaced : Molecule → Lead → AtomKind → List ℕ → Option Molecule
+atomPlaced m Dot k at = some (molecule (m .atoms ++ (node k [] ∷ [])) (length (m .atoms) ∷ at) (m .opens) (m .joins))
+atomPlaced m (Bond e) k [] = none
+atomPlaced m (Bond e) k (s ∷ at) =
     some (molecule
     (upd s (addEdge (edge e (To (length (m .atoms))))) (m .atoms) ++ (node k (edge (reverseOf e) (To s) ∷ []) ∷ []))
     (length (m .atoms) ∷ s ∷ at) (m .opens) (m .joins))
@@ -48,9 +48,9 @@ placed m (Bond e) k (s ∷ at) =
 -- single bonds, and may be taken to agree; here, as in the reader, they don't. Smallest lines: C/1CC-1, C-1CC/1.
 unfoldable pub agreed : BondKind → BondKind → Option BondKind
 agreed k l =
-    pick (same k Elided) (some (reverseOf l))
-    (pick (same l Elided) (some k)
-    (pick (same l (reverseOf k)) (some k)
+    pick (sameKind k Elided) (some (reverseOf l))
+    (pick (sameKind l Elided) (some k)
+    (pick (sameKind l (reverseOf k)) (some k)
     none))
 
 -- A number's second use: the opening atom's neighbour stands where the number did.
@@ -59,18 +59,18 @@ closed m n s h none = none
 closed m n s h (some k) =
     some (molecule
     (upd s (addEdge (edge (reverseOf k) (To (h .atom)))) (upd (h .atom) (fill (h .join) k s) (m .atoms)))
-    (m .path) (without n (m .opens)) (m .joins + 1))
+    (m .path) (ringFreed n (m .opens)) (m .joins + 1))
 
 -- A ring number at the atom s: its first use keeps its place among the neighbours, its second closes the ring, and the number is
 -- free again.
-unfoldable pub ringed : Molecule → BondKind → ℕ → ℕ → Option Held → Option Molecule
-ringed m e n s none =
+unfoldable pub moleculeRinged : Molecule → BondKind → ℕ → ℕ → Option Held → Option Molecule
+moleculeRinged m e n s none =
     some (molecule (upd s (addEdge (edge e (Open (m .joins)))) (m .atoms)) (m .path) (held n s (m .joins) ∷ m .opens) (m .joins + 1))
-ringed m e n s (some h) = closed m n s h (agreed (openKind (h .join) (edgesAt (h .atom) (m .atoms))) e)
+moleculeRinged m e n s (some h) = closed m n s h (agreed (openKind (h .join) (edgesAt (h .atom) (m .atoms))) e)
 
 unfoldable pub numbered : Molecule → BondKind → ℕ → List ℕ → Option Molecule
 numbered m e n [] = none
-numbered m e n (s ∷ at) = ringed m e n s (lookup n (m .opens))
+numbered m e n (s ∷ at) = moleculeRinged m e n s (lookup n (m .opens))
 
 -- ---- HOW AN ATOM IS HELD
 -- OpenSMILES: as it is written. Departure "H0": it means by "[CH0]" what it means by "[C]"; here, as in the reader, the two are
@@ -92,22 +92,22 @@ asHeld Dot k = k
 asHeld (Bond e) k = turnedOr k (invertOf k)
 
 -- ---- THE MOLECULE OF A LINE, by its events and by how its atoms are held; none if it has none
-unfoldable pub told : (Lead → AtomKind → AtomKind) → Molecule → Event → Option Molecule
-told hold m (Enter l k place) = placed m l (hold l k) (m .path)
-told hold m (Join e n place) = numbered m e n (m .path)
-told hold m (Pop n) = some (molecule (m .atoms) (drop n (m .path)) (m .opens) (m .joins))
-told hold m (Miss x) = none
-told hold m (Nest place) = none
+unfoldable pub moleculeTold : (Lead → AtomKind → AtomKind) → Molecule → ReadEvent → Option Molecule
+moleculeTold hold m (Enter l k place) = atomPlaced m l (hold l k) (m .path)
+moleculeTold hold m (Join e n place) = numbered m e n (m .path)
+moleculeTold hold m (Pop n) = some (molecule (m .atoms) (drop n (m .path)) (m .opens) (m .joins))
+moleculeTold hold m (Miss x) = none
+moleculeTold hold m (Nest place) = none
 
-unfoldable pub next : (Lead → AtomKind → AtomKind) → Option Molecule → Event → Option Molecule
+unfoldable pub next : (Lead → AtomKind → AtomKind) → Option Molecule → ReadEvent → Option Molecule
 next hold none e = none
-next hold (some m) e = told hold m e
+next hold (some m) e = moleculeTold hold m e
 
-unfoldable pub tellAll : (Lead → AtomKind → AtomKind) → Option Molecule → List Event → Option Molecule
+unfoldable pub tellAll : (Lead → AtomKind → AtomKind) → Option Molecule → List ReadEvent → Option Molecule
 tellAll hold o [] = o
 tellAll hold o (e ∷ es) = tellAll hold (next hold o e) es
 
-unfoldable pub moleculeOf : (Lead → AtomKind → AtomKind) → List Event → Option Molecule
+unfoldable pub moleculeOf : (Lead → AtomKind → AtomKind) → List ReadEvent → Option Molecule
 moleculeOf hold es = tellAll hold (some (molecule [] [] [] 0)) es
 
 -- Each atom's neighbours, and each atom's kind; only the kinds depend on how an atom is held.
@@ -115,18 +115,18 @@ unfoldable pub neighbours : List Node → List (List Edge)
 neighbours [] = []
 neighbours (n ∷ ns) = n .edges ∷ neighbours ns
 
-unfoldable pub kinds : List Node → List AtomKind
-kinds [] = []
-kinds (n ∷ ns) = n .kind ∷ kinds ns
+unfoldable pub nodeKinds : List Node → List AtomKind
+nodeKinds [] = []
+nodeKinds (n ∷ ns) = n .kind ∷ nodeKinds ns
 
-unfoldable pub kindTold : (Lead → AtomKind → AtomKind) → Event → List AtomKind
+unfoldable pub kindTold : (Lead → AtomKind → AtomKind) → ReadEvent → List AtomKind
 kindTold hold (Enter l k place) = hold l k ∷ []
 kindTold hold (Join e n place) = []
 kindTold hold (Pop n) = []
 kindTold hold (Miss x) = []
 kindTold hold (Nest place) = []
 
-unfoldable pub kindsTold : (Lead → AtomKind → AtomKind) → List Event → List AtomKind
+unfoldable pub kindsTold : (Lead → AtomKind → AtomKind) → List ReadEvent → List AtomKind
 kindsTold hold [] = []
 kindsTold hold (e ∷ es) = kindTold hold e ++ kindsTold hold es
 
@@ -158,7 +158,7 @@ pub record Allowed (ns : List Node) : Type 0 where
 unfoldable pub alleneLike : List Edge → Bool
 alleneLike [] = false
 alleneLike (a ∷ []) = false
-alleneLike (a ∷ b ∷ []) = both (same (a .kind) Double) (same (b .kind) Double)
+alleneLike (a ∷ b ∷ []) = both (sameKind (a .kind) Double) (sameKind (b .kind) Double)
 alleneLike (a ∷ b ∷ c ∷ es) = false
 
 -- ---- WHAT OPENSMILES MEANS BY A CHAIN: the atoms of its molecule, all rings closed, and none joined to itself or joined twice
@@ -174,5 +174,5 @@ pub record Meant (u : Chain) (ns : List Node) : Type 0 where
 -- they are written.
 pub record HeldFor (u : Chain) (meant ns : List Node) : Type 0 where
   pub around : neighbours ns ≡ neighbours meant
-  pub here : kinds ns ≡ kindsTold asHeld (says u)
-  pub there : kinds meant ≡ kindsTold asWritten (says u)
+  pub here : nodeKinds ns ≡ kindsTold asHeld (says u)
+  pub there : nodeKinds meant ≡ kindsTold asWritten (says u)

@@ -12,7 +12,7 @@ use lib.Seq.{sets, set-out, getD-set-same, getD-set-other}
 use lib.Dec.{ltb, leb, eqb, lit<}
 use borrow.Author.Tests.{lt-ltb, le-ltb, lt-leb, le-leb, ltb-true, ltb-false, eqb-true}
 use Rattle.feature.specs.Pick.{pick}
-use Rattle.feature.specs.Kinds.{aliphatics, aromatics, configurations, inRange, Within, Good}
+use Rattle.feature.specs.Kinds.{aliphaticCount, aromaticCount, configurations, inRange, Within, GoodKind}
 use Rattle.feature.specs.Bonds.{codeOf, kindOf}
 use Rattle.feature.specs.declared.atom_kind.AtomKind.{AtomKind}
 use Rattle.feature.specs.declared.atom_kind.AtomKind.the-variants.{Star, Aliphatic, Aromatic, Bracket}
@@ -25,7 +25,7 @@ use Rattle.feature.proofs.Ranges.{good, ranged}
 use Rattle.packing.specs.declared.Loaded.{Loaded}
 use Rattle.packing.specs.declared.Loaded.the-variants.{Held, Bad}
 use Rattle.packing.specs.declared.Entry.the-variants as entry
-use Rattle.packing.specs.Words.{star, aliphatic, aromatic, bracketed, kinds, numbers, charges, pair, bracketPair, pairOf, wordsOf, listOf, plainOf, unpacked, bracketOf, loadOf, loadAt, bondList, entryOf, bondOf, bondAt}
+use Rattle.packing.specs.Words.{star, aliphaticFrom, aromaticFrom, bracketed, kindRoom, numberRoom, charges, pair, bracketPair, pairOf, wordsOf, listOf, plainOf, unpacked, bracketOf, loadOf, loadAt, bondList, entryCoded, entryOfWords, entryStored}
 
 -- ---- a run of stores
 -- beside it nothing changes
@@ -81,8 +81,8 @@ words-in k e = simp e
 bracket-pair : (b : BracketAtom) → Within b → loadOf (bracketPair b .first) (bracketPair b .second) ≡ Held (Bracket b)
 unfolding loadOf bracketOf bracketPair
 bracket-pair b g =
-    let kind : bracketed + b .symbol < kinds = omega arith in
-    let isotope : b .isotope < numbers = omega arith in
+    let kind : bracketed + b .symbol < kindRoom = omega arith in
+    let isotope : b .isotope < numberRoom = omega arith in
     let configuration : b .configuration < configurations = omega arith in
     let charge : b .charge < charges = omega arith in
     let symbol : bracketed + b .symbol - bracketed ≡ b .symbol = omega arith in
@@ -91,17 +91,17 @@ bracket-pair b g =
     (ap (λ (p : Bool). pick p (Held (Bracket b)) Bad) (ranged (Bracket b) g))
 
 -- the words of a kind's numbers stand for it
-pair-loads : (k : AtomKind) → Good k → loadOf (pairOf k .first) (pairOf k .second) ≡ Held k
+pair-loads : (k : AtomKind) → GoodKind k → loadOf (pairOf k .first) (pairOf k .second) ≡ Held k
 unfolding loadOf plainOf pairOf
 pair-loads Star g = refl
 pair-loads (Aliphatic n) g =
-    let e : aliphatic + n - aliphatic ≡ n = omega arith in
+    let e : aliphaticFrom + n - aliphaticFrom ≡ n = omega arith in
     simp
-    (lt-leb bracketed (aliphatic + n) (omega arith), le-ltb (aliphatic + n) star (omega arith), le-ltb (aliphatic + n) aliphatic (omega arith), lt-ltb (aliphatic + n) aromatic (omega arith), e)
+    (lt-leb bracketed (aliphaticFrom + n) (omega arith), le-ltb (aliphaticFrom + n) star (omega arith), le-ltb (aliphaticFrom + n) aliphaticFrom (omega arith), lt-ltb (aliphaticFrom + n) aromaticFrom (omega arith), e)
 pair-loads (Aromatic n) g =
-    let e : aromatic + n - aromatic ≡ n = omega arith in
+    let e : aromaticFrom + n - aromaticFrom ≡ n = omega arith in
     simp
-    (lt-leb bracketed (aromatic + n) (omega arith), le-ltb (aromatic + n) star (omega arith), le-ltb (aromatic + n) aliphatic (omega arith), le-ltb (aromatic + n) aromatic (omega arith), lt-ltb (aromatic + n) bracketed (omega arith), e)
+    (lt-leb bracketed (aromaticFrom + n) (omega arith), le-ltb (aromaticFrom + n) star (omega arith), le-ltb (aromaticFrom + n) aliphaticFrom (omega arith), le-ltb (aromaticFrom + n) aromaticFrom (omega arith), lt-ltb (aromaticFrom + n) bracketed (omega arith), e)
 pair-loads (Bracket b) g = bracket-pair b g
 
 -- the words of a kind in range stand for it
@@ -133,9 +133,9 @@ held {a} {b} j r w e = subst (Stands a b) (same-held e) (r, words-in j r ∙ w)
 bracket-only : (a b : ℕ) (k : AtomKind) → bracketOf a b ≡ Held k → Stands a b k
 unfolding bracketOf pairOf bracketPair
 bracket-only a b k e =
-    let r1 = refused (ltb (a % kinds) bracketed) e in
+    let r1 = refused (ltb (a % kindRoom) bracketed) e in
     let r2 = granted (inRange (Bracket (unpacked a b))) (r1 .1) in
-    let kind : bracketed + (a % kinds - bracketed) ≡ a % kinds = omega (arith, ltb-false (a % kinds) bracketed (r1 .0)) in
+    let kind : bracketed + (a % kindRoom - bracketed) ≡ a % kindRoom = omega (arith, ltb-false (a % kindRoom) bracketed (r1 .0)) in
     held (Bracket (unpacked a b)) (r2 .0) (simp (kind, mod-add-div)) (r2 .1)
 
 -- the first word of any other
@@ -143,17 +143,17 @@ plain-only : (n : ℕ) (k : AtomKind) → plainOf n ≡ Held k → Stands n 0 k
 unfolding plainOf pairOf
 plain-only n k e =
     let r = refused (ltb n star) e in
-    cases (ltb n aliphatic) (ltb n aromatic) refl refl (ltb-false n star (r .0)) (r .1) where
-      cases : (p q : Bool) → ltb n aliphatic ≡ p → ltb n aromatic ≡ q → star ≤ n → pick p (Held Star) (pick q (Held (Aliphatic (n - aliphatic))) (pick (ltb n bracketed) (Held (Aromatic (n - aromatic))) Bad)) ≡ Held k → Stands n 0 k
+    cases (ltb n aliphaticFrom) (ltb n aromaticFrom) refl refl (ltb-false n star (r .0)) (r .1) where
+      cases : (p q : Bool) → ltb n aliphaticFrom ≡ p → ltb n aromaticFrom ≡ q → star ≤ n → pick p (Held Star) (pick q (Held (Aliphatic (n - aliphaticFrom))) (pick (ltb n bracketed) (Held (Aromatic (n - aromaticFrom))) Bad)) ≡ Held k → Stands n 0 k
       cases true q u v l d =
-          held Star (ranged Star tt) (ap (λ (m : ℕ). pair m 0) (omega (arith, ltb-true n aliphatic u))) d
+          held Star (ranged Star tt) (ap (λ (m : ℕ). pair m 0) (omega (arith, ltb-true n aliphaticFrom u))) d
       cases false true u v l d =
-          let g : n - aliphatic < aliphatics = omega (arith, ltb-true n aromatic v) in
-          held (Aliphatic (n - aliphatic)) (ranged (Aliphatic (n - aliphatic)) g) (ap (λ (m : ℕ). pair m 0) (omega (arith, ltb-false n aliphatic u))) d
+          let g : n - aliphaticFrom < aliphaticCount = omega (arith, ltb-true n aromaticFrom v) in
+          held (Aliphatic (n - aliphaticFrom)) (ranged (Aliphatic (n - aliphaticFrom)) g) (ap (λ (m : ℕ). pair m 0) (omega (arith, ltb-false n aliphaticFrom u))) d
       cases false false u v l d =
           let r = granted (ltb n bracketed) d in
-          let g : n - aromatic < aromatics = omega (arith, ltb-true n bracketed (r .0)) in
-          held (Aromatic (n - aromatic)) (ranged (Aromatic (n - aromatic)) g) (ap (λ (m : ℕ). pair m 0) (omega (arith, ltb-false n aromatic v))) (r .1)
+          let g : n - aromaticFrom < aromaticCount = omega (arith, ltb-true n bracketed (r .0)) in
+          held (Aromatic (n - aromaticFrom)) (ranged (Aromatic (n - aromaticFrom)) g) (ap (λ (m : ℕ). pair m 0) (omega (arith, ltb-false n aromaticFrom v))) (r .1)
 
 -- numbers stand for a kind only where it is in range and they are its words: all others are refused
 pub only : (a b : ℕ) (k : AtomKind) → loadOf a b ≡ Held k → (inRange k ≡ true) × (wordsOf k ≡ pair a b)
@@ -167,13 +167,13 @@ only a b k e = split (leb bracketed a) refl where
 
 -- ---- bonds
 -- zero stands for no bond
-pub bond-zero : (target : ℕ) → bondOf 0 target ≡ entry.Bad
-unfolding bondOf entryOf kindOf
+pub bond-zero : (target : ℕ) → entryOfWords 0 target ≡ entry.Bad
+unfolding entryOfWords entryCoded kindOf
 bond-zero target = refl
 
 -- a kind's number stands for it
-pub bond-words : (k : BondKind) (target : ℕ) → bondOf (codeOf k) target ≡ entry.Bond k target
-unfolding bondOf entryOf kindOf codeOf
+pub bond-words : (k : BondKind) (target : ℕ) → entryOfWords (codeOf k) target ≡ entry.Bond k target
+unfolding entryOfWords entryCoded kindOf codeOf
 bond-words bonds.Elided target = refl
 bond-words bonds.Single target = refl
 bond-words bonds.Double target = refl
@@ -205,14 +205,14 @@ code-only n k e =
     absurd (let z : _≡_ {A = ℕ} 0 1 = cc in omega arith)
 
 -- an entry holds the kind and the target that it was made of
-entry-only : (c : Coded) (k : BondKind) (target u : ℕ) → entryOf c target ≡ entry.Bond k u → (c ≡ coded.Kind k) × (target ≡ u)
-unfolding entryOf
+entry-only : (c : Coded) (k : BondKind) (target u : ℕ) → entryCoded c target ≡ entry.Bond k u → (c ≡ coded.Kind k) × (target ≡ u)
+unfolding entryCoded
 entry-only (coded.Kind j) k target u e = (cc, cc)
 entry-only coded.Bad k target u e = absurd (let z : _≡_ {A = ℕ} 0 1 = cc in omega arith)
 
 -- numbers stand for a bond only where they are its own: all others are refused
-pub bond-only : (n target : ℕ) (k : BondKind) (u : ℕ) → bondOf n target ≡ entry.Bond k u → (n ≡ codeOf k) × (target ≡ u)
-unfolding bondOf
+pub bond-only : (n target : ℕ) (k : BondKind) (u : ℕ) → entryOfWords n target ≡ entry.Bond k u → (n ≡ codeOf k) × (target ≡ u)
+unfolding entryOfWords
 bond-only n target k u e =
     let r = entry-only (kindOf n) k target u e in
     (code-only n k (r .0), r .1)
@@ -236,8 +236,8 @@ load-past t at h =
     simp (List·getD-eq-default t 0 h, List·getD-eq-default t 0 h1) zeros
 
 -- past the end of a table there is no bond
-pub bond-past : (t : List ℕ) (at : ℕ) → length t ≤ at → bondAt t at ≡ entry.Bad
-unfolding bondAt
+pub bond-past : (t : List ℕ) (at : ℕ) → length t ≤ at → entryStored t at ≡ entry.Bad
+unfolding entryStored
 bond-past t at h =
     let h1 : length t ≤ at + 1 = omega arith in
     simp (List·getD-eq-default t 0 h, List·getD-eq-default t 0 h1) (bond-zero 0)
@@ -249,8 +249,8 @@ load-stored t at k e room =
     simp (sets-first t (listOf k) at room (lit< tt), sets-in t (listOf k) at 1 room (lit< tt)) (load-words k e)
 
 -- a bond that was stored is the one that is loaded
-pub bond-stored : (t : List ℕ) (at : ℕ) (k : BondKind) (target : ℕ) → at + 2 ≤ length t → bondAt (sets t at (bondList k target)) at ≡ entry.Bond k target
-unfolding bondAt bondList
+pub bond-stored : (t : List ℕ) (at : ℕ) (k : BondKind) (target : ℕ) → at + 2 ≤ length t → entryStored (sets t at (bondList k target)) at ≡ entry.Bond k target
+unfolding entryStored bondList
 bond-stored t at k target room =
     simp (sets-first t (bondList k target) at room (lit< tt), sets-in t (bondList k target) at 1 room (lit< tt))
     (bond-words k target)
@@ -270,6 +270,6 @@ module _ (t vs : List ℕ) (at j : ℕ) (apart : (j + 2 ≤ at) ⊎ (at + length
   load-beside = simp (sets-beside t vs at j first-beside, sets-beside t vs at (j + 1) second-beside)
 
   -- the bonds stay as they are
-  pub bond-beside : bondAt (sets t at vs) j ≡ bondAt t j
-  unfolding bondAt
+  pub bond-beside : entryStored (sets t at vs) j ≡ entryStored t j
+  unfolding entryStored
   bond-beside = simp (sets-beside t vs at j first-beside, sets-beside t vs at (j + 1) second-beside)

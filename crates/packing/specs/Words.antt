@@ -5,7 +5,7 @@ use mathlib.Core.List.{List, [], _∷_}
 use lib.ListN.{getD}
 use lib.Dec.{ltb, leb}
 use Rattle.feature.specs.Pick.{pick}
-use Rattle.feature.specs.Kinds.{configurations, bracket, inRange}
+use Rattle.feature.specs.Kinds.{configurations, bracketOfSix, inRange}
 use Rattle.feature.specs.Bonds.{codeOf, kindOf}
 use Rattle.feature.specs.declared.atom_kind.AtomKind.{AtomKind}
 use Rattle.feature.specs.declared.atom_kind.AtomKind.the-variants.{Star, Aliphatic, Aromatic, Bracket}
@@ -29,21 +29,21 @@ bondWords = 2
 abbrev pub star : ℕ
 star = 1
 
-abbrev pub aliphatic : ℕ
-aliphatic = 2
+abbrev pub aliphaticFrom : ℕ
+aliphaticFrom = 2
 
-abbrev pub aromatic : ℕ
-aromatic = 14
+abbrev pub aromaticFrom : ℕ
+aromaticFrom = 14
 
 abbrev pub bracketed : ℕ
 bracketed = 20
 
 -- the room of each number of a bracket atom, but for the last of a word
-abbrev pub kinds : ℕ
-kinds = 256
+abbrev pub kindRoom : ℕ
+kindRoom = 256
 
-abbrev pub numbers : ℕ
-numbers = 1001
+abbrev pub numberRoom : ℕ
+numberRoom = 1001
 
 abbrev pub charges : ℕ
 charges = 32
@@ -54,14 +54,14 @@ pair a b = record { first = a; second = b }
 unfoldable pub bracketPair : BracketAtom → Pair
 bracketPair b =
     pair
-    (bracketed + b .symbol + kinds * (b .isotope + numbers * (b .configuration + configurations * b .hydrogens)))
+    (bracketed + b .symbol + kindRoom * (b .isotope + numberRoom * (b .configuration + configurations * b .hydrogens)))
     (b .charge + charges * b .map)
 
 -- the two words of a kind whose numbers are in range
 unfoldable pub pairOf : AtomKind → Pair
 pairOf Star = pair star 0
-pairOf (Aliphatic n) = pair (aliphatic + n) 0
-pairOf (Aromatic n) = pair (aromatic + n) 0
+pairOf (Aliphatic n) = pair (aliphaticFrom + n) 0
+pairOf (Aromatic n) = pair (aromaticFrom + n) 0
 pairOf (Bracket b) = bracketPair b
 
 -- and of any kind
@@ -78,18 +78,18 @@ listOf k = listed (wordsOf k)
 unfoldable pub plainOf : ℕ → Loaded
 plainOf n =
     pick (ltb n star) Bad
-    (pick (ltb n aliphatic) (Held Star)
-    (pick (ltb n aromatic) (Held (Aliphatic (n - aliphatic)))
-    (pick (ltb n bracketed) (Held (Aromatic (n - aromatic)))
+    (pick (ltb n aliphaticFrom) (Held Star)
+    (pick (ltb n aromaticFrom) (Held (Aliphatic (n - aliphaticFrom)))
+    (pick (ltb n bracketed) (Held (Aromatic (n - aromaticFrom)))
     Bad)))
 
 abbrev pub unpacked : ℕ → ℕ → BracketAtom
 unpacked a b =
-    bracket (a / kinds % numbers) (a % kinds - bracketed) (a / kinds / numbers % configurations) (a / kinds / numbers / configurations) (b % charges) (b / charges)
+    bracketOfSix (a / kindRoom % numberRoom) (a % kindRoom - bracketed) (a / kindRoom / numberRoom % configurations) (a / kindRoom / numberRoom / configurations) (b % charges) (b / charges)
 
 unfoldable pub bracketOf : ℕ → ℕ → Loaded
 bracketOf a b =
-    pick (ltb (a % kinds) bracketed) Bad
+    pick (ltb (a % kindRoom) bracketed) Bad
     (pick (inRange (Bracket (unpacked a b))) (Held (Bracket (unpacked a b)))
     Bad)
 
@@ -114,12 +114,12 @@ isAtom t a = isHeld (loadAt t (a * atomWords))
 unfoldable pub bondList : BondKind → ℕ → List ℕ
 bondList k target = codeOf k ∷ target ∷ []
 
-unfoldable pub entryOf : Coded → ℕ → Entry
-entryOf (coded.Kind k) target = entry.Bond k target
-entryOf coded.Bad target = entry.Bad
+unfoldable pub entryCoded : Coded → ℕ → Entry
+entryCoded (coded.Kind k) target = entry.Bond k target
+entryCoded coded.Bad target = entry.Bad
 
-unfoldable pub bondOf : ℕ → ℕ → Entry
-bondOf n target = entryOf (kindOf n) target
+unfoldable pub entryOfWords : ℕ → ℕ → Entry
+entryOfWords n target = entryCoded (kindOf n) target
 
-unfoldable pub bondAt : List ℕ → ℕ → Entry
-bondAt t at = bondOf (getD t at 0) (getD t (at + 1) 0)
+unfoldable pub entryStored : List ℕ → ℕ → Entry
+entryStored t at = entryOfWords (getD t at 0) (getD t (at + 1) 0)

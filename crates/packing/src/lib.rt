@@ -6,8 +6,8 @@ ghost use mathlib.Core.Path.{_≡_};
 ghost use Prim.Native.Nat.{_^_, _<_};
 ghost use lib.ListN.{getD, set};
 ghost use lib.Seq.{sets};
-ghost use Rattle.feature.specs.Kinds.{Good, Within};
-ghost use Rattle.packing.specs.Words.{isAtom, bracketPair, pairOf, wordsOf, listOf, plainOf, bracketOf, loadOf, loadAt, bondList, bondAt, bondOf};
+ghost use Rattle.feature.specs.Kinds.{GoodKind, Within};
+ghost use Rattle.packing.specs.Words.{isAtom, bracketPair, pairOf, wordsOf, listOf, plainOf, bracketOf, loadOf, loadAt, bondList, entryStored, entryOfWords};
 use feature::atom_kind::AtomKind;
 use feature::atom_kind::BracketAtom;
 use feature::atom_kind::CONFIGURATIONS;
@@ -88,7 +88,7 @@ fn pack_bracket(b: BracketAtom) -> Pair
 
 // The words of a kind in range.
 fn packed(k: AtomKind) -> Pair
-    requires { ⌜ Good k ⌝ }
+    requires { ⌜ GoodKind k ⌝ }
     ensures { λ r. ⌜ r ≡ pairOf k ⌝ }
 {
     match k {
@@ -220,7 +220,7 @@ pub fn store_bond(t: &mut [u32], at: usize, k: BondKind, target: u32)
 }
 
 fn bond(n: u32, target: u32) -> Entry
-    ensures { λ r. ⌜ r ≡ bondOf n target ⌝ }
+    ensures { λ r. ⌜ r ≡ entryOfWords n target ⌝ }
 {
     match feature::bond_kind::decode(n) {
         Coded::Kind(k) => Entry::Bond(k, target),
@@ -230,7 +230,7 @@ fn bond(n: u32, target: u32) -> Entry
 
 // The bond entry that stands at a place.
 pub fn load_bond(t: &[u32], at: usize) -> Entry
-    ensures { λ r. ⌜ r ≡ bondAt (now (t .entry)) at ⌝ }
+    ensures { λ r. ⌜ r ≡ entryStored (now (t .entry)) at ⌝ }
 {
     if at < t.len() {
         return bond(look(t, at), look(t, at + 1));

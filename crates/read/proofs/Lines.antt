@@ -8,7 +8,7 @@ use lib.Dec.{ltb, eqb}
 use Rattle.feature.specs.Pick.{pick}
 use Rattle.builder.specs.Limits.{textLimit, atomLimit, bondLimit, fewAtoms, lesserOf}
 use Rattle.packing.specs.Words.{atomWords, bondWords}
-use Rattle.builder.specs.Rings.{numbers}
+use Rattle.builder.specs.Rings.{ringNumberCount}
 use Rattle.builder.specs.State.{Bld, entryWords, inversion, atomRoom, bondRoom}
 use Rattle.read_line.specs.Events.{endOfLine, character, nesting}
 use Rattle.read_line.proofs.Counts.{by-test}
@@ -19,27 +19,27 @@ use Rattle.builder.proofs.Laws.{zero-at}
 use Rattle.builder_meaning.proofs.Text.{Reads, text-reads, lesser-most, lesser-held}
 use Rattle.read.specs.declared.Answer.{Answer}
 use Rattle.read.specs.declared.Answer.the-variants.{Done, TextTooLong}
-use Rattle.read.specs.Read.{Said, said, refusalOf, builtAnswer, builtSaid, stateOf, saidOf, within, readOf}
+use Rattle.read.specs.Read.{Said, said, readRefusal, builtAnswer, builtSaid, stateOf, stateSaid, within, readOf}
 use Rattle.read.specs.Rooms.{Few, fewBonds}
-use Rattle.read.specs.Line.{refusing, wholeOf, graphOf, lineOf}
+use Rattle.read.specs.Line.{readRefusing, wholeOf, wholeOrRefused, readText}
 
 -- a state and a sketch that agree are answered alike
-same-said : (b : Bld) (d : Sketch) (la lb : ℕ) → Reads b d la lb → saidOf lb b ≡ graphOf d la lb
-unfolding saidOf builtSaid graphOf wholeOf
+same-said : (b : Bld) (d : Sketch) (la lb : ℕ) → Reads b d la lb → stateSaid lb b ≡ wholeOrRefused d la lb
+unfolding stateSaid builtSaid wholeOrRefused wholeOf
 same-said b d la lb r =
     simp (r .built .answer, r .built .atoms, r .built .bonds, r .refusal, r .carried, r .atoms, r .entries, r .long)
 
 -- the work room that is lent: long enough, and no ring number held
-module _ (s : List ℕ) (la lb : ℕ) (e p r : List ℕ) (wide : lesserOf bondLimit (lb / bondWords) * entryWords ≤ length e) (deep : lesserOf atomLimit (la / atomWords) ≤ length p) (round : numbers ≤ length r) (free : (n : ℕ) → n < numbers → getD r n 0 ≡ 0) where
+module _ (s : List ℕ) (la lb : ℕ) (e p r : List ℕ) (wide : lesserOf bondLimit (lb / bondWords) * entryWords ≤ length e) (deep : lesserOf atomLimit (la / atomWords) ≤ length p) (round : ringNumberCount ≤ length r) (free : (n : ℕ) → n < ringNumberCount → getD r n 0 ≡ 0) where
   reads : Reads (stateOf s (replicate la 0) lb e p r) (sketchOf s (length (replicate {A = ℕ} la 0)) lb) (length (replicate {A = ℕ} la 0)) lb
   unfolding stateOf
   reads =
       text-reads s (replicate la 0) e p r lb wide (subst (λ (n : ℕ). lesserOf atomLimit (n / atomWords) ≤ length p) (sym (length-replicate la 0)) deep) round (zero-at la) free
 
-  within-line : within s (replicate la 0) lb e p r ≡ graphOf (sketchOf s la lb) la lb
+  within-line : within s (replicate la 0) lb e p r ≡ wholeOrRefused (sketchOf s la lb) la lb
   unfolding within
   within-line =
-      same-said _ _ _ _ reads ∙ ap (λ (n : ℕ). graphOf (sketchOf s n lb) n lb) (length-replicate la 0)
+      same-said _ _ _ _ reads ∙ ap (λ (n : ℕ). wholeOrRefused (sketchOf s n lb) n lb) (length-replicate la 0)
 
   reads-ends : BothEnds (sketchOf s la lb .nodes)
   reads-ends = subst (λ (n : ℕ). BothEnds (sketchOf s n lb .nodes)) (length-replicate la 0) (reads .ends)
@@ -48,32 +48,32 @@ module _ (s : List ℕ) (la lb : ℕ) (e p r : List ℕ) (wide : lesserOf bondLi
 room-of : (n : ℕ) → n ≤ length (replicate {A = ℕ} n 0)
 room-of n = omega (arith, length-replicate {A = ℕ} n 0)
 
-pub within-many : (s : List ℕ) (la lb : ℕ) → within s (replicate la 0) lb (replicate (bondLimit * entryWords) 0) (replicate atomLimit 0) (replicate numbers 0) ≡ graphOf (sketchOf s la lb) la lb
+pub within-many : (s : List ℕ) (la lb : ℕ) → within s (replicate la 0) lb (replicate (bondLimit * entryWords) 0) (replicate atomLimit 0) (replicate ringNumberCount 0) ≡ wholeOrRefused (sketchOf s la lb) la lb
 within-many s la lb =
-    within-line s la lb _ _ _ (omega (arith, room-of (bondLimit * entryWords), lesser-most bondLimit (lb / bondWords))) (omega (arith, room-of atomLimit, lesser-most atomLimit (la / atomWords))) (room-of numbers) (λ n h. zero-at numbers n)
+    within-line s la lb _ _ _ (omega (arith, room-of (bondLimit * entryWords), lesser-most bondLimit (lb / bondWords))) (omega (arith, room-of atomLimit, lesser-most atomLimit (la / atomWords))) (room-of ringNumberCount) (λ n h. zero-at ringNumberCount n)
 
-pub within-few : (s : List ℕ) (la lb : ℕ) → Few la lb → within s (replicate la 0) lb (replicate (fewBonds * entryWords) 0) (replicate fewAtoms 0) (replicate numbers 0) ≡ graphOf (sketchOf s la lb) la lb
+pub within-few : (s : List ℕ) (la lb : ℕ) → Few la lb → within s (replicate la 0) lb (replicate (fewBonds * entryWords) 0) (replicate fewAtoms 0) (replicate ringNumberCount 0) ≡ wholeOrRefused (sketchOf s la lb) la lb
 within-few s la lb few =
-    within-line s la lb _ _ _ (omega (arith, room-of (fewBonds * entryWords), lesser-held bondLimit (lb / bondWords), few .bonds)) (omega (arith, room-of fewAtoms, lesser-held atomLimit (la / atomWords), few .atoms)) (room-of numbers) (λ n h. zero-at numbers n)
+    within-line s la lb _ _ _ (omega (arith, room-of (fewBonds * entryWords), lesser-held bondLimit (lb / bondWords), few .bonds)) (omega (arith, room-of fewAtoms, lesser-held atomLimit (la / atomWords), few .atoms)) (room-of ringNumberCount) (λ n h. zero-at ringNumberCount n)
 
-pub read-line : (s : List ℕ) (la lb : ℕ) → readOf s la lb ≡ lineOf s la lb
-unfolding readOf lineOf
+pub read-line : (s : List ℕ) (la lb : ℕ) → readOf s la lb ≡ readText s la lb
+unfolding readOf readText
 read-line s la lb =
-    ap (pick (ltb textLimit (length s)) (refusing (TextTooLong (length s)) la lb))
+    ap (pick (ltb textLimit (length s)) (readRefusing (TextTooLong (length s)) la lb))
     (within-many s la lb)
 
 -- ---- a line that is done
 -- whatever the line, each bond that it is read to is held at both ends as reverses
 pub both-held : (s : List ℕ) (la lb : ℕ) → BothEnds (sketchOf s la lb .nodes)
 both-held s la lb =
-    reads-ends s la lb (replicate (bondLimit * entryWords) 0) (replicate atomLimit 0) (replicate numbers 0) (omega (arith, room-of (bondLimit * entryWords), lesser-most bondLimit (lb / bondWords))) (omega (arith, room-of atomLimit, lesser-most atomLimit (la / atomWords))) (room-of numbers) (λ n h. zero-at numbers n)
+    reads-ends s la lb (replicate (bondLimit * entryWords) 0) (replicate atomLimit 0) (replicate ringNumberCount 0) (omega (arith, room-of (bondLimit * entryWords), lesser-most bondLimit (lb / bondWords))) (omega (arith, room-of atomLimit, lesser-most atomLimit (la / atomWords))) (room-of ringNumberCount) (λ n h. zero-at ringNumberCount n)
 
 clash : _≡_ {A = ℕ} 0 1 → ⊥
 clash e = omega arith
 
 -- no refusal is called 0
-not-done : (r c n m : ℕ) → refusalOf r c ≡ Done n m → ⊥
-unfolding refusalOf
+not-done : (r c n m : ℕ) → readRefusal r c ≡ Done n m → ⊥
+unfolding readRefusal
 not-done r c n m =
     let Not : Answer → Type 0 = λ x. x ≡ Done n m → ⊥ in
     by-test Not (eqb r endOfLine) (λ e. clash cc)
@@ -91,8 +91,8 @@ whole-done (built.Join v w) x y n m la lb a b e = absurd (clash cc)
 whole-done (built.Rnum j) x y n m la lb a b e = absurd (clash cc)
 
 -- a line that is answered 0 leaves the tables of its atoms, zeros after them, and each bond is held at both ends
-pub done-holds : (s : List ℕ) (la lb n m : ℕ) → lineOf s la lb .answer ≡ Done n m → (lineOf s la lb ≡ said (Done n m) (padded la (atomTable (sketchOf s la lb .nodes))) (padded lb (bondTable (sketchOf s la lb .nodes)))) × BothEnds (sketchOf s la lb .nodes)
-unfolding lineOf graphOf wholeOf
+pub done-holds : (s : List ℕ) (la lb n m : ℕ) → readText s la lb .answer ≡ Done n m → (readText s la lb ≡ said (Done n m) (padded la (atomTable (sketchOf s la lb .nodes))) (padded lb (bondTable (sketchOf s la lb .nodes)))) × BothEnds (sketchOf s la lb .nodes)
+unfolding readText wholeOrRefused wholeOf
 done-holds s la lb n m e =
     let d = sketchOf s la lb in
     let Holds : Said → Type 0 = λ x. x .answer ≡ Done n m → x ≡ said (Done n m) (padded la (atomTable (d .nodes))) (padded lb (bondTable (d .nodes))) in (

@@ -29,21 +29,21 @@ use Rattle.builder.specs.State.{Bld, bld, state, refusedSt, refuse, inversion, 
 use Rattle.builder.specs.declared.builder.Builder.{Builder}
 use Rattle.read_line.specs.declared.lead.Lead.{Lead}
 use Rattle.read_line.specs.declared.lead.Lead.the-variants.{Dot, Bond}
-use Rattle.read_line.specs.Events.{Event, on, Enter, Join, Pop, Miss, Nest, endOfLine, character, nesting, countedSt, judged, numbOf, ledOf, enterOf, ringOf, missingSt, step, run}
+use Rattle.read_line.specs.Events.{ReadEvent, on, Enter, Join, Pop, Miss, Nest, endOfLine, character, nesting, countedSt, markJudged, unstoredOf, ledOf, enterOf, ringOf, missingSt, step, run}
 use Rattle.read_line.specs.Parse.{Rest, oneOf, ledAt, bodyAt, missP, foundP, atomP, ringP, unionBy, unionP, unitBy, unitP, lineP, closeP, branchP, bodies, endP, parse}
 use Rattle.builder.specs.declared.build.Built.{Built}
 use Rattle.builder.specs.declared.build.Built.the-variants as built
 use Rattle.read.specs.declared.Answer.{Answer}
 use Rattle.read.specs.declared.Answer.the-variants.{NoAtom}
-use Rattle.read.specs.Read.{Said, refusalOf, builtAnswer, builtSaid, stateOf, saidOf, within, readOf}
-use Rattle.read.specs.Line.{lineOf}
+use Rattle.read.specs.Read.{Said, readRefusal, builtAnswer, builtSaid, stateOf, stateSaid, within, readOf}
+use Rattle.read.specs.Line.{readText}
 use Rattle.read_line.proofs.Counts.{by-test, missing-not}
 use Rattle.read_line.proofs.Turn.{run-stuck}
 use Rattle.read.proofs.Lines.{read-line}
 
 -- ---- events that keep an atom standing, from so many on the path
 
-abbrev pub Sound : ℕ → List Event → Type 0
+abbrev pub Sound : ℕ → List ReadEvent → Type 0
 Sound d [] = Unit {0}
 Sound d (Enter Dot k p ∷ es) = Sound (d + 1) es
 Sound d (Enter (Bond e) k p ∷ es) = (0 < d) × Sound (d + 1) es
@@ -77,13 +77,13 @@ module _ (b : Bld) (going : b .st .refusal ≡ 0) where
   same-known : known (b .st .refusal) ≡ true
   same-known = rw going
 
-  judged-other : (t : Inverted) → known (judged (b .st) t .refusal) ≡ true
-  unfolding judged
+  judged-other : (t : Inverted) → known (markJudged (b .st) t .refusal) ≡ true
+  unfolding markJudged
   judged-other Refused = refl
   judged-other (Turned k) = same-known
 
-  judged-same : (t : Inverted) → judged (b .st) t .failed ≡ b .st .failed
-  unfolding judged
+  judged-same : (t : Inverted) → markJudged (b .st) t .failed ≡ b .st .failed
+  unfolding markJudged
   judged-same Refused = refl
   judged-same (Turned k) = refl
 
@@ -155,17 +155,17 @@ by-equal P false f g = g refl
 
 module _ (b : Bld) (d : ℕ) (going : b .st .refusal ≡ 0) (fine : Fine b d) where
   dot-fine : (k : AtomKind) (p : ℕ) → Fine (enterOf b Dot k p) (d + 1)
-  unfolding enterOf ledOf numbOf
+  unfolding enterOf ledOf unstoredOf
   dot-fine k p =
       by-equal (λ (x : Bld). Fine x (d + 1)) (b .st .failed)
       (λ f. numb-fine b going (d + 1) (countedSt (b .st)) (same-known b going) refl f)
       (λ f. root-fine b going d (fine .level going f) k p)
 
   bond-fine : (e : BondKind) (k : AtomKind) (p : ℕ) → 0 < d → Fine (enterOf b (Bond e) k p) (d + 1)
-  unfolding enterOf ledOf numbOf
+  unfolding enterOf ledOf unstoredOf
   bond-fine e k p h =
       by-equal (λ (x : Bld). Fine x (d + 1)) (b .st .failed)
-      (λ f. numb-fine b going (d + 1) (judged (b .st) (invertOf k)) (judged-other b going (invertOf k)) (judged-same b going (invertOf k)) f)
+      (λ f. numb-fine b going (d + 1) (markJudged (b .st) (invertOf k)) (judged-other b going (invertOf k)) (judged-same b going (invertOf k)) f)
       (λ f. extend-fine b going d (fine .level going f) e k p h)
 
   ring-fine : (e : BondKind) (n p : ℕ) → 0 < d → Fine (ringOf b e n p) d
@@ -183,10 +183,10 @@ missing-other s EndOfLine = refl
 missing-other s (Character p) = refl
 
 -- what holds of the rest of the events
-Never : List Event → Type 0
+Never : List ReadEvent → Type 0
 Never es = (b : Bld) (d : ℕ) → Fine b d → Sound d es → known (run b es .st .refusal) ≡ true
 
-fine-step : (e : Event) (es : List Event) (b : Bld) (d : ℕ) → b .st .refusal ≡ 0 → Fine b d → Sound d (e ∷ es) → Never es → known (run (step b e) es .st .refusal) ≡ true
+fine-step : (e : ReadEvent) (es : List ReadEvent) (b : Bld) (d : ℕ) → b .st .refusal ≡ 0 → Fine b d → Sound d (e ∷ es) → Never es → known (run (step b e) es .st .refusal) ≡ true
 unfolding step Never
 fine-step (Enter Dot k p) es b d going f s rest = rest _ (d + 1) (dot-fine b d going f k p) s
 fine-step (Enter (Bond e) k p) es b d going f s rest = rest _ (d + 1) (bond-fine b d going f e k p (s .0)) (s .1)
@@ -198,7 +198,7 @@ fine-step (Nest p) es b d going f s rest =
     ap (λ (x : Bld). known (x .st .refusal)) (run-stuck (on b (refusedSt (b .st) nesting p)) es (λ e. omega arith)) ∙ refl
 
 -- such events meet only those refusals
-fine-run : (es : List Event) → Never es
+fine-run : (es : List ReadEvent) → Never es
 unfolding Never run
 fine-run [] b d f s = f .other
 fine-run (e ∷ es) b d f s =
@@ -219,7 +219,7 @@ Led (Bond e) d = 0 < d
 same-depth : (base n : ℕ) → base + (n + 1) ≡ base + n + 1
 same-depth base n = omega arith
 
-enter-sound : (l : Lead) (k : AtomKind) (p base n : ℕ) (es : List Event) → Led l (base + n) → Sound (base + (n + 1)) es → Sound (base + n) (Enter l k p ∷ es)
+enter-sound : (l : Lead) (k : AtomKind) (p base n : ℕ) (es : List ReadEvent) → Led l (base + n) → Sound (base + (n + 1)) es → Sound (base + n) (Enter l k p ∷ es)
 unfolding Led
 enter-sound Dot k p base n es h s = subst (λ (d : ℕ). Sound d es) (same-depth base n) s
 enter-sound (Bond e) k p base n es h s = (h, subst (λ (d : ℕ). Sound d es) (same-depth base n) s)
@@ -258,10 +258,10 @@ led-some Dot d h = tt
 led-some (Bond e) d h = h
 
 -- after a branch as many atoms stand as before it
-close-sound : (s : List ℕ) (base : ℕ) (k : ℕ → List Event) → 0 < base → ((at : ℕ) → Sound base (k at)) → Follows base (closeP s k)
+close-sound : (s : List ℕ) (base : ℕ) (k : ℕ → List ReadEvent) → 0 < base → ((at : ℕ) → Sound base (k at)) → Follows base (closeP s k)
 unfolding closeP missP Follows
 close-sound s base k h f at n some =
-    by-test (λ (es : List Event). Sound (base + n) es) (eqb (peekAt s at) (byte ")"))
+    by-test (λ (es : List ReadEvent). Sound (base + n) es) (eqb (peekAt s at) (byte ")"))
     (let back : base + n - n ≡ base = omega arith in (omega arith, subst (λ (d : ℕ). Sound d (k (at + 1))) (sym back) (f (at + 1)))) tt
 
 bodies-sound : (f : ℕ) (s : List ℕ) (room at base n : ℕ) (k : Rest) → 1 ≤ n → Follows base k → Sound (base + n) (bodies f s room at n k)
@@ -273,15 +273,15 @@ bodies-sound (suc g) s room at base n k some f =
     (λ at′ n′ some′. bodies-sound g s (room - 1) at′ (base + n) n′ _ some′
     (close-sound s (base + n) _ (omega arith) (λ at″. bodies-sound g s room at″ base n k some f))) in
     let flat : base + n + 0 ≡ base + n = omega arith in
-    by-test (λ (es : List Event). Sound (base + n) es) (eqb (bodyAt s at) (byte "0")) (f at n some)
-    (by-test (λ (es : List Event). Sound (base + n) es) (eqb (bodyAt s at) (byte "1"))
-    (by-test (λ (es : List Event). Sound (base + n) es) (eqb room 0) tt
+    by-test (λ (es : List ReadEvent). Sound (base + n) es) (eqb (bodyAt s at) (byte "0")) (f at n some)
+    (by-test (λ (es : List ReadEvent). Sound (base + n) es) (eqb (bodyAt s at) (byte "1"))
+    (by-test (λ (es : List ReadEvent). Sound (base + n) es) (eqb room 0) tt
     (subst (λ (d : ℕ). Sound d (lineP (bodies g s (room - 1)) s (ledAt s (at + 1) .next) (ledAt s (at + 1) .lead) (closeP s (λ at′. bodies g s room at′ n k)))) flat line))
     (unit-sound s (ledAt s at .next) base n _ some (λ at′ n′ some′. bodies-sound g s room at′ base n′ k some′ f) (ledAt s at .lead)))
 
 end-sound : (s : List ℕ) → Follows 0 (endP s)
 unfolding endP Follows
-end-sound s at n some = by-test (λ (es : List Event). Sound (0 + n) es) (ltb at (length s)) tt tt
+end-sound s at n some = by-test (λ (es : List ReadEvent). Sound (0 + n) es) (ltb at (length s)) tt tt
 
 pub parse-sound : (s : List ℕ) → Sound 0 (parse s)
 unfolding parse lineP Led Follows
@@ -296,8 +296,8 @@ passed : (q : Bool) {x y z : Answer} → (x ≡ z → ⊥) → pick q x y ≡ z 
 passed true h e = absurd (h e)
 passed false h e = (refl, e)
 
-refusal-said : (r c : ℕ) → known r ≡ true → (r ≡ 0 → ⊥) → refusalOf r c ≡ NoAtom → ⊥
-unfolding refusalOf
+refusal-said : (r c : ℕ) → known r ≡ true → (r ≡ 0 → ⊥) → readRefusal r c ≡ NoAtom → ⊥
+unfolding readRefusal
 refusal-said r c k nz e =
     let r1 = passed (eqb r endOfLine) (λ h. let z : _≡_ {A = ℕ} 0 1 = cc in omega arith) e in
     let r2 = passed (eqb r character) (λ h. let z : _≡_ {A = ℕ} 0 1 = cc in omega arith) (r1 .1) in
@@ -318,14 +318,14 @@ unfolding stateOf Never
 state-known s a lb e p r =
     fine-run (parse s) _ 0 (record { other = refl; level = λ z f. refl }) (parse-sound s)
 
-said-never : (lb : ℕ) (b : Bld) → known (b .st .refusal) ≡ true → saidOf lb b .answer ≡ NoAtom → ⊥
-unfolding saidOf builtSaid
+said-never : (lb : ℕ) (b : Bld) → known (b .st .refusal) ≡ true → stateSaid lb b .answer ≡ NoAtom → ⊥
+unfolding stateSaid builtSaid
 said-never lb b k =
     by-equal (λ (x : Said). x .answer ≡ NoAtom → ⊥) (eqb (b .st .refusal) 0)
     (λ q. built-said _ _ _) (λ q. refusal-said _ _ k (eqb-false _ _ q))
 
 -- no text, whatever is lent, is answered with 18
-pub never-18 : (s : List ℕ) (la lb : ℕ) → lineOf s la lb .answer ≡ NoAtom → ⊥
+pub never-18 : (s : List ℕ) (la lb : ℕ) → readText s la lb .answer ≡ NoAtom → ⊥
 unfolding readOf within
 never-18 s la lb e =
     by-test (λ (x : Said). x .answer ≡ NoAtom → ⊥) (ltb textLimit (length s))

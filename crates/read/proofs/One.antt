@@ -11,8 +11,8 @@ use Rattle.desk_numbers.proofs.One.{same-result, one-result}
 use Rattle.read.specs.declared.Answer.{Answer}
 use Rattle.read.specs.declared.Answer.the-variants.{Done, EndOfLine, Character, Join, Rnum, Inversion, TextTooLong, AtomRoom, BondRoom, Nesting, NoAtom}
 use Rattle.read.specs.Read.{Said, said}
-use Rattle.read.specs.Line.{lineOf}
-use Rattle.read.specs.Numbers.{tells, Numbered, inNumbers}
+use Rattle.read.specs.Line.{readText}
+use Rattle.read.specs.Numbers.{readTold, ReadNumbered, readInNumbers}
 
 -- the answer with a number and values
 abbrev answerTo : Told → Answer
@@ -31,8 +31,8 @@ answerTo t =
     (pick (eqb (t .number) nesting) (Nesting first)
     NoAtom)))))))))
 
-answer-back : (a : Answer) → answerTo (tells a) ≡ a
-unfolding tells
+answer-back : (a : Answer) → answerTo (readTold a) ≡ a
+unfolding readTold
 answer-back (Done n m) = refl
 answer-back EndOfLine = refl
 answer-back (Character p) = refl
@@ -46,19 +46,19 @@ answer-back (Nesting p) = refl
 answer-back NoAtom = refl
 
 -- no two answers have the same number and values
-pub same-answer : (a b : Answer) → tells a ≡ tells b → a ≡ b
-same-answer = same-result tells answerTo answer-back
+pub same-answer : (a b : Answer) → readTold a ≡ readTold b → a ≡ b
+same-answer = same-result readTold answerTo answer-back
 
-abbrev saidBy : Numbered → Said
+abbrev saidBy : ReadNumbered → Said
 saidBy n = said (answerTo (n .answer)) (n .atoms) (n .bonds)
 
-said-back : (x : Said) → saidBy (inNumbers x) ≡ x
+said-back : (x : Said) → saidBy (readInNumbers x) ≡ x
 said-back x = ap (λ (a : Answer). said a (x .atoms) (x .bonds)) (answer-back (x .answer))
 
 -- what is left is the same if it is in numbers
-pub same-said : (x y : Said) → inNumbers x ≡ inNumbers y → x ≡ y
-same-said = same-result inNumbers saidBy said-back
+pub same-said : (x y : Said) → readInNumbers x ≡ readInNumbers y → x ≡ y
+same-said = same-result readInNumbers saidBy said-back
 
 -- the read call
-pub one-read : (s : List ℕ) (la lb : ℕ) (x y : Said) → inNumbers x ≡ inNumbers (lineOf s la lb) → inNumbers y ≡ inNumbers (lineOf s la lb) → x ≡ y
-one-read s la lb = one-result inNumbers saidBy said-back (inNumbers (lineOf s la lb))
+pub one-read : (s : List ℕ) (la lb : ℕ) (x y : Said) → readInNumbers x ≡ readInNumbers (readText s la lb) → readInNumbers y ≡ readInNumbers (readText s la lb) → x ≡ y
+one-read s la lb = one-result readInNumbers saidBy said-back (readInNumbers (readText s la lb))

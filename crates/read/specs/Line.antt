@@ -10,28 +10,28 @@ use lib.ListN.{length, replicate}
 use lib.Dec.{ltb, eqb}
 use Rattle.feature.specs.Pick.{pick}
 use Rattle.builder.specs.Limits.{textLimit}
-use Rattle.builder_meaning.specs.Sketch.{Sketch, numberOf, countOf, sketchOf, finishS, atomTable, bondTable, leftS}
+use Rattle.builder_meaning.specs.Sketch.{Sketch, nextNumber, countOf, sketchOf, finishS, atomTable, bondTable, leftS}
 use Rattle.read.specs.declared.Answer.{Answer}
 use Rattle.read.specs.declared.Answer.the-variants.{TextTooLong}
-use Rattle.read.specs.Read.{Said, said, refusalOf, builtAnswer}
+use Rattle.read.specs.Read.{Said, said, readRefusal, builtAnswer}
 
 -- an answer that leaves zeros in tables of la and lb words
-abbrev pub refusing : Answer → ℕ → ℕ → Said
-refusing r la lb = said r (replicate la 0) (replicate lb 0)
+abbrev pub readRefusing : Answer → ℕ → ℕ → Said
+readRefusing r la lb = said r (replicate la 0) (replicate lb 0)
 
 -- what is said of a whole line
 unfoldable pub wholeOf : Sketch → ℕ → ℕ → Said
 wholeOf d la lb =
-    said (builtAnswer (finishS d) (numberOf d) (countOf (d .nodes)))
+    said (builtAnswer (finishS d) (nextNumber d) (countOf (d .nodes)))
     (leftS (finishS d) la (atomTable (d .nodes)))
     (leftS (finishS d) lb (bondTable (d .nodes)))
 
 -- what is said of a line, whole or refused
-unfoldable pub graphOf : Sketch → ℕ → ℕ → Said
-graphOf d la lb =
-    pick (eqb (d .refusal) 0) (wholeOf d la lb) (refusing (refusalOf (d .refusal) (d .carried)) la lb)
+unfoldable pub wholeOrRefused : Sketch → ℕ → ℕ → Said
+wholeOrRefused d la lb =
+    pick (eqb (d .refusal) 0) (wholeOf d la lb) (readRefusing (readRefusal (d .refusal) (d .carried)) la lb)
 
 -- a text read into tables of la and lb words
-unfoldable pub lineOf : List ℕ → ℕ → ℕ → Said
-lineOf s la lb =
-    pick (ltb textLimit (length s)) (refusing (TextTooLong (length s)) la lb) (graphOf (sketchOf s la lb) la lb)
+unfoldable pub readText : List ℕ → ℕ → ℕ → Said
+readText s la lb =
+    pick (ltb textLimit (length s)) (readRefusing (TextTooLong (length s)) la lb) (wholeOrRefused (sketchOf s la lb) la lb)

@@ -7,23 +7,23 @@ use Rattle.read.specs.declared.Answer.{Answer}
 use Rattle.read.specs.declared.Answer.the-variants.{Done, EndOfLine, Character, Join, Rnum, Inversion, TextTooLong, AtomRoom, BondRoom, Nesting, NoAtom}
 use Rattle.read.specs.Read.{Said}
 
-unfoldable pub tells : Answer → Told
-tells (Done atoms entries) = told done (atoms ∷ entries ∷ [])
-tells EndOfLine = told endOfLine []
-tells (Character place) = told character (place ∷ [])
-tells (Join closing opening) = told join (closing ∷ opening ∷ [])
-tells (Rnum number) = told rnum (number ∷ [])
-tells (Inversion atom) = told inversion (atom ∷ [])
-tells (TextTooLong size) = told textTooLong (size ∷ [])
-tells (AtomRoom place) = told atomRoom (place ∷ [])
-tells (BondRoom place) = told bondRoom (place ∷ [])
-tells (Nesting place) = told nesting (place ∷ [])
-tells NoAtom = told noAtom []
+unfoldable pub readTold : Answer → Told
+readTold (Done atoms entries) = told done (atoms ∷ entries ∷ [])
+readTold EndOfLine = told endOfLine []
+readTold (Character place) = told character (place ∷ [])
+readTold (Join closing opening) = told join (closing ∷ opening ∷ [])
+readTold (Rnum number) = told rnum (number ∷ [])
+readTold (Inversion atom) = told inversion (atom ∷ [])
+readTold (TextTooLong size) = told textTooLong (size ∷ [])
+readTold (AtomRoom place) = told atomRoom (place ∷ [])
+readTold (BondRoom place) = told bondRoom (place ∷ [])
+readTold (Nesting place) = told nesting (place ∷ [])
+readTold NoAtom = told noAtom []
 
-pub record Numbered : Type 0 where
+pub record ReadNumbered : Type 0 where
   pub answer : Told
   pub atoms : List ℕ
   pub bonds : List ℕ
 
-abbrev pub inNumbers : Said → Numbered
-inNumbers s = record { answer = tells (s .answer); atoms = s .atoms; bonds = s .bonds }
+abbrev pub readInNumbers : Said → ReadNumbered
+readInNumbers s = record { answer = readTold (s .answer); atoms = s .atoms; bonds = s .bonds }

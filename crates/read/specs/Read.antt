@@ -8,15 +8,15 @@ use lib.Dec.{ltb, eqb}
 use Rattle.feature.specs.Pick.{pick}
 use Rattle.packing.specs.Words.{atomWords, bondWords}
 use Rattle.builder.specs.Limits.{textLimit, atomLimit, bondLimit, lesserOf}
-use Rattle.builder.specs.Rings.{numbers}
-use Rattle.builder.specs.State.{Bld, bld, startOf, refusedSt, entryWords, inversion, atomRoom, bondRoom}
+use Rattle.builder.specs.Rings.{ringNumberCount}
+use Rattle.builder.specs.State.{Bld, bld, freshBuilder, refusedSt, entryWords, inversion, atomRoom, bondRoom}
 use Rattle.builder.specs.declared.builder.Builder.{Builder}
-use Rattle.builder.specs.Build.{Outcome, tables, buildOf}
+use Rattle.builder.specs.Build.{BuildOutcome, tables, buildOf}
 use Rattle.builder.specs.declared.build.Built.{Built}
 use Rattle.builder.specs.declared.build.Built.the-variants as built
 use Rattle.read_line.specs.Events.{run, endOfLine, character, nesting}
 use Rattle.read_line.specs.Parse.{parse}
-use Rattle.read_line.specs.declared.line.Came.{Came}
+use Rattle.read_line.specs.declared.line.Reached.{Reached}
 use Rattle.read.specs.declared.Answer.{Answer}
 use Rattle.read.specs.declared.Answer.the-variants.{Done, EndOfLine, Character, Join, Rnum, Inversion, TextTooLong, AtomRoom, BondRoom, Nesting, NoAtom}
 
@@ -30,15 +30,15 @@ abbrev pub said : Answer → List ℕ → List ℕ → Said
 said r a b = record { answer = r; atoms = a; bonds = b }
 
 -- no byte may be left after a line
-unfoldable pub endedSt : List ℕ → Came → Builder
+unfoldable pub endedSt : List ℕ → Reached → Builder
 endedSt s c =
     pick (eqb (c .b .refusal) 0)
     (pick (ltb (c .at) (length s)) (refusedSt (c .b) character (c .at)) (c .b))
     (c .b)
 
 -- what a refusal is called, with what it carries
-unfoldable pub refusalOf : ℕ → ℕ → Answer
-refusalOf r c =
+unfoldable pub readRefusal : ℕ → ℕ → Answer
+readRefusal r c =
     pick (eqb r endOfLine) EndOfLine
     (pick (eqb r character) (Character c)
     (pick (eqb r inversion) (Inversion c)
@@ -53,26 +53,26 @@ builtAnswer built.Done n m = Done n m
 builtAnswer (built.Join x y) n m = Join x y
 builtAnswer (built.Rnum j) n m = Rnum j
 
-unfoldable pub builtSaid : Outcome → Builder → Said
+unfoldable pub builtSaid : BuildOutcome → Builder → Said
 builtSaid o b = said (builtAnswer (o .answer) (b .atoms) (b .entries)) (o .left .atoms) (o .left .bonds)
 
 -- the state that a text's events make of tables
 unfoldable pub stateOf : List ℕ → List ℕ → ℕ → List ℕ → List ℕ → List ℕ → Bld
 stateOf s a lb e p r =
-    run (bld a e p r (startOf (lesserOf atomLimit (length a / atomWords)) (lesserOf bondLimit (lb / bondWords)))) (parse s)
+    run (bld a e p r (freshBuilder (lesserOf atomLimit (length a / atomWords)) (lesserOf bondLimit (lb / bondWords)))) (parse s)
 
 -- what is said of a state
-unfoldable pub saidOf : ℕ → Bld → Said
-saidOf lb b =
+unfoldable pub stateSaid : ℕ → Bld → Said
+stateSaid lb b =
     pick (eqb (b .st .refusal) 0)
     (builtSaid (buildOf (tables (b .atoms) (replicate lb 0) (b .path)) (b .entries) (b .st)) (b .st))
-    (said (refusalOf (b .st .refusal) (b .st .carried)) (replicate (length (b .atoms)) 0) (replicate lb 0))
+    (said (readRefusal (b .st .refusal) (b .st .carried)) (replicate (length (b .atoms)) 0) (replicate lb 0))
 
 unfoldable pub within : List ℕ → List ℕ → ℕ → List ℕ → List ℕ → List ℕ → Said
-within s a lb e p r = saidOf lb (stateOf s a lb e p r)
+within s a lb e p r = stateSaid lb (stateOf s a lb e p r)
 
 -- a text read into tables of these lengths
 unfoldable pub readOf : List ℕ → ℕ → ℕ → Said
 readOf s la lb =
     pick (ltb textLimit (length s)) (said (TextTooLong (length s)) (replicate la 0) (replicate lb 0))
-    (within s (replicate la 0) lb (replicate (bondLimit * entryWords) 0) (replicate atomLimit 0) (replicate numbers 0))
+    (within s (replicate la 0) lb (replicate (bondLimit * entryWords) 0) (replicate atomLimit 0) (replicate ringNumberCount 0))

@@ -4,10 +4,10 @@ ghost use Prim.Native.Nat.{_≤_, _<_};
 ghost use mathlib.Core.Bool.{true};
 ghost use lib.ListN.{length, replicate};
 ghost use Rattle.builder.specs.Limits.{textLimit};
-ghost use Rattle.read.specs.Read.{said, endedSt, refusalOf, builtAnswer, within};
+ghost use Rattle.read.specs.Read.{said, endedSt, readRefusal, builtAnswer, within};
 ghost use Rattle.builder_meaning.specs.Sketch.{sketchOf};
-ghost use Rattle.read.specs.Line.{graphOf, lineOf};
-ghost use Rattle.read.specs.Numbers.{inNumbers};
+ghost use Rattle.read.specs.Line.{wholeOrRefused, readText};
+ghost use Rattle.read.specs.Numbers.{readInNumbers};
 ghost use Rattle.read.specs.Rooms.{Cleared, Few};
 use builder::build::Built;
 use builder::build::build;
@@ -31,8 +31,8 @@ use read_atom::scanner::is_done;
 use read_line::event::CHARACTER;
 use read_line::event::END_OF_LINE;
 use read_line::lead::Lead;
-use read_line::line::Came;
 use read_line::line::NESTING;
+use read_line::line::Reached;
 use read_line::line::read_line;
 
 // What the desk says of a line. Its numbers, in order: 0, 1, 2, 3, 4, 10, 12, 13, 14, 15, 18.
@@ -56,7 +56,7 @@ pub enum Answer {
 }
 
 // After a whole line no byte is left.
-fn end_line(text: &[u8], came: Came) -> Builder
+fn end_line(text: &[u8], came: Reached) -> Builder
     ensures { λ r. ⌜ r ≡ endedSt (now (text .entry)) came ⌝ }
 {
     let b = came.b;
@@ -72,7 +72,7 @@ fn end_line(text: &[u8], came: Came) -> Builder
 
 // What a builder's refusal is called.
 fn refusal(b: Builder) -> Answer
-    ensures { λ r. ⌜ r ≡ refusalOf (b .refusal) (b .carried) ⌝ }
+    ensures { λ r. ⌜ r ≡ readRefusal (b .refusal) (b .carried) ⌝ }
 {
     let n = b.refusal;
     if n == END_OF_LINE {
@@ -146,7 +146,7 @@ const FEW_BONDS: usize = 256;
 fn read_few(text: &[u8], atoms: &mut [u32], bonds: &mut [u32]) -> Answer
     requires { ⌜ Cleared (now text) (now atoms) (now bonds) × Few (length (now atoms)) (length (now bonds)) ⌝ }
     ensures { λ r. ⌜ said r (now (atoms .exit)) (now (bonds .exit))
-        ≡ graphOf (sketchOf (now (text .entry)) (length (now (atoms .entry))) (length (now (bonds .entry)))) (length (now (atoms .entry))) (length (now (bonds .entry))) ⌝ }
+        ≡ wholeOrRefused (sketchOf (now (text .entry)) (length (now (atoms .entry))) (length (now (bonds .entry)))) (length (now (atoms .entry))) (length (now (bonds .entry))) ⌝ }
 {
     let mut entries = [0u32; FEW_BONDS * ENTRY_WORDS];
     let mut path = [0u32; FEW_ATOMS];
@@ -158,7 +158,7 @@ fn read_few(text: &[u8], atoms: &mut [u32], bonds: &mut [u32]) -> Answer
 fn read_many(text: &[u8], atoms: &mut [u32], bonds: &mut [u32]) -> Answer
     requires { ⌜ Cleared (now text) (now atoms) (now bonds) ⌝ }
     ensures { λ r. ⌜ said r (now (atoms .exit)) (now (bonds .exit))
-        ≡ graphOf (sketchOf (now (text .entry)) (length (now (atoms .entry))) (length (now (bonds .entry)))) (length (now (atoms .entry))) (length (now (bonds .entry))) ⌝ }
+        ≡ wholeOrRefused (sketchOf (now (text .entry)) (length (now (atoms .entry))) (length (now (bonds .entry)))) (length (now (atoms .entry))) (length (now (bonds .entry))) ⌝ }
 {
     let mut entries = [0u32; BONDS * ENTRY_WORDS];
     let mut path = [0u32; ATOMS];
@@ -178,8 +178,8 @@ fn are_few(atoms: &[u32], bonds: &[u32]) -> bool
 
 // Reads a line. The tables hold its graph in their final form, zeros after it; after a refusal they hold zeros.
 pub fn read(text: &[u8], atoms: &mut [u32], bonds: &mut [u32]) -> Answer
-    ensures { λ r. ⌜ inNumbers (said r (now (atoms .exit)) (now (bonds .exit)))
-        ≡ inNumbers (lineOf (now (text .entry)) (length (now (atoms .entry))) (length (now (bonds .entry)))) ⌝ }
+    ensures { λ r. ⌜ readInNumbers (said r (now (atoms .exit)) (now (bonds .exit)))
+        ≡ readInNumbers (readText (now (text .entry)) (length (now (atoms .entry))) (length (now (bonds .entry)))) ⌝ }
 {
     clear(atoms);
     clear(bonds);

@@ -8,22 +8,22 @@ use lib.ListN.{length}
 use lib.Dec.{T, ltb, eqb, ltb→lt}
 use borrow.Author.Tests.{ne-eqb, eqb-true}
 use Rattle.feature.specs.Pick.{either}
-use Rattle.feature.specs.Text.{byte, letter, twoLetters}
+use Rattle.feature.specs.Text.{byte, letterStep, twoLetters}
 use Rattle.feature.specs.Names.{symbols, names, placeOf}
 use Rattle.feature.proofs.Names.{names-length}
 use Rattle.feature.proofs.Table.{every, both-left, both-right}
 
 -- a name of one letter, or of two of which the second is "a" or above
 lettered : ℕ → ℕ → Bool
-lettered k x = either (eqb (x % letter) 0) (ltb (byte "a") (x % letter))
+lettered k x = either (eqb (x % letterStep) 0) (ltb (byte "a") (x % letterStep))
 
 module _ (b d : ℕ) (low : d < byte "a") where
   apart : (k x : ℕ) → T (lettered k x) → x ≡ twoLetters b d → ⊥
   unfolding lettered
-  apart k x t e = go (eqb (x % letter) 0) refl t where
-    go : (q : Bool) → eqb (x % letter) 0 ≡ q → T (either q (ltb (byte "a") (x % letter))) → ⊥
-    go true z t = omega (arith, eqb-true (x % letter) 0 z)
-    go false z t = omega (arith, ltb→lt (byte "a") (x % letter) t)
+  apart k x t e = go (eqb (x % letterStep) 0) refl t where
+    go : (q : Bool) → eqb (x % letterStep) 0 ≡ q → T (either q (ltb (byte "a") (x % letterStep))) → ⊥
+    go true z t = omega (arith, eqb-true (x % letterStep) 0 z)
+    go false z t = omega (arith, ltb→lt (byte "a") (x % letterStep) t)
 
   none : (i : ℕ) (xs : List ℕ) → T (every lettered i xs) → placeOf (twoLetters b d) xs ≡ length xs
   unfolding placeOf

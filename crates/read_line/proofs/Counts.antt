@@ -18,10 +18,10 @@ use Rattle.read_token.specs.declared.scanner.Missing.{Missing}
 use Rattle.read_token.specs.declared.scanner.Missing.the-variants.{EndOfLine, Character}
 use Rattle.builder.specs.declared.builder.Builder.{Builder}
 use Rattle.builder.specs.Limits.{textLimit}
-use Rattle.builder.specs.State.{Bld, Small, refuse, refusedSt, entered, bonded, rootOf, extendOf, extendedBy, openedOf, openingOf, openingKind, lastOf, failedSt, closedBy, joinOf, poppedSt}
+use Rattle.builder.specs.State.{Bld, SmallCounts, refuse, refusedSt, entered, bonded, rootOf, extendOf, extendedBy, openedOf, openingOf, openingKind, lastOf, failedSt, closedBy, joinOf, poppedSt}
 use Rattle.read_line.specs.declared.lead.Lead.{Lead}
 use Rattle.read_line.specs.declared.lead.Lead.the-variants.{Dot, Bond}
-use Rattle.read_line.specs.Events.{countedSt, judged, numbOf, ledOf, enterOf, ringOf, missingSt}
+use Rattle.read_line.specs.Events.{countedSt, markJudged, unstoredOf, ledOf, enterOf, ringOf, missingSt}
 use Rattle.read_line.specs.Post.{Counted}
 
 -- a choice by a test has what both of its outcomes have
@@ -35,7 +35,7 @@ At n b = Counted (b .st) n
 pub counted-more : {s : Builder} {at at′ : ℕ} → Counted s at → at ≤ at′ → Counted s at′
 counted-more c h = record { atoms = omega arith; entries = omega arith; top = omega arith; joins = omega arith }
 
-pub small : {s : Builder} {at : ℕ} → Counted s at → at ≤ textLimit → Small s
+pub small : {s : Builder} {at : ℕ} → Counted s at → at ≤ textLimit → SmallCounts s
 small c h = record { atoms = omega arith; entries = omega arith; top = omega arith; joins = omega arith }
 
 module _ (b : Bld) (at : ℕ) (c : Counted (b .st) at) where
@@ -69,13 +69,13 @@ module _ (b : Bld) (at : ℕ) (c : Counted (b .st) at) where
   counted-at : Counted (countedSt (b .st)) (at + 1)
   counted-at = record { atoms = omega arith; entries = omega arith; top = omega arith; joins = omega arith }
 
-  judged-at : (t : Inverted) → Counted (judged (b .st) t) (at + 1)
-  unfolding judged
+  judged-at : (t : Inverted) → Counted (markJudged (b .st) t) (at + 1)
+  unfolding markJudged
   judged-at Refused = record { atoms = omega arith; entries = omega arith; top = omega arith; joins = omega arith }
   judged-at (Turned k) = counted-at
 
-  numb-at : (l : Lead) (k : AtomKind) → Counted (numbOf (b .st) l k) (at + 1)
-  unfolding numbOf
+  numb-at : (l : Lead) (k : AtomKind) → Counted (unstoredOf (b .st) l k) (at + 1)
+  unfolding unstoredOf
   numb-at Dot k = counted-at
   numb-at (Bond e) k = judged-at (invertOf k)
 

@@ -23,19 +23,19 @@ use Rattle.builder.specs.State.{Bld, refusedSt, poppedSt, popOf}
 use Rattle.read_line.specs.declared.lead.Lead.{Lead}
 use Rattle.read_line.specs.declared.lead.Lead.the-variants.{Dot, Bond}
 use Rattle.read_line.specs.declared.lead.Led.{Led}
-use Rattle.read_line.specs.Events.{Event, Pop, Miss, Nest, on, nesting, enterOf, ringOf, missingSt, step, run}
+use Rattle.read_line.specs.Events.{ReadEvent, Pop, Miss, Nest, on, nesting, enterOf, ringOf, missingSt, step, run}
 use Rattle.read_line.specs.Parse.{Rest, ledAt, oneOf, bodyOf, bodyAt, missP, foundP, atomP, ringP, unionBy, unionP, unitBy, unitP, lineP, closeP, branchP, bodies}
-use Rattle.read_line.specs.Post.{came, cameMissing, cameClosed, Counted, Ready, Moved, AtomRead, RingRead, UnionRead, UnitRead, RestRead, LineRead, BranchRead}
+use Rattle.read_line.specs.Post.{reachedAt, reachedMissing, reachedClosed, Counted, ReadReady, Moved, AtomRead, RingRead, UnionRead, UnitRead, RestRead, LineRead, BranchRead}
 use Rattle.read_line.proofs.Counts.{counted-more, enter-at, ring-at, pop-at, refused-at, missing-at, missing-not}
 
 -- ---- running
 
-pub run-stuck : (b : Bld) (es : List Event) → (b .st .refusal ≡ 0 → ⊥) → run b es ≡ b
+pub run-stuck : (b : Bld) (es : List ReadEvent) → (b .st .refusal ≡ 0 → ⊥) → run b es ≡ b
 unfolding run
 run-stuck b [] h = refl
 run-stuck b (e ∷ es) h = simp (ne-eqb _ _ h)
 
-pub run-cons : (b : Bld) (e : Event) (es : List Event) → b .st .refusal ≡ 0 → run b (e ∷ es) ≡ run (step b e) es
+pub run-cons : (b : Bld) (e : ReadEvent) (es : List ReadEvent) → b .st .refusal ≡ 0 → run b (e ∷ es) ≡ run (step b e) es
 unfolding run
 run-cons b e es h = simp (eq-eqb _ _ h)
 
@@ -44,10 +44,10 @@ unfolding run
 run-end b = refl
 
 -- a refusal takes no more events
-run-last : (b : Bld) (e : Event) (b′ : Bld) (es : List Event) → b .st .refusal ≡ 0 → b′ ≡ step b e → (b′ .st .refusal ≡ 0 → ⊥) → run b (e ∷ []) ≡ run b′ es
+run-last : (b : Bld) (e : ReadEvent) (b′ : Bld) (es : List ReadEvent) → b .st .refusal ≡ 0 → b′ ≡ step b e → (b′ .st .refusal ≡ 0 → ⊥) → run b (e ∷ []) ≡ run b′ es
 run-last b e b′ es h is nz = run-cons b e [] h ∙ run-end (step b e) ∙ sym is ∙ sym (run-stuck b′ es nz)
 
-pub run-miss : (b : Bld) (m : Missing) (es : List Event) → b .st .refusal ≡ 0 → run b (Miss m ∷ []) ≡ run (on b (missingSt (b .st) m)) es
+pub run-miss : (b : Bld) (m : Missing) (es : List ReadEvent) → b .st .refusal ≡ 0 → run b (Miss m ∷ []) ≡ run (on b (missingSt (b .st) m)) es
 unfolding step
 run-miss b m es h = run-last b (Miss m) _ es h refl (missing-not (b .st) m)
 
@@ -68,7 +68,7 @@ pub led-in : (s : List ℕ) (at : ℕ) → at ≤ length s → Between s at (led
 unfolding ledAt
 led-in s at h = led-split s at h (eqb (peekAt s at) (byte ".")) refl
 
-module _ (s : List ℕ) (b : Bld) (at n : ℕ) (ready : Ready s at (b .st)) (few : n ≤ at) where
+module _ (s : List ℕ) (b : Bld) (at n : ℕ) (ready : ReadReady s at (b .st)) (few : n ≤ at) where
   stays : (m : Missing) → Moved s at (missingSt (b .st) m) at
   stays m =
       record {
@@ -147,7 +147,7 @@ module _ (s : List ℕ) (b : Bld) (at n : ℕ) (ready : Ready s at (b .st)) (few
 
 -- r is what leads an atom in at a place
 module _ (s : List ℕ) (at : ℕ) (r : Led) (is : r ≡ ledAt s at) where
-  pub led-ready : (b : Builder) (n : ℕ) → Ready s at b → n ≤ at → Ready s (r .next) b × (n ≤ r .next)
+  pub led-ready : (b : Builder) (n : ℕ) → ReadReady s at b → n ≤ at → ReadReady s (r .next) b × (n ≤ r .next)
   led-ready b n ready few =
       let l : Between s at r = subst (Between s at) (sym is) (led-in s at (ready .within)) in (
         record { going = ready .going; counted = counted-more (ready .counted) (l .0); within = l .1; short = ready .short },
@@ -182,7 +182,7 @@ module _ (s : List ℕ) (at : ℕ) (is-open : peekAt s at ≡ byte "(") (r : Led
       let h : at + 1 ≤ length s = omega (arith, branch-in s at is-open) in
       subst (Between s (at + 1)) (sym is) (led-in s (at + 1) h)
 
-  pub branch-ready : (b : Builder) → Ready s at b → Ready s (r .next) b
+  pub branch-ready : (b : Builder) → ReadReady s at b → ReadReady s (r .next) b
   branch-ready b ready =
       record {
         going = ready .going;
@@ -194,7 +194,7 @@ module _ (s : List ℕ) (at : ℕ) (is-open : peekAt s at ≡ byte "(") (r : Led
   pub from : at < r .next
   from = omega (arith, past-open .0)
 
-module _ (s : List ℕ) (b : Bld) (at room : ℕ) (ready : Ready s at (b .st)) (is-open : peekAt s at ≡ byte "(") where
+module _ (s : List ℕ) (b : Bld) (at room : ℕ) (ready : ReadReady s at (b .st)) (is-open : peekAt s at ≡ byte "(") where
   pub branch-deep : room ≡ 0 → BranchRead s at room b (on b (refusedSt (b .st) nesting at)) at
   unfolding branchP step
   branch-deep none =
@@ -205,7 +205,7 @@ module _ (s : List ℕ) (b : Bld) (at room : ℕ) (ready : Ready s at (b .st)) (
       }
 
   module _ (r : Led) (is : r ≡ ledAt s (at + 1)) (some : room ≡ 0 → ⊥) (b₁ : Bld) (at₁ n₁ : ℕ) (line : LineRead s (r .next) (r .lead) (room - 1) b b₁ at₁ n₁) where
-    run-line : (f : ℕ) (k : ℕ → List Event) → length s ≤ at + f → run b (branchP (bodies f s) s at room k) ≡ run b₁ (closeP s k at₁ n₁)
+    run-line : (f : ℕ) (k : ℕ → List ReadEvent) → length s ≤ at + f → run b (branchP (bodies f s) s at room k) ≡ run b₁ (closeP s k at₁ n₁)
     unfolding branchP
     run-line f k big = simp (ne-eqb _ _ some, ← is) (line .same f (closeP s k) (omega (arith, from s at is-open r is)))
 
@@ -244,13 +244,13 @@ module _ (s : List ℕ) (b : Bld) (at room : ℕ) (ready : Ready s at (b .st)) (
                 };
           }
 
-      closed-split : (q : Bool) → eqb (peekAt s at₁) (byte ")") ≡ q → BranchRead s at room b (on b₁ (pick q (came (at₁ + 1) 0 (poppedSt (b₁ .st) n₁)) (cameMissing s at₁ 0 (b₁ .st)) .b)) (pick q (came (at₁ + 1) 0 (poppedSt (b₁ .st) n₁)) (cameMissing s at₁ 0 (b₁ .st)) .at)
-      unfolding popOf cameMissing
+      closed-split : (q : Bool) → eqb (peekAt s at₁) (byte ")") ≡ q → BranchRead s at room b (on b₁ (pick q (reachedAt (at₁ + 1) 0 (poppedSt (b₁ .st) n₁)) (reachedMissing s at₁ 0 (b₁ .st)) .b)) (pick q (reachedAt (at₁ + 1) 0 (poppedSt (b₁ .st) n₁)) (reachedMissing s at₁ 0 (b₁ .st)) .at)
+      unfolding popOf reachedMissing
       closed-split true e = branch-made (eqb-true _ _ e)
       closed-split false e = branch-missing (eqb-false _ _ e)
 
-      pub branch-closed : BranchRead s at room b (on b₁ (cameClosed s at₁ n₁ (b₁ .st) .b)) (cameClosed s at₁ n₁ (b₁ .st) .at)
-      unfolding cameClosed
+      pub branch-closed : BranchRead s at room b (on b₁ (reachedClosed s at₁ n₁ (b₁ .st) .b)) (reachedClosed s at₁ n₁ (b₁ .st) .at)
+      unfolding reachedClosed
       branch-closed = closed-split (eqb (peekAt s at₁) (byte ")")) refl
 
 -- ---- a line's turns
@@ -284,7 +284,7 @@ at-end s room i n within e (suc g) k big = simp (eq-eqb _ _ e)
 
 -- at the head of the loop: what the events of the bodies from i₀ on make of the first state, those from i on make of this one
 pub record Turn (s : List ℕ) (room : ℕ) (b₀ : Bld) (i₀ n₀ : ℕ) (b : Bld) (i n : ℕ) : Type 0 where
-  pub ready : Ready s i (b .st)
+  pub ready : ReadReady s i (b .st)
   pub past : i₀ ≤ i
   pub count : n ≤ i
   pub same : (f : ℕ) (k : Rest) → length s < i₀ + f → (g : ℕ) × (length s < i + g) × (run b₀ (bodies f s room i₀ n₀ k) ≡ run b (bodies g s room i n k))
@@ -299,7 +299,7 @@ line-refused s at l room b₀ b i n read nz =
 
 -- a line whose first atom was read
 module _ (s : List ℕ) (at : ℕ) (l : Lead) (room : ℕ) (b₋ b₀ : Bld) (i₀ n₀ : ℕ) (first : AtomRead s at l 0 b₋ b₀ i₀ n₀) (going₀ : b₀ .st .refusal ≡ 0) where
-  pub first-ready : length s ≤ textLimit → Ready s i₀ (b₀ .st)
+  pub first-ready : length s ≤ textLimit → ReadReady s i₀ (b₀ .st)
   first-ready short =
       record { going = going₀; counted = first .moved .counted; within = first .moved .within; short = short }
 
@@ -322,7 +322,7 @@ module _ (s : List ℕ) (at : ℕ) (l : Lead) (room : ℕ) (b₋ b₀ : Bld) (i�
         counted = first .moved .counted;
       })
 
-module _ (s : List ℕ) (room : ℕ) (b₀ : Bld) (i₀ n₀ : ℕ) (ready₀ : Ready s i₀ (b₀ .st)) where
+module _ (s : List ℕ) (room : ℕ) (b₀ : Bld) (i₀ n₀ : ℕ) (ready₀ : ReadReady s i₀ (b₀ .st)) where
   pub rest-first : n₀ ≤ i₀ → Turn s room b₀ i₀ n₀ b₀ i₀ n₀
   rest-first few = record { ready = ready₀; past = omega arith; count = few; same = λ f k big. (f, big, refl) }
 

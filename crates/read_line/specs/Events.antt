@@ -28,12 +28,12 @@ nesting = 15
 
 -- an atom with what leads it in, at the place of its first byte; a ring number, at its first byte; so many atoms off the
 -- path; something missing; a branch too many
-pub data Event : Type 0 where
-  Enter : Lead → AtomKind → ℕ → Event
-  Join : BondKind → ℕ → ℕ → Event
-  Pop : ℕ → Event
-  Miss : Missing → Event
-  Nest : ℕ → Event
+pub data ReadEvent : Type 0 where
+  Enter : Lead → AtomKind → ℕ → ReadEvent
+  Join : BondKind → ℕ → ℕ → ReadEvent
+  Pop : ℕ → ReadEvent
+  Miss : Missing → ReadEvent
+  Nest : ℕ → ReadEvent
 
 abbrev pub on : Bld → Builder → Bld
 on b s = bld (b .atoms) (b .entries) (b .path) (b .rings) s
@@ -43,20 +43,20 @@ abbrev pub countedSt : Builder → Builder
 countedSt s =
     state (s .refusal) (s .carried) (s .places) (s .slots) (s .atoms + 1) (s .entries) (s .top) (s .joins) (s .failed) (s .closing) (s .opening)
 
-unfoldable pub judged : Builder → Inverted → Builder
-judged s Refused = refusedSt s inversion (s .atoms)
-judged s (Turned k) = countedSt s
+unfoldable pub markJudged : Builder → Inverted → Builder
+markJudged s Refused = refusedSt s inversion (s .atoms)
+markJudged s (Turned k) = countedSt s
 
-unfoldable pub numbOf : Builder → Lead → AtomKind → Builder
-numbOf s Dot k = countedSt s
-numbOf s (Bond e) k = judged s (invertOf k)
+unfoldable pub unstoredOf : Builder → Lead → AtomKind → Builder
+unstoredOf s Dot k = countedSt s
+unstoredOf s (Bond e) k = markJudged s (invertOf k)
 
 unfoldable pub ledOf : Bld → Lead → AtomKind → ℕ → Bld
 ledOf b Dot k place = rootOf b k place
 ledOf b (Bond e) k place = extendOf b e k place
 
 unfoldable pub enterOf : Bld → Lead → AtomKind → ℕ → Bld
-enterOf b l k place = pick (b .st .failed) (on b (numbOf (b .st) l k)) (ledOf b l k place)
+enterOf b l k place = pick (b .st .failed) (on b (unstoredOf (b .st) l k)) (ledOf b l k place)
 
 unfoldable pub ringOf : Bld → BondKind → ℕ → ℕ → Bld
 ringOf b k n place = pick (b .st .failed) b (joinOf b k n place)
@@ -65,7 +65,7 @@ unfoldable pub missingSt : Builder → Missing → Builder
 missingSt s EndOfLine = refusedSt s endOfLine 0
 missingSt s (Character p) = refusedSt s character p
 
-unfoldable pub step : Bld → Event → Bld
+unfoldable pub step : Bld → ReadEvent → Bld
 step b (Enter l k place) = enterOf b l k place
 step b (Join k n place) = ringOf b k n place
 step b (Pop n) = popOf b n
@@ -73,6 +73,6 @@ step b (Miss m) = on b (missingSt (b .st) m)
 step b (Nest place) = on b (refusedSt (b .st) nesting place)
 
 -- the events in order, up to the first refusal
-unfoldable pub run : Bld → List Event → Bld
+unfoldable pub run : Bld → List ReadEvent → Bld
 run b [] = b
 run b (e ∷ es) = pick (eqb (b .st .refusal) 0) (run (step b e) es) b

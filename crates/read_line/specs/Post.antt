@@ -12,21 +12,21 @@ use Rattle.builder.specs.declared.builder.Builder.{Builder}
 use Rattle.builder.specs.Limits.{textLimit}
 use Rattle.builder.specs.State.{Bld, poppedSt}
 use Rattle.read_line.specs.declared.lead.Lead.{Lead}
-use Rattle.read_line.specs.declared.line.Came.{Came}
-use Rattle.read_line.specs.Events.{Event, run, missingSt}
+use Rattle.read_line.specs.declared.line.Reached.{Reached}
+use Rattle.read_line.specs.Events.{ReadEvent, run, missingSt}
 use Rattle.read_line.specs.Parse.{Rest, atomP, ringP, unionP, unitP, lineP, branchP, bodies}
 
-abbrev pub came : ℕ → ℕ → Builder → Came
-came at n b = record { at = at; n = n; b = b }
+abbrev pub reachedAt : ℕ → ℕ → Builder → Reached
+reachedAt at n b = record { at = at; n = n; b = b }
 
 -- something is missing at a place
-unfoldable pub cameMissing : List ℕ → ℕ → ℕ → Builder → Came
-cameMissing s at n b = came at n (missingSt b (missingAt s at))
+unfoldable pub reachedMissing : List ℕ → ℕ → ℕ → Builder → Reached
+reachedMissing s at n b = reachedAt at n (missingSt b (missingAt s at))
 
 -- the end of a branch whose line has n atoms
-unfoldable pub cameClosed : List ℕ → ℕ → ℕ → Builder → Came
-cameClosed s at n b =
-    pick (eqb (peekAt s at) (byte ")")) (came (at + 1) 0 (poppedSt b n)) (cameMissing s at 0 b)
+unfoldable pub reachedClosed : List ℕ → ℕ → ℕ → Builder → Reached
+reachedClosed s at n b =
+    pick (eqb (peekAt s at) (byte ")")) (reachedAt (at + 1) 0 (poppedSt b n)) (reachedMissing s at 0 b)
 
 -- each atom, each ring number and each entry has taken a byte, or half of one: so no count wraps
 pub record Counted (s : Builder) (at : ℕ) : Type 0 where
@@ -36,7 +36,7 @@ pub record Counted (s : Builder) (at : ℕ) : Type 0 where
   pub joins : s .joins ≤ at
 
 -- a reading can begin at a place: nothing was refused yet
-pub record Ready (s : List ℕ) (at : ℕ) (b : Builder) : Type 0 where
+pub record ReadReady (s : List ℕ) (at : ℕ) (b : Builder) : Type 0 where
   pub going : b .refusal ≡ 0
   pub counted : Counted b at
   pub within : at ≤ length s
@@ -80,5 +80,5 @@ pub record LineRead (s : List ℕ) (at : ℕ) (l : Lead) (room : ℕ) (b b′ : 
   pub moved : Moved s at (b′ .st) at′
 
 pub record BranchRead (s : List ℕ) (at room : ℕ) (b b′ : Bld) (at′ : ℕ) : Type 0 where
-  pub same : (f : ℕ) (k : ℕ → List Event) → length s ≤ at + f → run b (branchP (bodies f s) s at room k) ≡ run b′ (k at′)
+  pub same : (f : ℕ) (k : ℕ → List ReadEvent) → length s ≤ at + f → run b (branchP (bodies f s) s at room k) ≡ run b′ (k at′)
   pub moved : Moved s at (b′ .st) at′

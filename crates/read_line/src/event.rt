@@ -3,9 +3,9 @@
 ghost use mathlib.Core.Path.{_≡_};
 ghost use mathlib.Core.List.{List};
 ghost use Prim.Native.Nat.{ℕ, _+_, _<_};
-ghost use Rattle.builder.specs.Rings.{numbers};
-ghost use Rattle.builder.specs.State.{bld, Small};
-ghost use Rattle.read_line.specs.Events.{countedSt, numbOf, missingSt, enterOf, ringOf};
+ghost use Rattle.builder.specs.Rings.{ringNumberCount};
+ghost use Rattle.builder.specs.State.{bld, SmallCounts};
+ghost use Rattle.read_line.specs.Events.{countedSt, unstoredOf, missingSt, enterOf, ringOf};
 use crate::lead::Lead;
 use builder::builder::Builder;
 use builder::builder::INVERSION;
@@ -24,7 +24,7 @@ pub const CHARACTER: u32 = 2;
 
 // One atom more, not stored.
 fn count(b: Builder) -> Builder
-    requires { ⌜ Small b ⌝ }
+    requires { ⌜ SmallCounts b ⌝ }
     ensures { λ r. ⌜ r ≡ countedSt b ⌝ }
 {
     let mut b = b;
@@ -33,9 +33,9 @@ fn count(b: Builder) -> Builder
 }
 
 // An atom after a failed join.
-fn put_numb(b: Builder, lead: Lead, k: AtomKind) -> Builder
-    requires { ⌜ Small b ⌝ }
-    ensures { λ r. ⌜ r ≡ numbOf b lead k ⌝ }
+fn put_unstored(b: Builder, lead: Lead, k: AtomKind) -> Builder
+    requires { ⌜ SmallCounts b ⌝ }
+    ensures { λ r. ⌜ r ≡ unstoredOf b lead k ⌝ }
 {
     match lead {
         Lead::Dot => count(b),
@@ -59,12 +59,12 @@ pub fn put_atom(
     k: AtomKind,
     place: usize,
 ) -> Builder
-    requires { ⌜ Small b ⌝ }
+    requires { ⌜ SmallCounts b ⌝ }
     ensures { λ r. ⌜ ((s : List ℕ) → bld (now (atoms .exit)) (now (entries .exit)) (now (path .exit)) s r
         ≡ enterOf (bld (now (atoms .entry)) (now (entries .entry)) (now (path .entry)) s b) lead k place) ⌝ }
 {
     if b.failed {
-        return put_numb(b, lead, k);
+        return put_unstored(b, lead, k);
     }
     match lead {
         Lead::Dot => root(atoms, path, b, k, place),
@@ -82,7 +82,7 @@ pub fn put_ring(
     number: usize,
     place: usize,
 ) -> Builder
-    requires { ⌜ Small b × (number < numbers) ⌝ }
+    requires { ⌜ SmallCounts b × (number < ringNumberCount) ⌝ }
     ensures { λ r. ⌜ ((a : List ℕ) → bld a (now (entries .exit)) (now (path .entry)) (now (rings .exit)) r
         ≡ ringOf (bld a (now (entries .entry)) (now (path .entry)) (now (rings .entry)) b) k number place) ⌝ }
 {

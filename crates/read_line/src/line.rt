@@ -7,7 +7,7 @@ ghost use Rattle.feature.specs.Text.{byte};
 ghost use Rattle.read_token.specs.Scan.{peekAt};
 ghost use Rattle.builder.specs.State.{bld};
 ghost use Rattle.builder.specs.Limits.{textLimit};
-ghost use Rattle.read_line.specs.Post.{came, cameMissing, cameClosed, Ready, AtomRead, RingRead, UnionRead, UnitRead, RestRead, LineRead, BranchRead};
+ghost use Rattle.read_line.specs.Post.{reachedAt, reachedMissing, reachedClosed, ReadReady, AtomRead, RingRead, UnionRead, UnitRead, RestRead, LineRead, BranchRead};
 use crate::event::put_atom;
 use crate::event::put_missing;
 use crate::event::put_ring;
@@ -27,29 +27,29 @@ use read_token::scanner::Found;
 pub const NESTING: u32 = 15;
 
 // Where a reading ended, how many atoms its line then has, and the builder.
-pub struct Came {
+pub struct Reached {
     pub at: usize,
     pub n: usize,
     pub b: Builder,
 }
 
 // The builder goes on field by field, so that a line's loop keeps it in registers.
-fn arrive(at: usize, n: usize, b: Builder) -> Came
-    ensures { λ r. ⌜ r ≡ came at n b ⌝ }
+fn reach(at: usize, n: usize, b: Builder) -> Reached
+    ensures { λ r. ⌜ r ≡ reachedAt at n b ⌝ }
 {
-    Came {
+    Reached {
         at,
         n,
-        b: b.afresh(),
+        b: b.copied(),
     }
 }
 
-fn stopped(text: &[u8], at: usize, n: usize, b: Builder) -> Came
-    ensures { λ r. ⌜ r ≡ cameMissing (now (text .entry)) at n b ⌝ }
+fn stopped(text: &[u8], at: usize, n: usize, b: Builder) -> Reached
+    ensures { λ r. ⌜ r ≡ reachedMissing (now (text .entry)) at n b ⌝ }
 {
     let m = missing_character(text, at);
     let b = put_missing(b, m);
-    arrive(at, n, b)
+    reach(at, n, b)
 }
 
 // An atom at a place, which is its line's atom n.
@@ -62,8 +62,8 @@ fn line_atom(
     entries: &mut [u32],
     path: &mut [u32],
     b: Builder,
-) -> Came
-    requires { ⌜ Ready (now text) at b × (n ≤ at) ⌝ }
+) -> Reached
+    requires { ⌜ ReadReady (now text) at b × (n ≤ at) ⌝ }
     ensures { λ r. ⌜ ((s : List ℕ) → AtomRead (now (text .entry)) at lead n (bld (now (atoms .entry)) (now (entries .entry)) (now (path .entry)) s b)
         (bld (now (atoms .exit)) (now (entries .exit)) (now (path .exit)) s (r .b)) (r .at) (r .n)) ⌝ }
 {
@@ -71,11 +71,11 @@ fn line_atom(
         Found::Nothing => stopped(text, at, n, b),
         Found::Lacks(m) => {
             let b = put_missing(b, m);
-            arrive(at, n, b)
+            reach(at, n, b)
         }
         Found::Atom(k, next) => {
             let b = put_atom(atoms, entries, path, b, lead, k, at);
-            arrive(next, n + 1, b)
+            reach(next, n + 1, b)
         }
     }
 }
@@ -90,8 +90,8 @@ fn line_ring(
     path: &[u32],
     rings: &mut [u32],
     b: Builder,
-) -> Came
-    requires { ⌜ Ready (now text) at b × (n ≤ at) ⌝ }
+) -> Reached
+    requires { ⌜ ReadReady (now text) at b × (n ≤ at) ⌝ }
     ensures { λ r. ⌜ ((a : List ℕ) → RingRead (now (text .entry)) at bond n (bld a (now (entries .entry)) (now (path .entry)) (now (rings .entry)) b)
         (bld a (now (entries .exit)) (now (path .entry)) (now (rings .exit)) (r .b)) (r .at) (r .n)) ⌝ }
 {
@@ -99,11 +99,11 @@ fn line_ring(
         Ring::Nothing => stopped(text, at, n, b),
         Ring::Lacks(m) => {
             let b = put_missing(b, m);
-            arrive(at, n, b)
+            reach(at, n, b)
         }
         Ring::Number(number, next) => {
             let b = put_ring(entries, path, rings, b, bond, number as usize, at);
-            arrive(next, n, b)
+            reach(next, n, b)
         }
     }
 }
@@ -119,8 +119,8 @@ fn line_union(
     path: &mut [u32],
     rings: &mut [u32],
     b: Builder,
-) -> Came
-    requires { ⌜ Ready (now text) at b × (n ≤ at) ⌝ }
+) -> Reached
+    requires { ⌜ ReadReady (now text) at b × (n ≤ at) ⌝ }
     ensures { λ r. ⌜ UnionRead (now (text .entry)) at bond n (bld (now (atoms .entry)) (now (entries .entry)) (now (path .entry)) (now (rings .entry)) b)
         (bld (now (atoms .exit)) (now (entries .exit)) (now (path .exit)) (now (rings .exit)) (r .b)) (r .at) (r .n) ⌝ }
 {
@@ -128,11 +128,11 @@ fn line_union(
         Found::Nothing => line_ring(text, at, bond, n, entries, path, rings, b),
         Found::Lacks(m) => {
             let b = put_missing(b, m);
-            arrive(at, n, b)
+            reach(at, n, b)
         }
         Found::Atom(k, next) => {
             let b = put_atom(atoms, entries, path, b, Lead::Bond(bond), k, at);
-            arrive(next, n + 1, b)
+            reach(next, n + 1, b)
         }
     }
 }
@@ -147,8 +147,8 @@ fn line_unit(
     path: &mut [u32],
     rings: &mut [u32],
     b: Builder,
-) -> Came
-    requires { ⌜ Ready (now text) at b × (n ≤ at) ⌝ }
+) -> Reached
+    requires { ⌜ ReadReady (now text) at b × (n ≤ at) ⌝ }
     ensures { λ r. ⌜ UnitRead (now (text .entry)) at n (bld (now (atoms .entry)) (now (entries .entry)) (now (path .entry)) (now (rings .entry)) b)
         (bld (now (atoms .exit)) (now (entries .exit)) (now (path .exit)) (now (rings .exit)) (r .b)) (r .at) (r .n) ⌝ }
 {
@@ -161,14 +161,14 @@ fn line_unit(
 }
 
 // The end of a branch whose line has n atoms, which are left where ")" stands. Anything else is missing it.
-fn leave_branch(text: &[u8], at: usize, n: usize, b: Builder) -> Came
+fn leave_branch(text: &[u8], at: usize, n: usize, b: Builder) -> Reached
     requires { ⌜ (at ≤ length (now text)) × (length (now text) ≤ textLimit) ⌝ }
-    ensures { λ r. ⌜ r ≡ cameClosed (now (text .entry)) at n b ⌝ }
+    ensures { λ r. ⌜ r ≡ reachedClosed (now (text .entry)) at n b ⌝ }
 {
     let d = peek(text, at);
     if d == b')' as u32 {
         let p = b.pop(n);
-        return Came {
+        return Reached {
             at: at + 1,
             n: 0,
             b: p,
@@ -188,14 +188,14 @@ fn read_branch(
     path: &mut [u32],
     rings: &mut [u32],
     b: Builder,
-) -> Came
-    requires { ⌜ Ready (now text) at b × (peekAt (now text) at ≡ byte "(") ⌝ }
+) -> Reached
+    requires { ⌜ ReadReady (now text) at b × (peekAt (now text) at ≡ byte "(") ⌝ }
     ensures { λ r. ⌜ BranchRead (now (text .entry)) at room (bld (now (atoms .entry)) (now (entries .entry)) (now (path .entry)) (now (rings .entry)) b)
         (bld (now (atoms .exit)) (now (entries .exit)) (now (path .exit)) (now (rings .exit)) (r .b)) (r .at) ⌝ }
 {
     if room == 0 {
         let b = b.refused(NESTING, at);
-        return Came { at, n: 0, b };
+        return Reached { at, n: 0, b };
     }
     let l = read_lead(text, at + 1);
     let lead = l.lead;
@@ -237,8 +237,8 @@ fn line_rest(
     path: &mut [u32],
     rings: &mut [u32],
     b: Builder,
-) -> Came
-    requires { ⌜ Ready (now text) at b × (count ≤ at) ⌝ }
+) -> Reached
+    requires { ⌜ ReadReady (now text) at b × (count ≤ at) ⌝ }
     ensures { λ r. ⌜ RestRead (now (text .entry)) room (bld (now (atoms .entry)) (now (entries .entry)) (now (path .entry)) (now (rings .entry)) b) at count
         (bld (now (atoms .exit)) (now (entries .exit)) (now (path .exit)) (now (rings .exit)) (r .b)) (r .at) (r .n) ⌝ }
 {
@@ -248,7 +248,7 @@ fn line_rest(
     loop {
         let what = body(text, i);
         if what == b'0' {
-            return Came { at: i, n, b: state };
+            return Reached { at: i, n, b: state };
         }
         if what == b'1' {
             let r = read_branch(text, i, room, atoms, entries, path, rings, state);
@@ -282,8 +282,8 @@ pub fn read_line(
     path: &mut [u32],
     rings: &mut [u32],
     b: Builder,
-) -> Came
-    requires { ⌜ Ready (now text) at b ⌝ }
+) -> Reached
+    requires { ⌜ ReadReady (now text) at b ⌝ }
     ensures { λ r. ⌜ LineRead (now (text .entry)) at lead room (bld (now (atoms .entry)) (now (entries .entry)) (now (path .entry)) (now (rings .entry)) b)
         (bld (now (atoms .exit)) (now (entries .exit)) (now (path .exit)) (now (rings .exit)) (r .b)) (r .at) (r .n) ⌝ }
 {

@@ -13,7 +13,7 @@ use Rattle.feature.specs.Text.{byte, twoLetters, oneLetter}
 use Rattle.feature.specs.Names.{symbols, names, placeOf, begins}
 use Rattle.feature.specs.declared.bond_kind.BondKind.{BondKind}
 use Rattle.feature.specs.declared.bond_kind.BondKind.the-variants as kind
-use Rattle.feature.specs.Kinds.{aliphatics, aromatics, noConfiguration, al, sp, tb, oh, bracket}
+use Rattle.feature.specs.Kinds.{aliphaticCount, aromaticCount, noConfiguration, al, sp, tb, oh, bracketOfSix}
 use Rattle.feature.specs.declared.atom_kind.AtomKind.{AtomKind}
 use Rattle.feature.specs.declared.atom_kind.BracketAtom.{BracketAtom}
 use Rattle.feature.proofs.Cases.{by-test}
@@ -25,13 +25,13 @@ use Rattle.read_token.specs.declared.scanner.Found.{Found}
 use Rattle.read_token.specs.declared.scanner.Found.the-variants.{Atom, Nothing, Lacks}
 use Rattle.read_token.specs.declared.read_rnum.Ring.{Ring}
 use Rattle.read_token.specs.declared.read_rnum.Ring.the-variants as ring
-use Rattle.read_token.specs.Scan.{ended, peekAt, digitOf, digitAt, part, digitStep, numberAt, isotopeAt, hydrogensAt, fifteenAt, signedAt, chargeAt, mapAt, slip, symbolOf, symbolAt, shortAt, longAt, alleneAt, octahedralAt, squareAt, trigonalAt, configurationAt, closeAt, afterMap, afterCharge, afterHydrogens, afterConfiguration, configured, afterSymbol, afterIsotope, insideAt, bracketAt, starAt, optionalAt, wantedAt, organicAt, aromaticOf, aliphaticOf, orElse, otherAt, atomAt, bondOf, markWidth, bondAt, percentAt, rnumAt}
+use Rattle.read_token.specs.Scan.{noByte, peekAt, digitOf, digitAt, part, digitStep, numberAt, isotopeAt, hydrogensAt, fifteenAt, signedAt, chargeAt, mapAt, slip, symbolOf, symbolAt, shortAt, longAt, alleneAt, octahedralAt, squareAt, trigonalAt, configurationAt, closeAt, afterMap, afterCharge, afterHydrogens, afterConfiguration, configured, afterSymbol, afterIsotope, insideAt, bracketAt, starAt, optionalAt, wantedAt, organicAt, aromaticOf, aliphaticOf, orElse, otherAt, atomAt, signKind, markWidth, bondAt, percentAt, rnumAt}
 use Rattle.read_token.proofs.Laws.{peek-out}
 
 -- ---- bytes and digits
 module _ (s : List ℕ) (at : ℕ) where
   -- what is not the end mark stands within the line
-  pub not-ended : (peekAt s at ≡ ended → ⊥) → at < length s
+  pub not-ended : (peekAt s at ≡ noByte → ⊥) → at < length s
   not-ended n = split (ltb at (length s)) refl where
     split : (b : Bool) → ltb at (length s) ≡ b → at < length s
     split true e = ltb-true at (length s) e
@@ -102,16 +102,16 @@ mark-most kind.Up = omega arith
 mark-most kind.Down = omega arith
 
 -- the end mark marks no bond
-mark-ended : (s : List ℕ) (at : ℕ) → length s ≤ at → markWidth (bondOf (peekAt s at)) ≡ 0
-unfolding bondOf markWidth
-mark-ended s at h = sym (ap (λ (b : ℕ). markWidth (bondOf b)) (peek-out s at h))
+mark-ended : (s : List ℕ) (at : ℕ) → length s ≤ at → markWidth (signKind (peekAt s at)) ≡ 0
+unfolding signKind markWidth
+mark-ended s at h = sym (ap (λ (b : ℕ). markWidth (signKind b)) (peek-out s at h))
 
 -- a bond ends within the line
 pub bond-in : (s : List ℕ) (at : ℕ) → at ≤ length s → (at ≤ bondAt s at .next) × (bondAt s at .next ≤ length s)
 unfolding bondAt
 bond-in s at h = split (ltb at (length s)) refl where
   split : (b : Bool) → ltb at (length s) ≡ b → (at ≤ bondAt s at .next) × (bondAt s at .next ≤ length s)
-  split true e = omega (arith, ltb-true at (length s) e, mark-most (bondOf (peekAt s at)))
+  split true e = omega (arith, ltb-true at (length s) e, mark-most (signKind (peekAt s at)))
   split false e = omega (arith, mark-ended s at (ltb-false at (length s) e))
 
 -- ---- an atom's parts: read at a place from `from` on, each ends within the line
@@ -136,7 +136,7 @@ place-found k (x ∷ xs) =
     (λ e h. place-found k xs (le-of-suc-le-suc h))
 
 -- no name has the end mark for its second letter
-second-not-ended : (b d : ℕ) → placeOf (twoLetters b d) names < symbols → d ≡ ended → ⊥
+second-not-ended : (b d : ℕ) → placeOf (twoLetters b d) names < symbols → d ≡ noByte → ⊥
 second-not-ended b d h e =
     omega (arith, second-small (placeOf (twoLetters b d) names) h, place-found (twoLetters b d) names (omega (arith, names-length)))
 
@@ -162,8 +162,8 @@ module _ (s : List ℕ) (from : ℕ) where
   symbol-from at low =
       let b = peekAt s at in
       let d = peekAt s (at + 1) in
-      by-test (StepIn s from) (eqb b ended) (λ e. tt)
-      (λ e. let one = not-ended s at (eqb-false b ended e) in
+      by-test (StepIn s from) (eqb b noByte) (λ e. tt)
+      (λ e. let one = not-ended s at (eqb-false b noByte e) in
       by-test (StepIn s from) (ltb (placeOf (twoLetters b d) names) symbols)
       (λ f. omega (arith, not-ended s (at + 1) (second-not-ended b d (ltb-true (placeOf (twoLetters b d) names) symbols f))))
       (λ f. by-test (StepIn s from) (ltb (placeOf (oneLetter (slip b)) names) symbols) (λ g. omega arith)
@@ -260,7 +260,7 @@ module _ (s : List ℕ) (from : ℕ) where
 
   after-map : (i y c h q : ℕ) (m : Step) → StepIn s from m → FoundIn s from (afterMap s i y c h q m)
   unfolding StepIn FoundIn afterMap
-  after-map i y c h q (Got m n) k = close-from (bracket i y c h q m) n (k .0)
+  after-map i y c h q (Got m n) k = close-from (bracketOfSix i y c h q m) n (k .0)
   after-map i y c h q (Stop p) k = tt
 
   after-charge : (i y c h : ℕ) (q : Part) → PartIn s from q → FoundIn s from (afterCharge s i y c h q)
@@ -320,11 +320,11 @@ module _ (s : List ℕ) (at : ℕ) where
   unfolding FoundIn organicAt
   organic-found =
       let b = peekAt s at in
-      by-test (FoundIn s at) (eqb b ended) (λ e. tt)
-      (λ e. let one = not-ended s at (eqb-false b ended e) in
+      by-test (FoundIn s at) (eqb b noByte) (λ e. tt)
+      (λ e. let one = not-ended s at (eqb-false b noByte e) in
       by-test (FoundIn s at) (eqb b (byte "C")) (λ f. optional-found (byte "l") 7 1 tt one)
-      (λ f. by-test (FoundIn s at) (ltb (aromaticOf b) aromatics) (λ g. omega arith)
-      (λ g. by-test (FoundIn s at) (ltb (aliphaticOf b) aliphatics) (λ h. omega arith)
+      (λ f. by-test (FoundIn s at) (ltb (aromaticOf b) aromaticCount) (λ g. omega arith)
+      (λ g. by-test (FoundIn s at) (ltb (aliphaticOf b) aliphaticCount) (λ h. omega arith)
       (λ h. by-test (FoundIn s at) (eqb b (byte "B")) (λ i. optional-found (byte "r") 8 0 tt one)
       (λ i. by-test (FoundIn s at) (eqb b (byte "A")) (λ j. wanted-found (byte "t") 10 tt)
       (λ j. by-test (FoundIn s at) (eqb b (byte "T")) (λ k. wanted-found (byte "s") 11 tt) (λ k. tt)))))))

@@ -10,7 +10,7 @@ use lib.Dec.{ltb, eqb}
 use Rattle.feature.specs.Pick.{pick}
 use Rattle.feature.specs.Text.{byte, oneLetter, twoLetters}
 use Rattle.feature.specs.Names.{symbols, names, placeOf, begins}
-use Rattle.feature.specs.Kinds.{aliphatics, aromatics, noNumber, noHydrogens, neutral, noCharge, noConfiguration, th1, th2, al, sp, tb, oh, bracket}
+use Rattle.feature.specs.Kinds.{aliphaticCount, aromaticCount, noNumber, noHydrogens, neutralCharge, noCharge, noConfiguration, th1, th2, al, sp, tb, oh, bracketOfSix}
 use Rattle.feature.specs.declared.atom_kind.AtomKind.the-variants.{Star, Aliphatic, Aromatic, Bracket}
 use Rattle.feature.specs.declared.atom_kind.BracketAtom.{BracketAtom}
 use Rattle.feature.specs.declared.bond_kind.BondKind.{BondKind}
@@ -27,11 +27,11 @@ use Rattle.read_token.specs.declared.read_rnum.Ring.{Ring}
 use Rattle.read_token.specs.declared.read_rnum.Ring.the-variants as ring
 
 -- what is read past the end: no byte
-abbrev pub ended : ℕ
-ended = 256
+abbrev pub noByte : ℕ
+noByte = 256
 
 unfoldable pub peekAt : List ℕ → ℕ → ℕ
-peekAt s at = getD s at ended
+peekAt s at = getD s at noByte
 
 -- what a digit is worth, or 10 where the byte is none
 unfoldable pub digitOf : ℕ → ℕ
@@ -47,10 +47,10 @@ part v n = record { value = v; next = n }
 -- place can't wrap, in a form that omega reads
 pub record Peeked (s : List ℕ) (at r : ℕ) : Type 0 where
   pub is : r ≡ peekAt s at
-  pub small : r ≤ ended
+  pub small : r ≤ noByte
   pub room : at < length s + (r - 255) * 2 ^ 64
 
-pub record Digit (s : List ℕ) (at r : ℕ) : Type 0 where
+pub record DigitRead (s : List ℕ) (at r : ℕ) : Type 0 where
   pub is : r ≡ digitAt s at
   pub small : r ≤ 10
   pub room : at < length s + (r - 9) * 2 ^ 64
@@ -87,7 +87,7 @@ slip b = pick (eqb b (byte "G")) (byte "F") b
 
 unfoldable pub symbolOf : ℕ → ℕ → ℕ → Step
 symbolOf b d at =
-    pick (eqb b ended) (Stop at)
+    pick (eqb b noByte) (Stop at)
     (pick (ltb (placeOf (twoLetters b d) names) symbols) (Got (placeOf (twoLetters b d) names) (at + 2))
     (pick (ltb (placeOf (oneLetter (slip b)) names) symbols) (Got (placeOf (oneLetter (slip b)) names) (at + 1))
     (pick (begins b names) (Stop (at + 1))
@@ -172,9 +172,9 @@ signedAt s sign at =
 unfoldable pub chargeAt : List ℕ → ℕ → Part
 chargeAt s at =
     pick (eqb (peekAt s at) (byte "+"))
-    (part (neutral + signedAt s (byte "+") (at + 1) .value) (signedAt s (byte "+") (at + 1) .next))
+    (part (neutralCharge + signedAt s (byte "+") (at + 1) .value) (signedAt s (byte "+") (at + 1) .next))
     (pick (eqb (peekAt s at) (byte "-"))
-    (part (neutral - signedAt s (byte "-") (at + 1) .value) (signedAt s (byte "-") (at + 1) .next))
+    (part (neutralCharge - signedAt s (byte "-") (at + 1) .value) (signedAt s (byte "-") (at + 1) .next))
     (part noCharge at))
 
 -- ---- map: a colon wants a digit
@@ -190,7 +190,7 @@ unfoldable pub closeAt : List ℕ → BracketAtom → ℕ → Found
 closeAt s b at = pick (eqb (peekAt s at) (byte "]")) (Atom (Bracket b) (at + 1)) (Lacks (missingAt s at))
 
 unfoldable pub afterMap : List ℕ → ℕ → ℕ → ℕ → ℕ → ℕ → Step → Found
-afterMap s i y c h q (Got m n) = closeAt s (bracket i y c h q m) n
+afterMap s i y c h q (Got m n) = closeAt s (bracketOfSix i y c h q m) n
 afterMap s i y c h q (Stop p) = Lacks (missingAt s p)
 
 unfoldable pub afterCharge : List ℕ → ℕ → ℕ → ℕ → ℕ → Part → Found
@@ -229,7 +229,7 @@ aromaticOf b =
     (pick (eqb b (byte "o")) 3
     (pick (eqb b (byte "p")) 4
     (pick (eqb b (byte "s")) 5
-    aromatics)))))
+    aromaticCount)))))
 
 -- those whose letter says it all
 unfoldable pub aliphaticOf : ℕ → ℕ
@@ -240,7 +240,7 @@ aliphaticOf b =
     (pick (eqb b (byte "P")) 5
     (pick (eqb b (byte "F")) 6
     (pick (eqb b (byte "I")) 9
-    aliphatics)))))
+    aliphaticCount)))))
 
 -- a second letter that has to stand there, and one that may
 unfoldable pub wantedAt : List ℕ → ℕ → ℕ → ℕ → Found
@@ -251,10 +251,10 @@ optionalAt s at x two one = pick (eqb (peekAt s at) x) (Atom (Aliphatic two) (at
 
 unfoldable pub organicAt : List ℕ → ℕ → Found
 organicAt s at =
-    pick (eqb (peekAt s at) ended) Nothing
+    pick (eqb (peekAt s at) noByte) Nothing
     (pick (eqb (peekAt s at) (byte "C")) (optionalAt s (at + 1) (byte "l") 7 1)
-    (pick (ltb (aromaticOf (peekAt s at)) aromatics) (Atom (Aromatic (aromaticOf (peekAt s at))) (at + 1))
-    (pick (ltb (aliphaticOf (peekAt s at)) aliphatics) (Atom (Aliphatic (aliphaticOf (peekAt s at))) (at + 1))
+    (pick (ltb (aromaticOf (peekAt s at)) aromaticCount) (Atom (Aromatic (aromaticOf (peekAt s at))) (at + 1))
+    (pick (ltb (aliphaticOf (peekAt s at)) aliphaticCount) (Atom (Aliphatic (aliphaticOf (peekAt s at))) (at + 1))
     (pick (eqb (peekAt s at) (byte "B")) (optionalAt s (at + 1) (byte "r") 8 0)
     (pick (eqb (peekAt s at) (byte "A")) (wantedAt s (at + 1) (byte "t") 10)
     (pick (eqb (peekAt s at) (byte "T")) (wantedAt s (at + 1) (byte "s") 11)
@@ -277,8 +277,8 @@ unfoldable pub atomAt : List ℕ → ℕ → Found
 atomAt s at = orElse (organicAt s at) (otherAt s at)
 
 -- ---- bond
-unfoldable pub bondOf : ℕ → BondKind
-bondOf b =
+unfoldable pub signKind : ℕ → BondKind
+signKind b =
     pick (eqb b (byte "-")) kind.Single
     (pick (eqb b (byte "=")) kind.Double
     (pick (eqb b (byte "#")) kind.Triple
@@ -300,7 +300,7 @@ markWidth kind.Up = 1
 markWidth kind.Down = 1
 
 unfoldable pub bondAt : List ℕ → ℕ → Bond
-bondAt s at = record { kind = bondOf (peekAt s at); next = at + markWidth (bondOf (peekAt s at)) }
+bondAt s at = record { kind = signKind (peekAt s at); next = at + markWidth (signKind (peekAt s at)) }
 
 -- ---- ring number: a digit, or "%" and two
 unfoldable pub percentAt : List ℕ → ℕ → Ring

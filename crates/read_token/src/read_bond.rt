@@ -1,7 +1,7 @@
 // A bond's mark, or the elided bond where none stands.
 ghost use mathlib.Core.Path.{_≡_};
 ghost use Prim.Native.Nat.{_≤_};
-ghost use Rattle.read_token.specs.Scan.{bondOf, markWidth, bondAt};
+ghost use Rattle.read_token.specs.Scan.{signKind, markWidth, bondAt};
 use crate::scanner::peek;
 use feature::bond_kind::BondKind;
 
@@ -12,7 +12,7 @@ pub struct Bond {
 
 // The kind that a byte marks.
 fn marked(b: u32) -> BondKind
-    ensures { λ r. ⌜ r ≡ bondOf b ⌝ }
+    ensures { λ r. ⌜ r ≡ signKind b ⌝ }
 {
     if b == b'-' as u32 {
         return BondKind::Single;

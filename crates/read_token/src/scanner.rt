@@ -1,7 +1,7 @@
 // The byte, the digit and the number at a place, and what it means that something is missing there.
 ghost use mathlib.Core.Path.{_≡_};
 ghost use Prim.Native.Nat.{_+_, _*_, _≤_};
-ghost use Rattle.read_token.specs.Scan.{Peeked, Digit, Sized, digitStep, numberAt, missingAt};
+ghost use Rattle.read_token.specs.Scan.{Peeked, DigitRead, Sized, digitStep, numberAt, missingAt};
 use feature::atom_kind::AtomKind;
 
 // What a reader that cannot fail found, and the place after it.
@@ -44,7 +44,7 @@ pub fn peek(s: &[u8], at: usize) -> u32
 
 // The digit at a place, or 10.
 pub fn digit(s: &[u8], at: usize) -> u32
-    ensures { λ r. ⌜ Digit (now (s .entry)) at r ⌝ }
+    ensures { λ r. ⌜ DigitRead (now (s .entry)) at r ⌝ }
 {
     let b = peek(s, at);
     if b < b'0' as u32 {

@@ -15,11 +15,11 @@ use Rattle.read_line.specs.Parse.{parse}
 use Rattle.writer.specs.Line.{Event, Root, Extend, Join, Pop}
 use Rattle.builder_meaning.specs.Sketch.{Sketch, startS, stepS, runS, sketchOf}
 use Rattle.read.specs.declared.Answer.the-variants as answer
-use Rattle.read.specs.Read.{refusalOf}
+use Rattle.read.specs.Read.{readRefusal}
 use Rattle.read.specs.Line as read
 use Rattle.write.specs.declared.answer.Written.the-variants.{Done}
-use Rattle.write.specs.Write.{graphOf, saidOf, lineSaid, left, writeOf}
-use Rattle.trip_text.specs.Retell.{placeless, unplaced, nests, retoldOne, retold, depth, Says, all, cut}
+use Rattle.write.specs.Write.{graphOf, walkEvents, lineSaid, writeLeaves, writeOf}
+use Rattle.trip_text.specs.Retell.{placeless, unplaced, hasNest, retoldOne, retold, depth, SaysWithin, all, cut}
 use Rattle.trip_text.proofs.Retold.{retold-line}
 use Rattle.trip_graph.specs.Renumber as trip-graph
 use Rattle.trip_graph.proofs.Lists.{by-bool}
@@ -34,19 +34,19 @@ clash : {X : Type 0} → _≡_ {A = ℕ} 0 1 → X
 clash e = absurd (omega arith)
 
 -- ---- events that end with a branch too many
-record Ends (x A : List reader.Event) : Type 0 where
-  front : List reader.Event
+record Ends (x A : List reader.ReadEvent) : Type 0 where
+  front : List reader.ReadEvent
   place : ℕ
   is : x ≡ front ++ (reader.Nest place ∷ [])
   same : unplaced front ≡ A
 
-cons-head : {a b : reader.Event} {x y : List reader.Event} → a ∷ x ≡ b ∷ y → a ≡ b
+cons-head : {a b : reader.ReadEvent} {x y : List reader.ReadEvent} → a ∷ x ≡ b ∷ y → a ≡ b
 cons-head e = cc
 
-cons-tail : {a b : reader.Event} {x y : List reader.Event} → a ∷ x ≡ b ∷ y → x ≡ y
+cons-tail : {a b : reader.ReadEvent} {x y : List reader.ReadEvent} → a ∷ x ≡ b ∷ y → x ≡ y
 cons-tail e = cc
 
-nest-of : (y : reader.Event) → placeless y ≡ reader.Nest 0 → (p : ℕ) × (y ≡ reader.Nest p)
+nest-of : (y : reader.ReadEvent) → placeless y ≡ reader.Nest 0 → (p : ℕ) × (y ≡ reader.Nest p)
 unfolding placeless
 nest-of (reader.Enter l k p) e = clash cc
 nest-of (reader.Join b n p) e = clash cc
@@ -54,30 +54,30 @@ nest-of (reader.Pop n) e = clash cc
 nest-of (reader.Miss m) e = clash cc
 nest-of (reader.Nest p) e = (p, refl)
 
-nil-of : (x : List reader.Event) → unplaced x ≡ [] → x ≡ []
+nil-of : (x : List reader.ReadEvent) → unplaced x ≡ [] → x ≡ []
 unfolding unplaced
 nil-of [] e = refl
 nil-of (y ∷ x) e = clash cc
 
-ends-at : (A x : List reader.Event) → unplaced x ≡ A ++ (reader.Nest 0 ∷ []) → Ends x A
+ends-at : (A x : List reader.ReadEvent) → unplaced x ≡ A ++ (reader.Nest 0 ∷ []) → Ends x A
 unfolding unplaced
 ends-at [] [] e = clash cc
 ends-at [] (y ∷ x) e =
     let n = nest-of y (cons-head e) in
-    record { front = []; place = n .0; is = ap₂ (λ (a : reader.Event) (b : List reader.Event). a ∷ b) (n .1) (nil-of x (cons-tail e)); same = refl }
+    record { front = []; place = n .0; is = ap₂ (λ (a : reader.ReadEvent) (b : List reader.ReadEvent). a ∷ b) (n .1) (nil-of x (cons-tail e)); same = refl }
 ends-at (a ∷ A) [] e = clash cc
 ends-at (a ∷ A) (y ∷ x) e =
     let r = ends-at A x (cons-tail e) in
     record {
       front = y ∷ r .front;
       place = r .place;
-      is = ap (λ (b : List reader.Event). y ∷ b) (r .is);
-      same = ap₂ (λ (a : reader.Event) (b : List reader.Event). a ∷ b) (cons-head e) (r .same);
+      is = ap (λ (b : List reader.ReadEvent). y ∷ b) (r .is);
+      same = ap₂ (λ (a : reader.ReadEvent) (b : List reader.ReadEvent). a ∷ b) (cons-head e) (r .same);
     }
 
 -- none but the last
-nests-placeless : (x : List reader.Event) → nests (unplaced x) ≡ nests x
-unfolding nests unplaced placeless
+nests-placeless : (x : List reader.ReadEvent) → hasNest (unplaced x) ≡ hasNest x
+unfolding hasNest unplaced placeless
 nests-placeless [] = refl
 nests-placeless (reader.Enter l k p ∷ x) = nests-placeless x
 nests-placeless (reader.Join b n p ∷ x) = nests-placeless x
@@ -85,8 +85,8 @@ nests-placeless (reader.Pop n ∷ x) = nests-placeless x
 nests-placeless (reader.Miss m ∷ x) = nests-placeless x
 nests-placeless (reader.Nest p ∷ x) = refl
 
-nests-front : (x y : List reader.Event) → nests (x ++ y) ≡ false → nests x ≡ false
-unfolding nests
+nests-front : (x y : List reader.ReadEvent) → hasNest (x ++ y) ≡ false → hasNest x ≡ false
+unfolding hasNest
 nests-front [] y h = refl
 nests-front (reader.Enter l k p ∷ x) y h = nests-front x y h
 nests-front (reader.Join b n p ∷ x) y h = nests-front x y h
@@ -94,8 +94,8 @@ nests-front (reader.Pop n ∷ x) y h = nests-front x y h
 nests-front (reader.Miss m ∷ x) y h = nests-front x y h
 nests-front (reader.Nest p ∷ x) y h = h
 
-nests-retold : (es : List Event) → nests (retold es) ≡ false
-unfolding nests retold retoldOne
+nests-retold : (es : List Event) → hasNest (retold es) ≡ false
+unfolding hasNest retold retoldOne
 nests-retold [] = refl
 nests-retold (Root k ∷ es) = nests-retold es
 nests-retold (Extend b k ∷ es) = nests-retold es
@@ -104,65 +104,65 @@ nests-retold (Pop d ∷ es) = nests-retold es
 
 -- ---- a builder
 -- what is not refused at the end was not refused before
-fine-before : (d : Sketch) (es : List reader.Event) → runS d es .refusal ≡ 0 → d .refusal ≡ 0
+fine-before : (d : Sketch) (es : List reader.ReadEvent) → runS d es .refusal ≡ 0 → d .refusal ≡ 0
 fine-before d es h =
     by-bool (eqb (d .refusal) 0) (λ q. eqb-true (d .refusal) 0 q) (λ q. ap (λ (c : Sketch). c .refusal) (sym (run-refused d es q)) ∙ h)
 
 -- as much as comes before a branch too many is built, and then that branch is refused
-nest-refused : (d : Sketch) (x A B : List reader.Event) → nests (A ++ B) ≡ false → runS d (A ++ B) .refusal ≡ 0 → unplaced x ≡ A ++ (reader.Nest 0 ∷ [])
+nest-refused : (d : Sketch) (x A B : List reader.ReadEvent) → hasNest (A ++ B) ≡ false → runS d (A ++ B) .refusal ≡ 0 → unplaced x ≡ A ++ (reader.Nest 0 ∷ [])
     → runS d x .refusal ≡ reader.nesting
 unfolding stepS
 nest-refused d x A B f h e =
     let r = ends-at A x e in
-    let k : nests (r .front) ≡ false = sym (nests-placeless (r .front)) ∙ ap nests (r .same) ∙ nests-front A B f in
-    let s : map trip-graph.unplaced (r .front) ≡ A = places-same (r .front) k ∙ r .same in
+    let k : hasNest (r .front) ≡ false = sym (nests-placeless (r .front)) ∙ ap hasNest (r .same) ∙ nests-front A B f in
+    let s : map trip-graph.placeless (r .front) ≡ A = places-same (r .front) k ∙ r .same in
     let z : runS d A .refusal ≡ 0 = fine-before (runS d A) B (ap (λ (c : Sketch). c .refusal) (sym (run-app d A B)) ∙ h) in
-    let y : runS d (map trip-graph.unplaced (r .front)) .refusal ≡ 0 = ap (λ (c : List reader.Event). runS d c .refusal) s ∙ z in
+    let y : runS d (map trip-graph.placeless (r .front)) .refusal ≡ 0 = ap (λ (c : List reader.ReadEvent). runS d c .refusal) s ∙ z in
     let o : runS d (r .front) .refusal ≡ 0 = ap (λ (c : Sketch). c .refusal) (places-free d (r .front) y) ∙ y in
-    ap (λ (c : List reader.Event). runS d c .refusal) (r .is)
+    ap (λ (c : List reader.ReadEvent). runS d c .refusal) (r .is)
     ∙ ap (λ (c : Sketch). c .refusal) (run-app d (r .front) (reader.Nest (r .place) ∷ []))
     ∙ ap (λ (c : Sketch). c .refusal) (run-one (runS d (r .front)) (reader.Nest (r .place)) o)
 
-says-refused : (d : Sketch) {w room : ℕ} (D x : List reader.Event) → room < w → nests D ≡ false → runS d D .refusal ≡ 0 → Says w room D x
+says-refused : (d : Sketch) {w room : ℕ} (D x : List reader.ReadEvent) → room < w → hasNest D ≡ false → runS d D .refusal ≡ 0 → SaysWithin w room D x
     → runS d x .refusal ≡ reader.nesting
 says-refused d D x l f h (all g e) = absurd (omega arith)
 says-refused d D x l f h (cut A B g q e) =
-    nest-refused d x A B (ap nests (sym q) ∙ f) (ap (λ (c : List reader.Event). runS d c .refusal) (sym q) ∙ h) e
+    nest-refused d x A B (ap hasNest (sym q) ∙ f) (ap (λ (c : List reader.ReadEvent). runS d c .refusal) (sym q) ∙ h) e
 
 -- ---- the answer
 refused-answer : (s : List ℕ) (la lb : ℕ) → length s ≤ textLimit → sketchOf s la lb .refusal ≡ reader.nesting
-    → read.lineOf s la lb .answer ≡ answer.Nesting (sketchOf s la lb .carried)
-unfolding read.lineOf read.graphOf refusalOf
+    → read.readText s la lb .answer ≡ answer.Nesting (sketchOf s la lb .carried)
+unfolding read.readText read.wholeOrRefused readRefusal
 refused-answer s la lb short e =
     rw (le-ltb textLimit (length s) short, ne-eqb (sketchOf s la lb .refusal) 0 (λ z. let y : reader.nesting ≡ 0 = sym e ∙ z in omega arith), e)
 
 -- where more branches are open at once than the reader has room for, and the rest of the limits is kept, the answer is 15
 pub turns-too-deep : (room : ℕ) (atoms : List ℕ) (n : ℕ) (bonds : List ℕ) (m len : ℕ) (out : List ℕ) (la lb : ℕ)
-    → Plain (graphOf n atoms bonds) → writeOf room atoms n bonds m ≡ left (Done len) out
-    → length (take len out) ≤ textLimit → nests (parse (take len out)) ≡ true → n ≤ lesserOf atomLimit (la / atomWords) → m ≤ lesserOf bondLimit (lb / bondWords)
-    → (p : ℕ) × (read.lineOf (take len out) la lb .answer ≡ answer.Nesting p)
+    → Plain (graphOf n atoms bonds) → writeOf room atoms n bonds m ≡ writeLeaves (Done len) out
+    → length (take len out) ≤ textLimit → hasNest (parse (take len out)) ≡ true → n ≤ lesserOf atomLimit (la / atomWords) → m ≤ lesserOf bondLimit (lb / bondWords)
+    → (p : ℕ) × (read.readText (take len out) la lb .answer ≡ answer.Nesting p)
 unfolding sketchOf
 turns-too-deep room atoms n bonds m len out la lb P e short deep ra rb =
     let d = was-done room atoms n bonds m len out e in
-    let es : List Event = saidOf atoms n bonds m in
+    let es : List Event = walkEvents atoms n bonds m in
     let l : take len out ≡ lineSaid es = line-is room atoms n bonds m len out e in
     let b : Sketch = startS (lesserOf atomLimit (la / atomWords)) (lesserOf bondLimit (lb / bondWords)) in
     let t = table-trip atoms bonds n m (d .few) (d .good) (P .simple) (P .marks) (d .fine) (lesserOf atomLimit (la / atomWords)) (lesserOf bondLimit (lb / bondWords)) ra rb in
     let k : branchLimit < depth es =
-    ltb-true branchLimit (depth es) (sym (line-nests room atoms n bonds m len out P e) ∙ ap (λ (x : List ℕ). nests (parse x)) (sym l) ∙ deep) in
+    ltb-true branchLimit (depth es) (sym (line-nests room atoms n bonds m len out P e) ∙ ap (λ (x : List ℕ). hasNest (parse x)) (sym l) ∙ deep) in
     let s = retold-line atomLimit es (walk-says room atoms n bonds m len out P e) (walk-told room atoms n bonds m len out P e) (walk-spelled room atoms n bonds m len out P e) (walk-accepted room atoms n bonds m len out P e) in
     let r : runS b (parse (lineSaid es)) .refusal ≡ reader.nesting =
-    says-refused b (retold es) (parse (lineSaid es)) k (nests-retold es) (ap (λ (x : List reader.Event). runS b x .refusal) (told-same es) ∙ t .refusal) s in
+    says-refused b (retold es) (parse (lineSaid es)) k (nests-retold es) (ap (λ (x : List reader.ReadEvent). runS b x .refusal) (told-same es) ∙ t .refusal) s in
     (_, refused-answer (take len out) la lb short (ap (λ (x : List ℕ). runS b (parse x) .refusal) l ∙ r))
 
 -- The round trip, asked of the answer: a line that is not too long, with room lent for its atoms and entries, is read back
 -- unless the answer is 15, a branch too many.
 pub turns-trip-answer : (room : ℕ) (atoms : List ℕ) (n : ℕ) (bonds : List ℕ) (m len : ℕ) (out : List ℕ) (la lb : ℕ)
-    → Plain (graphOf n atoms bonds) → writeOf room atoms n bonds m ≡ left (Done len) out
+    → Plain (graphOf n atoms bonds) → writeOf room atoms n bonds m ≡ writeLeaves (Done len) out
     → length (take len out) ≤ textLimit → n ≤ lesserOf atomLimit (la / atomWords) → m ≤ lesserOf bondLimit (lb / bondWords)
-    → ((p : ℕ) → read.lineOf (take len out) la lb .answer ≡ answer.Nesting p → ⊥)
-    → read.lineOf (take len out) la lb ≡ readAs n m la lb (backByTurns atoms n bonds m)
+    → ((p : ℕ) → read.readText (take len out) la lb .answer ≡ answer.Nesting p → ⊥)
+    → read.readText (take len out) la lb ≡ readAs n m la lb (backByTurns atoms n bonds m)
 turns-trip-answer room atoms n bonds m len out la lb P e short ra rb never =
-    by-bool (nests (parse (take len out)))
+    by-bool (hasNest (parse (take len out)))
     (λ q. let t = turns-too-deep room atoms n bonds m len out la lb P e short q ra rb in absurd (never (t .0) (t .1)))
     (λ q. turns-trip room atoms n bonds m len out la lb P e (record { short = short; shallow = q; atoms = ra; bonds = rb }))

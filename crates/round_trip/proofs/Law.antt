@@ -18,10 +18,10 @@ use Rattle.read.specs.Read.{Said, builtAnswer}
 use Rattle.read.specs.Line as read
 use Rattle.walk.specs.Walk.{turnsOf}
 use Rattle.write.specs.declared.answer.Written.the-variants.{Done}
-use Rattle.write.specs.Write.{zeros, pairWords, graphOf, walkOf, saidIn, saidOf, lineSaid, left, writeOf}
+use Rattle.write.specs.Write.{zeros, pairWords, graphOf, walkOf, saidIn, walkEvents, lineSaid, writeLeaves, writeOf}
 use Rattle.walk_laws.specs.Trek.{Room, AllAccepted}
 use Rattle.walk_laws.proofs.Accepted.{accepted}
-use Rattle.trip_text.specs.Retell.{Told, Spelled, placeless, unplaced, nests, retoldOne, retold, depth}
+use Rattle.trip_text.specs.Retell.{Sayable, Spellable, placeless, unplaced, hasNest, retoldOne, retold, depth}
 use Rattle.trip_text.proofs.Passes.{passes}
 use Rattle.trip_text.proofs.Retold.{retold-shallow, retold-nests}
 use Rattle.trip_graph.specs.Renumber as trip-graph
@@ -36,22 +36,22 @@ use Rattle.round_trip.proofs.Ordered.{told-walk, some-said}
 use Rattle.round_trip.proofs.Spelling.{kept-spelled, kept-turns}
 
 -- ---- the two ways to say what was told
-pub told-same : (es : List Event) → retold es ≡ trip-graph.told es
-unfolding retold retoldOne trip-graph.told trip-graph.toldAs
+pub told-same : (es : List Event) → retold es ≡ trip-graph.asReadEvents es
+unfolding retold retoldOne trip-graph.asReadEvents trip-graph.toldAs
 told-same [] = refl
-told-same (Root k ∷ es) = ap (λ (x : List reader.Event). retoldOne (Root k) ∷ x) (told-same es)
-told-same (Extend b k ∷ es) = ap (λ (x : List reader.Event). retoldOne (Extend b k) ∷ x) (told-same es)
-told-same (Join b n ∷ es) = ap (λ (x : List reader.Event). retoldOne (Join b n) ∷ x) (told-same es)
-told-same (Pop d ∷ es) = ap (λ (x : List reader.Event). retoldOne (Pop d) ∷ x) (told-same es)
+told-same (Root k ∷ es) = ap (λ (x : List reader.ReadEvent). retoldOne (Root k) ∷ x) (told-same es)
+told-same (Extend b k ∷ es) = ap (λ (x : List reader.ReadEvent). retoldOne (Extend b k) ∷ x) (told-same es)
+told-same (Join b n ∷ es) = ap (λ (x : List reader.ReadEvent). retoldOne (Join b n) ∷ x) (told-same es)
+told-same (Pop d ∷ es) = ap (λ (x : List reader.ReadEvent). retoldOne (Pop d) ∷ x) (told-same es)
 
 -- and to forget the places, where no branch too many is met
-pub places-same : (x : List reader.Event) → nests x ≡ false → map trip-graph.unplaced x ≡ unplaced x
-unfolding nests unplaced placeless trip-graph.unplaced
+pub places-same : (x : List reader.ReadEvent) → hasNest x ≡ false → map trip-graph.placeless x ≡ unplaced x
+unfolding hasNest unplaced placeless trip-graph.placeless
 places-same [] h = refl
-places-same (reader.Enter l k p ∷ x) h = ap (λ (y : List reader.Event). reader.Enter l k 0 ∷ y) (places-same x h)
-places-same (reader.Join b n p ∷ x) h = ap (λ (y : List reader.Event). reader.Join b n 0 ∷ y) (places-same x h)
-places-same (reader.Pop n ∷ x) h = ap (λ (y : List reader.Event). reader.Pop n ∷ y) (places-same x h)
-places-same (reader.Miss m ∷ x) h = ap (λ (y : List reader.Event). reader.Miss m ∷ y) (places-same x h)
+places-same (reader.Enter l k p ∷ x) h = ap (λ (y : List reader.ReadEvent). reader.Enter l k 0 ∷ y) (places-same x h)
+places-same (reader.Join b n p ∷ x) h = ap (λ (y : List reader.ReadEvent). reader.Join b n 0 ∷ y) (places-same x h)
+places-same (reader.Pop n ∷ x) h = ap (λ (y : List reader.ReadEvent). reader.Pop n ∷ y) (places-same x h)
+places-same (reader.Miss m ∷ x) h = ap (λ (y : List reader.ReadEvent). reader.Miss m ∷ y) (places-same x h)
 places-same (reader.Nest p ∷ x) h = absurd (let z : _≡_ {A = ℕ} 0 1 = cc in omega arith)
 
 -- ---- the line in an output
@@ -61,72 +61,72 @@ take-line (x ∷ l) z = ap (λ (y : List ℕ). x ∷ y) (take-line l z)
 
 -- ---- what a line says of the walk
 module _ (room : ℕ) (atoms : List ℕ) (n : ℕ) (bonds : List ℕ) (m len : ℕ) (out : List ℕ) (P : Plain (graphOf n atoms bonds))
-    (done : writeOf room atoms n bonds m ≡ left (Done len) out) where
+    (done : writeOf room atoms n bonds m ≡ writeLeaves (Done len) out) where
   few : n ≤ atomLimit
   few = was-done room atoms n bonds m len out done .few
 
   walk-room : Room (graphOf n atoms bonds) atomLimit atomLimit atomLimit
   walk-room = record { met = few; back = few; taken = few }
 
-  pub walk-told : Told 0 (saidOf atoms n bonds m)
+  pub walk-told : Sayable 0 (walkEvents atoms n bonds m)
   unfolding saidIn
   walk-told = told-walk (graphOf n atoms bonds) atomLimit atomLimit atomLimit atomLimit (zeros pairWords) walk-room (turnsOf n m)
 
-  pub walk-spelled : Spelled (saidOf atoms n bonds m)
+  pub walk-spelled : Spellable (walkEvents atoms n bonds m)
   walk-spelled =
       let d = was-done room atoms n bonds m len out done in
-      kept-spelled (saidOf atoms n bonds m)
+      kept-spelled (walkEvents atoms n bonds m)
       (unfold saidIn in
       kept-turns (graphOf n atoms bonds) (λ a h. passes (kindAt (graphOf n atoms bonds) a) (P .survive a h)) (turnsOf n m) _)
       (table-numbered atoms bonds n m (d .few) (d .good) (P .simple) (P .marks) (d .fine))
 
-  pub walk-accepted : AllAccepted atomLimit (saidOf atoms n bonds m) []
+  pub walk-accepted : AllAccepted atomLimit (walkEvents atoms n bonds m) []
   unfolding saidIn
   walk-accepted =
       accepted (graphOf n atoms bonds) atomLimit atomLimit atomLimit atomLimit (zeros pairWords) walk-room atomLimit few (turnsOf n m)
 
-  pub walk-says : 0 < length (saidOf atoms n bonds m)
+  pub walk-says : 0 < length (walkEvents atoms n bonds m)
   unfolding saidIn turnsOf
   walk-says =
       some-said (graphOf n atoms bonds) atomLimit atomLimit atomLimit atomLimit (zeros pairWords) (P .simple .some) few (turnsOf n m) (omega (arith, P .simple .some))
 
   -- a branch too many is met exactly where more are open at once than the reader has room for
-  pub line-nests : nests (parse (lineSaid (saidOf atoms n bonds m))) ≡ ltb branchLimit (depth (saidOf atoms n bonds m))
-  line-nests = retold-nests atomLimit (saidOf atoms n bonds m) walk-says walk-told walk-spelled walk-accepted
+  pub line-nests : hasNest (parse (lineSaid (walkEvents atoms n bonds m))) ≡ ltb branchLimit (depth (walkEvents atoms n bonds m))
+  line-nests = retold-nests atomLimit (walkEvents atoms n bonds m) walk-says walk-told walk-spelled walk-accepted
 
   -- the line is read as what the walk said
-  pub line-says : nests (parse (lineSaid (saidOf atoms n bonds m))) ≡ false
-      → map trip-graph.unplaced (parse (lineSaid (saidOf atoms n bonds m))) ≡ trip-graph.told (saidOf atoms n bonds m)
+  pub line-says : hasNest (parse (lineSaid (walkEvents atoms n bonds m))) ≡ false
+      → map trip-graph.placeless (parse (lineSaid (walkEvents atoms n bonds m))) ≡ trip-graph.asReadEvents (walkEvents atoms n bonds m)
   line-says h =
-      places-same (parse (lineSaid (saidOf atoms n bonds m))) h
-      ∙ retold-shallow atomLimit (saidOf atoms n bonds m) walk-says walk-told walk-spelled walk-accepted (ltb-false branchLimit (depth (saidOf atoms n bonds m)) (sym line-nests ∙ h))
-      ∙ told-same (saidOf atoms n bonds m)
+      places-same (parse (lineSaid (walkEvents atoms n bonds m))) h
+      ∙ retold-shallow atomLimit (walkEvents atoms n bonds m) walk-says walk-told walk-spelled walk-accepted (ltb-false branchLimit (depth (walkEvents atoms n bonds m)) (sym line-nests ∙ h))
+      ∙ told-same (walkEvents atoms n bonds m)
 
 -- ---- what is read of it
 -- a text whose builder is done is read, and leaves what the builder made
 read-back : (g : Graph) (p : Numbers) (s : List ℕ) (n m la lb : ℕ) → length s ≤ textLimit → trip-graph.ComesBack g p (sketchOf s la lb) n m
-    → read.lineOf s la lb ≡ readAs n m la lb (renumbered g p)
-unfolding read.lineOf read.graphOf read.wholeOf builtAnswer leftS
+    → read.readText s la lb ≡ readAs n m la lb (renumbered g p)
+unfolding read.readText read.wholeOrRefused read.wholeOf builtAnswer leftS
 read-back g p s n m la lb short c =
     rw (le-ltb textLimit (length s) short, eq-eqb (sketchOf s la lb .refusal) 0 (c .built .refusal), c .built .says, c .atoms, c .entries, c .built .nodes) refl
 
 -- the line that stands in an output
-pub line-is : (room : ℕ) (atoms : List ℕ) (n : ℕ) (bonds : List ℕ) (m len : ℕ) (out : List ℕ) → writeOf room atoms n bonds m ≡ left (Done len) out
-    → take len out ≡ lineSaid (saidOf atoms n bonds m)
+pub line-is : (room : ℕ) (atoms : List ℕ) (n : ℕ) (bonds : List ℕ) (m len : ℕ) (out : List ℕ) → writeOf room atoms n bonds m ≡ writeLeaves (Done len) out
+    → take len out ≡ lineSaid (walkEvents atoms n bonds m)
 line-is room atoms n bonds m len out e =
     let d = was-done room atoms n bonds m len out e in
-    ap₂ (λ (i : ℕ) (o : List ℕ). take i o) (d .length-is) (d .line) ∙ take-line (lineSaid (saidOf atoms n bonds m)) _
+    ap₂ (λ (i : ℕ) (o : List ℕ). take i o) (d .length-is) (d .line) ∙ take-line (lineSaid (walkEvents atoms n bonds m)) _
 
 -- what the builder makes of it, where no branch is too many: the graph renumbered
 line-comes-back : (room : ℕ) (atoms : List ℕ) (n : ℕ) (bonds : List ℕ) (m len : ℕ) (out : List ℕ) → Plain (graphOf n atoms bonds)
-    → writeOf room atoms n bonds m ≡ left (Done len) out → nests (parse (take len out)) ≡ false
+    → writeOf room atoms n bonds m ≡ writeLeaves (Done len) out → hasNest (parse (take len out)) ≡ false
     → (la lb : ℕ) → n ≤ lesserOf atomLimit (la / atomWords) → m ≤ lesserOf bondLimit (lb / bondWords)
     → trip-graph.ComesBack (graphOf n atoms bonds) (byWalk (walkOf atoms n bonds m)) (sketchOf (take len out) la lb) n m
 line-comes-back room atoms n bonds m len out P e flat la lb ra rb =
-    let l : take len out ≡ lineSaid (saidOf atoms n bonds m) = line-is room atoms n bonds m len out e in
-    let f : nests (parse (lineSaid (saidOf atoms n bonds m))) ≡ false = ap (λ (x : List ℕ). nests (parse x)) (sym l) ∙ flat in
-    let h : map trip-graph.unplaced (parse (take len out)) ≡ trip-graph.told (saidOf atoms n bonds m) =
-    ap (λ (x : List ℕ). map trip-graph.unplaced (parse x)) l ∙ line-says room atoms n bonds m len out P e f in
+    let l : take len out ≡ lineSaid (walkEvents atoms n bonds m) = line-is room atoms n bonds m len out e in
+    let f : hasNest (parse (lineSaid (walkEvents atoms n bonds m))) ≡ false = ap (λ (x : List ℕ). hasNest (parse x)) (sym l) ∙ flat in
+    let h : map trip-graph.placeless (parse (take len out)) ≡ trip-graph.asReadEvents (walkEvents atoms n bonds m) =
+    ap (λ (x : List ℕ). map trip-graph.placeless (parse x)) l ∙ line-says room atoms n bonds m len out P e f in
     text-comes-back room atoms n bonds m len out (P .simple) (P .marks) e (take len out) h la lb ra rb
 
 -- ---- the laws
@@ -139,25 +139,25 @@ turns-trip room atoms n bonds m len out la lb P e r =
 -- The same with no word on what the reader says: no line that is too long, at most as many branches open at once as the reader
 -- has room for, and room lent for the atoms and entries.
 pub turns-trip-shallow : (room : ℕ) (atoms : List ℕ) (n : ℕ) (bonds : List ℕ) (m len : ℕ) (out : List ℕ) (la lb : ℕ)
-    → Plain (graphOf n atoms bonds) → writeOf room atoms n bonds m ≡ left (Done len) out
-    → len ≤ textLimit → depth (saidOf atoms n bonds m) ≤ branchLimit → n ≤ lesserOf atomLimit (la / atomWords) → m ≤ lesserOf bondLimit (lb / bondWords)
-    → read.lineOf (take len out) la lb ≡ readAs n m la lb (backByTurns atoms n bonds m)
+    → Plain (graphOf n atoms bonds) → writeOf room atoms n bonds m ≡ writeLeaves (Done len) out
+    → len ≤ textLimit → depth (walkEvents atoms n bonds m) ≤ branchLimit → n ≤ lesserOf atomLimit (la / atomWords) → m ≤ lesserOf bondLimit (lb / bondWords)
+    → read.readText (take len out) la lb ≡ readAs n m la lb (backByTurns atoms n bonds m)
 turns-trip-shallow room atoms n bonds m len out la lb P e short deep ra rb =
     let d = was-done room atoms n bonds m len out e in
-    let l : take len out ≡ lineSaid (saidOf atoms n bonds m) = line-is room atoms n bonds m len out e in
+    let l : take len out ≡ lineSaid (walkEvents atoms n bonds m) = line-is room atoms n bonds m len out e in
     turns-trip room atoms n bonds m len out la lb P e
     (record {
       short = omega (arith, ap length l, d .length-is);
-      shallow = ap (λ (x : List ℕ). nests (parse x)) l ∙ line-nests room atoms n bonds m len out P e ∙ le-ltb branchLimit (depth (saidOf atoms n bonds m)) deep;
+      shallow = ap (λ (x : List ℕ). hasNest (parse x)) l ∙ line-nests room atoms n bonds m len out P e ∙ le-ltb branchLimit (depth (walkEvents atoms n bonds m)) deep;
       atoms = ra;
       bonds = rb;
     })
 
 -- And with room lent for the largest job, whatever was written: only the line's length and its branches are asked for.
 pub turns-trip-wide : (room : ℕ) (atoms : List ℕ) (n : ℕ) (bonds : List ℕ) (m len : ℕ) (out : List ℕ)
-    → Plain (graphOf n atoms bonds) → writeOf room atoms n bonds m ≡ left (Done len) out
-    → length (take len out) ≤ textLimit → nests (parse (take len out)) ≡ false
-    → read.lineOf (take len out) (atomLimit * atomWords) (bondLimit * bondWords) ≡ readAs n m (atomLimit * atomWords) (bondLimit * bondWords) (backByTurns atoms n bonds m)
+    → Plain (graphOf n atoms bonds) → writeOf room atoms n bonds m ≡ writeLeaves (Done len) out
+    → length (take len out) ≤ textLimit → hasNest (parse (take len out)) ≡ false
+    → read.readText (take len out) (atomLimit * atomWords) (bondLimit * bondWords) ≡ readAs n m (atomLimit * atomWords) (bondLimit * bondWords) (backByTurns atoms n bonds m)
 unfolding lesserOf
 turns-trip-wide room atoms n bonds m len out P e short shallow =
     let d = was-done room atoms n bonds m len out e in
@@ -166,8 +166,8 @@ turns-trip-wide room atoms n bonds m len out P e short shallow =
 
 -- Looked at as a walk looks at tables, what is read is the graph renumbered.
 pub turns-same : (room : ℕ) (atoms : List ℕ) (n : ℕ) (bonds : List ℕ) (m len : ℕ) (out : List ℕ) (la lb : ℕ)
-    → Plain (graphOf n atoms bonds) → writeOf room atoms n bonds m ≡ left (Done len) out → Readable (take len out) n m la lb
-    → Same (graphOf n atoms bonds) (graphOf n (read.lineOf (take len out) la lb .atoms) (read.lineOf (take len out) la lb .bonds)) (byWalk (walkOf atoms n bonds m))
+    → Plain (graphOf n atoms bonds) → writeOf room atoms n bonds m ≡ writeLeaves (Done len) out → Readable (take len out) n m la lb
+    → Same (graphOf n atoms bonds) (graphOf n (read.readText (take len out) la lb .atoms) (read.readText (take len out) la lb .bonds)) (byWalk (walkOf atoms n bonds m))
 turns-same room atoms n bonds m len out la lb P e r =
     let d = was-done room atoms n bonds m len out e in
     subst (λ (x : Said). Same (graphOf n atoms bonds) (graphOf n (x .atoms) (x .bonds)) (byWalk (walkOf atoms n bonds m)))
@@ -186,13 +186,13 @@ turns-one-line r1 a1 n1 b1 m1 l1 o1 r2 a2 n2 b2 m2 l2 o2 P1 P2 e1 e2 q flat =
     let d1 = was-done r1 a1 n1 b1 m1 l1 o1 e1 in
     let d2 = was-done r2 a2 n2 b2 m2 l2 o2 e2 in
     let x = line-comes-back r1 a1 n1 b1 m1 l1 o1 P1 e1 flat (atomLimit * atomWords) (bondLimit * bondWords) (d1 .few) (d1 .most) in
-    let y = line-comes-back r2 a2 n2 b2 m2 l2 o2 P2 e2 (ap (λ (s : List ℕ). nests (parse s)) (sym q) ∙ flat) (atomLimit * atomWords) (bondLimit * bondWords) (d2 .few) (d2 .most) in
+    let y = line-comes-back r2 a2 n2 b2 m2 l2 o2 P2 e2 (ap (λ (s : List ℕ). hasNest (parse s)) (sym q) ∙ flat) (atomLimit * atomWords) (bondLimit * bondWords) (d2 .few) (d2 .most) in
     sym (x .built .nodes) ∙ ap (λ (s : List ℕ). sketchOf s (atomLimit * atomWords) (bondLimit * bondWords) .nodes) q ∙ y .built .nodes
 
 -- So they have as many atoms and as many entries.
 pub turns-one-count : (r1 : ℕ) (a1 : List ℕ) (n1 : ℕ) (b1 : List ℕ) (m1 l1 : ℕ) (o1 : List ℕ) (r2 : ℕ) (a2 : List ℕ) (n2 : ℕ) (b2 : List ℕ) (m2 l2 : ℕ) (o2 : List ℕ)
-    → Plain (graphOf n1 a1 b1) → Plain (graphOf n2 a2 b2) → writeOf r1 a1 n1 b1 m1 ≡ left (Done l1) o1 → writeOf r2 a2 n2 b2 m2 ≡ left (Done l2) o2
-    → take l1 o1 ≡ take l2 o2 → nests (parse (take l1 o1)) ≡ false
+    → Plain (graphOf n1 a1 b1) → Plain (graphOf n2 a2 b2) → writeOf r1 a1 n1 b1 m1 ≡ writeLeaves (Done l1) o1 → writeOf r2 a2 n2 b2 m2 ≡ writeLeaves (Done l2) o2
+    → take l1 o1 ≡ take l2 o2 → hasNest (parse (take l1 o1)) ≡ false
     → (n1 ≡ n2) × (m1 ≡ m2)
 turns-one-count r1 a1 n1 b1 m1 l1 o1 r2 a2 n2 b2 m2 l2 o2 P1 P2 e1 e2 q flat =
     let d1 = was-done r1 a1 n1 b1 m1 l1 o1 e1 in

@@ -6,7 +6,7 @@ use mathlib.Core.Bool.{false}
 use native.Mathlib.Omega.{arith}
 use Rattle.feature.specs.Text.{bytes}
 use Rattle.feature.specs.Names.{names, placeOf}
-use Rattle.feature.specs.Kinds.{bracket, bracketInRange, inRange, invertBracket, invertOf}
+use Rattle.feature.specs.Kinds.{bracketOfSix, bracketInRange, inRange, invertBracket, invertOf}
 use Rattle.feature.specs.Bonds.{codeOf, kindOf, sureKind, reverseOf}
 use Rattle.feature.specs.declared.atom_kind.AtomKind.{AtomKind}
 use Rattle.feature.specs.declared.atom_kind.AtomKind.the-variants.{Star, Aliphatic, Bracket}
@@ -18,7 +18,7 @@ use Rattle.survive.specs.Survive as survive
 use Rattle.survive.proofs.ReadBack.{alone}
 use Rattle.builder.specs.Limits.{lesserOf}
 use Rattle.read_line.specs.Parse as parse
-use Rattle.builder.specs.Build.{startsOf, sumOf}
+use Rattle.builder.specs.Build.{entryStarts, sumOf}
 use Rattle.builder_meaning.specs.Sketch.{To, edge, node, atomTable, targetOf, edgeTable, bondTable, padded}
 use Rattle.read.specs.declared.Answer.the-variants as answer
 use Rattle.read.specs.Read.{said}
@@ -26,13 +26,13 @@ use Rattle.read.specs.Line as read
 use Rattle.writer.specs.Line as writer
 use Rattle.walk_entry.specs.Graph.{Graph, kindAt, degreeAt, bondOf, kindOr, kindIn, degreeIn, bondIn}
 use Rattle.walk_entry.specs.Ways.{isRefused, isFixed, turnedOr, even, saidAs, scanIn, judgedBack, wayOf}
-use Rattle.walk.specs.Walk.{popsOf, rootOf, leftIn, numberedOf, ringOf, enteredOf, enterOf, bondTurn, entryOf, atomOf, turnOf, stepOf, walkTo, eventsOf, turnsOf}
-use Rattle.table_check.specs.Judge.{isEntry, bondStands, atomsFrom, bondsFrom, afterAtoms, badRecord}
+use Rattle.walk.specs.Walk.{popsOf, rootTurn, leftIn, numberedOf, ringTurn, enteredOf, enterTurn, bondTurn, entryTurn, atomOf, turnOf, stepOf, walkTo, eventsOf, turnsOf}
+use Rattle.table_check.specs.Judge.{isEntry, bondStands, atomsFrom, firstBadBond, afterAtoms, badRecord}
 use Rattle.write.specs.declared.answer.Written.the-variants.{Done}
-use Rattle.write.specs.Write.{graphOf, walkIn, saidIn, atomRoom, bondRoom, left, putLine, concluded, graphWritten, writeOf}
+use Rattle.write.specs.Write.{graphOf, walkIn, saidIn, atomPlaces, bondSlots, writeLeaves, putLine, lineConcluded, graphWritten, writeOf}
 use Rattle.write.specs.Plain.{orderPlain}
 use Rattle.write.proofs.Plain.{write-plain}
-use Rattle.trip_text.specs.Retell.{nests}
+use Rattle.trip_text.specs.Retell.{hasNest}
 use Rattle.trip_graph.specs.Renumber.{Backed, Simple}
 use Rattle.trip_graph.specs.Renumbered.{othersOf, parentEntry, doneOf, edgeOf, nodeOf, firstAtoms, renumbered}
 use Rattle.trip_graph.specs.Marks.{Tetrahedral, bearsHydrogen, otherMark, toggled, oddIndex, backKind}
@@ -47,7 +47,7 @@ carbon = Aliphatic 1
 
 -- a carbon with one hydrogen and a mark
 abbrev marked : ℕ → AtomKind
-marked c = Bracket (bracket 1000 16 c 1 31 1000)
+marked c = Bracket (bracketOfSix 1000 16 c 1 31 1000)
 
 -- atom 1 has its bond to atom 0 second, at the odd index 1
 abbrev atoms : List ℕ
@@ -59,8 +59,8 @@ bonds = 2 ∷ 1 ∷ 2 ∷ 2 ∷ 2 ∷ 0 ∷ 2 ∷ 1 ∷ []
 abbrev line : List ℕ
 line = bytes "C-[C@H]-C"
 
-written : writeOf 12 atoms 3 bonds 4 ≡ left (Done 9) (line ++ (0 ∷ 0 ∷ 0 ∷ []))
-unfolding words.listOf words.wordsOf words.pairOf words.bracketPair words.loadAt words.loadOf words.plainOf words.bracketOf words.bondAt words.bondOf words.entryOf kindOf codeOf reverseOf bracketInRange inRange invertBracket invertOf kindOr sureKind kindIn degreeIn bondIn isRefused isFixed turnedOr even saidAs scanIn judgedBack wayOf popsOf rootOf leftIn numberedOf ringOf enteredOf enterOf bondTurn entryOf atomOf turnOf stepOf walkTo eventsOf turnsOf words.isHeld isEntry words.isAtom bondStands atomsFrom bondsFrom afterAtoms badRecord startsOf sumOf lesserOf walkIn saidIn atomRoom bondRoom putLine concluded graphWritten writeOf writer.lineOf writer.dotText writer.addPiece writer.onLast writer.wrapped writer.popPieces writer.writeEvent writer.writeEvents spell.atomText spell.kindText spell.nameText spell.symbolText spell.organic spell.bracketText spell.numberText spell.configurationText spell.hydrogensText spell.chargeText spell.mapText spell.bondText spell.digits names
+written : writeOf 12 atoms 3 bonds 4 ≡ writeLeaves (Done 9) (line ++ (0 ∷ 0 ∷ 0 ∷ []))
+unfolding words.listOf words.wordsOf words.pairOf words.bracketPair words.loadAt words.loadOf words.plainOf words.bracketOf words.entryStored words.entryOfWords words.entryCoded kindOf codeOf reverseOf bracketInRange inRange invertBracket invertOf kindOr sureKind kindIn degreeIn bondIn isRefused isFixed turnedOr even saidAs scanIn judgedBack wayOf popsOf rootTurn leftIn numberedOf ringTurn enteredOf enterTurn bondTurn entryTurn atomOf turnOf stepOf walkTo eventsOf turnsOf words.isHeld isEntry words.isAtom bondStands atomsFrom firstBadBond afterAtoms badRecord entryStarts sumOf lesserOf walkIn saidIn atomPlaces bondSlots putLine lineConcluded graphWritten writeOf writer.lineOf writer.dotText writer.addPiece writer.onLast writer.wrapped writer.popPieces writer.writeEvent writer.writeEvents spell.atomText spell.kindText spell.nameText spell.symbolText spell.organicSymbols spell.bracketText spell.numberText spell.configurationText spell.hydrogensText spell.chargeText spell.mapText spell.bondText spell.digits names
 written = refl
 
 -- ---- what is asked
@@ -89,7 +89,7 @@ each-entry P p q r s a i ha =
     below-three (λ (a : ℕ). i < degreeAt chain a → P a i) (below-one (P 0) p i) (below-two (P 1) q r i) (below-one (P 2) s i) a ha
 
 chain-simple : Simple chain
-unfolding words.listOf words.wordsOf words.pairOf words.bracketPair words.bondAt words.bondOf words.entryOf kindOf reverseOf sureKind bondIn degreeIn inRange bracketInRange startsOf sumOf
+unfolding words.listOf words.wordsOf words.pairOf words.bracketPair words.entryStored words.entryOfWords words.entryCoded kindOf reverseOf sureKind bondIn degreeIn inRange bracketInRange entryStarts sumOf
 chain-simple = record {
   some = omega arith;
   apart = each-entry (λ (a i : ℕ). bondOf chain a i .to ≡ a → ⊥) (λ z. omega arith) (λ z. omega arith) (λ z. omega arith) (λ z. omega arith);
@@ -114,8 +114,8 @@ chain-plain = record {
   marks = below-three (λ (a : ℕ). Tetrahedral (kindAt chain a)) tt (omega arith) tt;
 }
 
-line-flat : nests (parse.parse line) ≡ false
-unfolding nests parse.parse parse.lineP parse.atomP parse.foundP parse.bodies parse.bodyAt parse.bodyOf parse.unitP parse.unitBy parse.unionP parse.unionBy parse.ringP parse.ledAt parse.closeP parse.branchP parse.endP scan.peekAt scan.digitOf scan.digitAt scan.digitStep scan.numberAt scan.missingAt scan.isotopeAt scan.slip scan.symbolOf scan.symbolAt scan.shortAt scan.lateAt scan.longAt scan.alleneAt scan.octahedralAt scan.squareAt scan.trigonalAt scan.configurationAt scan.hydrogensAt scan.fifteenAt scan.signedAt scan.chargeAt scan.mapAt scan.closeAt scan.afterMap scan.afterCharge scan.afterHydrogens scan.afterConfiguration scan.configured scan.afterSymbol scan.afterIsotope scan.insideAt scan.bracketAt scan.aromaticOf scan.aliphaticOf scan.wantedAt scan.optionalAt scan.organicAt scan.starAt scan.orElse scan.otherAt scan.atomAt scan.bondOf scan.markWidth scan.bondAt scan.percentAt scan.rnumAt names placeOf
+line-flat : hasNest (parse.parse line) ≡ false
+unfolding hasNest parse.parse parse.lineP parse.atomP parse.foundP parse.bodies parse.bodyAt parse.bodyOf parse.unitP parse.unitBy parse.unionP parse.unionBy parse.ringP parse.ledAt parse.closeP parse.branchP parse.endP scan.peekAt scan.digitOf scan.digitAt scan.digitStep scan.numberAt scan.missingAt scan.isotopeAt scan.slip scan.symbolOf scan.symbolAt scan.shortAt scan.lateAt scan.longAt scan.alleneAt scan.octahedralAt scan.squareAt scan.trigonalAt scan.configurationAt scan.hydrogensAt scan.fifteenAt scan.signedAt scan.chargeAt scan.mapAt scan.closeAt scan.afterMap scan.afterCharge scan.afterHydrogens scan.afterConfiguration scan.configured scan.afterSymbol scan.afterIsotope scan.insideAt scan.bracketAt scan.aromaticOf scan.aliphaticOf scan.wantedAt scan.optionalAt scan.organicAt scan.starAt scan.orElse scan.otherAt scan.atomAt scan.signKind scan.markWidth scan.bondAt scan.percentAt scan.rnumAt names placeOf
 line-flat = refl
 
 -- room for one atom and one entry more, and a word that is no entry
@@ -126,11 +126,11 @@ readable = record { short = omega arith; shallow = line-flat; atoms = omega arit
 -- ---- what is said
 -- atom 1 comes back with its mark toggled and its bond to atom 0 first
 chain-renumbered : backByTurns atoms 3 bonds 4 ≡ node carbon (edge Single (To 1) ∷ []) ∷ node (marked 2) (edge Single (To 0) ∷ edge Single (To 2) ∷ []) ∷ node carbon (edge Single (To 1) ∷ []) ∷ []
-unfolding words.listOf words.wordsOf words.pairOf words.bracketPair words.loadAt words.loadOf words.plainOf words.bracketOf words.bondAt words.bondOf words.entryOf kindOf codeOf reverseOf bracketInRange inRange invertBracket invertOf kindOr sureKind kindIn degreeIn bondIn isRefused isFixed turnedOr even saidAs scanIn judgedBack wayOf popsOf rootOf leftIn numberedOf ringOf enteredOf enterOf bondTurn entryOf atomOf turnOf stepOf walkTo turnsOf startsOf sumOf walkIn bearsHydrogen otherMark toggled oddIndex backKind othersOf parentEntry doneOf edgeOf nodeOf firstAtoms renumbered
+unfolding words.listOf words.wordsOf words.pairOf words.bracketPair words.loadAt words.loadOf words.plainOf words.bracketOf words.entryStored words.entryOfWords words.entryCoded kindOf codeOf reverseOf bracketInRange inRange invertBracket invertOf kindOr sureKind kindIn degreeIn bondIn isRefused isFixed turnedOr even saidAs scanIn judgedBack wayOf popsOf rootTurn leftIn numberedOf ringTurn enteredOf enterTurn bondTurn entryTurn atomOf turnOf stepOf walkTo turnsOf entryStarts sumOf walkIn bearsHydrogen otherMark toggled oddIndex backKind othersOf parentEntry doneOf edgeOf nodeOf firstAtoms renumbered
 chain-renumbered = refl
 
 -- so the tables that the reading leaves are these, word for word
-chain-back : read.lineOf line 12 11 ≡ said (answer.Done 3 4)
+chain-back : read.readText line 12 11 ≡ said (answer.Done 3 4)
     (words.listOf carbon ++ (1 ∷ words.listOf (marked 2) ++ (2 ∷ words.listOf carbon ++ (1 ∷ 0 ∷ 0 ∷ 0 ∷ []))))
     (2 ∷ 1 ∷ 2 ∷ 0 ∷ 2 ∷ 2 ∷ 2 ∷ 1 ∷ 0 ∷ 0 ∷ 0 ∷ [])
 unfolding padded atomTable bondTable edgeTable targetOf words.listOf codeOf
@@ -139,7 +139,7 @@ chain-back =
     ∙ ap (readAs 3 4 12 11) chain-renumbered
 
 -- and the same by a walk order into tables of 3, 5 and 4 words
-chain-by-order : ReadByOrder atoms 3 bonds 4 (orderPlain 3 5 4 atoms 3 bonds 4) 12 11 (read.lineOf line 12 11)
+chain-by-order : ReadByOrder atoms 3 bonds 4 (orderPlain 3 5 4 atoms 3 bonds 4) 12 11 (read.readText line 12 11)
 chain-by-order =
     trip-by-order 12 atoms 3 bonds 4 9 (line ++ (0 ∷ 0 ∷ 0 ∷ [])) 3 5 4 12 11 chain-plain (sym (write-plain atoms 3 bonds 4 12) ∙ written)
     (record { walked = omega arith; number = omega arith; back = omega arith }) readable
@@ -155,8 +155,8 @@ backBonds = 2 ∷ 1 ∷ 2 ∷ 0 ∷ 2 ∷ 2 ∷ 2 ∷ 1 ∷ []
 abbrev back : Graph
 back = graphOf 3 backAtoms backBonds
 
-back-written : writeOf 9 backAtoms 3 backBonds 4 ≡ left (Done 9) line
-unfolding words.listOf words.wordsOf words.pairOf words.bracketPair words.loadAt words.loadOf words.plainOf words.bracketOf words.bondAt words.bondOf words.entryOf kindOf codeOf reverseOf bracketInRange inRange invertBracket invertOf kindOr sureKind kindIn degreeIn bondIn isRefused isFixed turnedOr even saidAs scanIn judgedBack wayOf popsOf rootOf leftIn numberedOf ringOf enteredOf enterOf bondTurn entryOf atomOf turnOf stepOf walkTo eventsOf turnsOf words.isHeld isEntry words.isAtom bondStands atomsFrom bondsFrom afterAtoms badRecord startsOf sumOf lesserOf walkIn saidIn atomRoom bondRoom putLine concluded graphWritten writeOf writer.lineOf writer.dotText writer.addPiece writer.onLast writer.wrapped writer.popPieces writer.writeEvent writer.writeEvents spell.atomText spell.kindText spell.nameText spell.symbolText spell.organic spell.bracketText spell.numberText spell.configurationText spell.hydrogensText spell.chargeText spell.mapText spell.bondText spell.digits names
+back-written : writeOf 9 backAtoms 3 backBonds 4 ≡ writeLeaves (Done 9) line
+unfolding words.listOf words.wordsOf words.pairOf words.bracketPair words.loadAt words.loadOf words.plainOf words.bracketOf words.entryStored words.entryOfWords words.entryCoded kindOf codeOf reverseOf bracketInRange inRange invertBracket invertOf kindOr sureKind kindIn degreeIn bondIn isRefused isFixed turnedOr even saidAs scanIn judgedBack wayOf popsOf rootTurn leftIn numberedOf ringTurn enteredOf enterTurn bondTurn entryTurn atomOf turnOf stepOf walkTo eventsOf turnsOf words.isHeld isEntry words.isAtom bondStands atomsFrom firstBadBond afterAtoms badRecord entryStarts sumOf lesserOf walkIn saidIn atomPlaces bondSlots putLine lineConcluded graphWritten writeOf writer.lineOf writer.dotText writer.addPiece writer.onLast writer.wrapped writer.popPieces writer.writeEvent writer.writeEvents spell.atomText spell.kindText spell.nameText spell.symbolText spell.organicSymbols spell.bracketText spell.numberText spell.configurationText spell.hydrogensText spell.chargeText spell.mapText spell.bondText spell.digits names
 back-written = refl
 
 each-back : (P : ℕ → ℕ → Type 0) → P 0 0 → P 1 0 → P 1 1 → P 2 0 → (a i : ℕ) → a < 3 → i < degreeAt back a → P a i
@@ -165,7 +165,7 @@ each-back P p q r s a i ha =
     below-three (λ (a : ℕ). i < degreeAt back a → P a i) (below-one (P 0) p i) (below-two (P 1) q r i) (below-one (P 2) s i) a ha
 
 back-simple : Simple back
-unfolding words.listOf words.wordsOf words.pairOf words.bracketPair words.bondAt words.bondOf words.entryOf kindOf reverseOf sureKind bondIn degreeIn inRange bracketInRange startsOf sumOf
+unfolding words.listOf words.wordsOf words.pairOf words.bracketPair words.entryStored words.entryOfWords words.entryCoded kindOf reverseOf sureKind bondIn degreeIn inRange bracketInRange entryStarts sumOf
 back-simple = record {
   some = omega arith;
   apart = each-back (λ (a i : ℕ). bondOf back a i .to ≡ a → ⊥) (λ z. omega arith) (λ z. omega arith) (λ z. omega arith) (λ z. omega arith);
@@ -200,8 +200,8 @@ chain-one =
 abbrev starAtoms : List ℕ
 starAtoms = words.listOf Star ++ (0 ∷ [])
 
-star-written : writeOf 1 starAtoms 1 [] 0 ≡ left (Done 1) (bytes "*")
-unfolding words.listOf words.wordsOf words.pairOf words.loadAt words.loadOf words.plainOf inRange kindOr kindIn degreeIn even saidAs rootOf leftIn entryOf atomOf turnOf stepOf walkTo eventsOf turnsOf words.isHeld words.isAtom atomsFrom bondsFrom afterAtoms badRecord startsOf sumOf lesserOf walkIn saidIn atomRoom bondRoom putLine concluded graphWritten writeOf writer.lineOf writer.dotText writer.addPiece writer.writeEvent writer.writeEvents spell.atomText spell.kindText
+star-written : writeOf 1 starAtoms 1 [] 0 ≡ writeLeaves (Done 1) (bytes "*")
+unfolding words.listOf words.wordsOf words.pairOf words.loadAt words.loadOf words.plainOf inRange kindOr kindIn degreeIn even saidAs rootTurn leftIn entryTurn atomOf turnOf stepOf walkTo eventsOf turnsOf words.isHeld words.isAtom atomsFrom firstBadBond afterAtoms badRecord entryStarts sumOf lesserOf walkIn saidIn atomPlaces bondSlots putLine lineConcluded graphWritten writeOf writer.lineOf writer.dotText writer.addPiece writer.writeEvent writer.writeEvents spell.atomText spell.kindText
 star-written = refl
 
 star-plain : Plain (graphOf 1 starAtoms [])
@@ -219,12 +219,12 @@ star-plain = record {
   marks = below-one (λ (a : ℕ). Tetrahedral (kindAt (graphOf 1 starAtoms []) a)) tt;
 }
 
-star-flat : nests (parse.parse (bytes "*")) ≡ false
-unfolding nests parse.parse parse.lineP parse.atomP parse.foundP parse.bodies parse.bodyAt parse.bodyOf parse.unitP parse.unitBy parse.unionP parse.unionBy parse.ringP parse.ledAt parse.closeP parse.branchP parse.endP scan.peekAt scan.bracketAt scan.aromaticOf scan.aliphaticOf scan.wantedAt scan.optionalAt scan.organicAt scan.starAt scan.orElse scan.otherAt scan.atomAt scan.bondOf scan.markWidth scan.bondAt scan.percentAt scan.rnumAt scan.missingAt scan.digitAt scan.digitOf
+star-flat : hasNest (parse.parse (bytes "*")) ≡ false
+unfolding hasNest parse.parse parse.lineP parse.atomP parse.foundP parse.bodies parse.bodyAt parse.bodyOf parse.unitP parse.unitBy parse.unionP parse.unionBy parse.ringP parse.ledAt parse.closeP parse.branchP parse.endP scan.peekAt scan.bracketAt scan.aromaticOf scan.aliphaticOf scan.wantedAt scan.optionalAt scan.organicAt scan.starAt scan.orElse scan.otherAt scan.atomAt scan.signKind scan.markWidth scan.bondAt scan.percentAt scan.rnumAt scan.missingAt scan.digitAt scan.digitOf
 star-flat = refl
 
-star-back : read.lineOf (bytes "*") 3 0 ≡ said (answer.Done 1 0) (1 ∷ 0 ∷ 0 ∷ []) []
-unfolding lesserOf padded atomTable bondTable edgeTable words.listOf words.wordsOf words.pairOf words.loadAt words.loadOf words.plainOf inRange kindOr kindIn degreeIn even saidAs rootOf leftIn entryOf atomOf turnOf stepOf walkTo turnsOf startsOf sumOf walkIn bearsHydrogen oddIndex backKind othersOf parentEntry doneOf nodeOf firstAtoms renumbered
+star-back : read.readText (bytes "*") 3 0 ≡ said (answer.Done 1 0) (1 ∷ 0 ∷ 0 ∷ []) []
+unfolding lesserOf padded atomTable bondTable edgeTable words.listOf words.wordsOf words.pairOf words.loadAt words.loadOf words.plainOf inRange kindOr kindIn degreeIn even saidAs rootTurn leftIn entryTurn atomOf turnOf stepOf walkTo turnsOf entryStarts sumOf walkIn bearsHydrogen oddIndex backKind othersOf parentEntry doneOf nodeOf firstAtoms renumbered
 star-back =
     turns-trip 1 starAtoms 1 [] 0 1 (bytes "*") 3 0 star-plain star-written
     (record { short = omega arith; shallow = star-flat; atoms = omega arith; bonds = omega arith })

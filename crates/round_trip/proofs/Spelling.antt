@@ -15,12 +15,12 @@ use Rattle.join_pool.specs.declared.Given.the-variants.{Number, Full}
 use Rattle.writer.specs.Line.{Event, Root, Extend, Join, Pop}
 use Rattle.walk_entry.specs.declared.entry.Way.{Way}
 use Rattle.walk_entry.specs.declared.entry.Way.the-variants.{Enters, Refuses}
-use Rattle.walk_entry.specs.Graph.{Bond, Graph, kindAt, degreeAt, bondOf}
+use Rattle.walk_entry.specs.Graph.{BondEntry, Graph, kindAt, degreeAt, bondOf}
 use Rattle.walk_entry.specs.Ways.{saidAs, wayOf}
-use Rattle.walk.specs.Walk.{Walk, Turn, tookAt, popsOf, popsThen, rootOf, numberedOf, ringOf, enteredOf, enterOf, bondTurn, entryOf, atomOf, turnOf, stepOf, eventsOf}
+use Rattle.walk.specs.Walk.{Walk, Turn, tookAt, popsOf, popsThen, rootTurn, numberedOf, ringTurn, enteredOf, enterTurn, bondTurn, entryTurn, atomOf, turnOf, stepOf, eventsOf}
 use Rattle.feature.proofs.Cases.{by-test}
-use Rattle.trip_text.specs.Retell.{Spelled}
-use Rattle.trip_graph.specs.Opened.{Numbered}
+use Rattle.trip_text.specs.Retell.{Spellable}
+use Rattle.trip_graph.specs.Opened.{RingsHaveText}
 use Rattle.trip_graph.proofs.Marks.{marks-serve}
 
 -- ---- events
@@ -32,7 +32,7 @@ Kept (Extend b k ∷ es) = (survives k ≡ true) × Kept es
 Kept (Join b r ∷ es) = Kept es
 Kept (Pop d ∷ es) = Kept es
 
-pub kept-spelled : (es : List Event) → Kept es → Numbered es → Spelled es
+pub kept-spelled : (es : List Event) → Kept es → RingsHaveText es → Spellable es
 kept-spelled [] h n = tt
 kept-spelled (Root k ∷ es) h n = (alone k (h .0), kept-spelled es (h .1) n)
 kept-spelled (Extend b k ∷ es) h n = (alone k (h .0), kept-spelled es (h .1) n)
@@ -55,8 +55,8 @@ abbrev Fine : Turn → Type 0
 Fine x = Kept (x .said)
 
 module _ (g : Graph) (K : (a : ℕ) → a < g .size → survives (kindAt g a) ≡ true) (w : Walk) where
-  fine-root : Fine (rootOf g w)
-  unfolding rootOf
+  fine-root : Fine (rootTurn g w)
+  unfolding rootTurn
   fine-root =
       by-test Fine (leb (g .size) (w .at .next)) (λ q. tt)
       (λ q. by-test Fine (eqb (getD (w .met) (w .at .next) 0) 0)
@@ -72,8 +72,8 @@ module _ (g : Graph) (K : (a : ℕ) → a < g .size → survives (kindAt g a) �
   fine-way k t l (Refuses r a b) = tt
   fine-way k t l (Enters b) = kept-pops (w .at .pend) (Extend k (saidAs (kindAt g t) b)) (marks-serve .kept (kindAt g t) b (K t l), tt)
 
-  fine-bond : (s : ℕ) (b : Bond) → Fine (bondTurn g w s b)
-  unfolding bondTurn enterOf ringOf
+  fine-bond : (s : ℕ) (b : BondEntry) → Fine (bondTurn g w s b)
+  unfolding bondTurn enterTurn ringTurn
   fine-bond s b =
       by-test Fine (leb (g .size) (b .to)) (λ q. tt)
       (λ q. by-test Fine (eqb (b .to) s) (λ z. tt)
@@ -83,7 +83,7 @@ module _ (g : Graph) (K : (a : ℕ) → a < g .size → survives (kindAt g a) �
 
 module _ (g : Graph) (K : (a : ℕ) → a < g .size → survives (kindAt g a) ≡ true) where
   fine-atom : (w : Walk) (a : ℕ) → Fine (atomOf g w a)
-  unfolding atomOf entryOf
+  unfolding atomOf entryTurn
   fine-atom w a =
       by-test Fine (leb (degreeAt g a) (getD (w .taken) a 0)) (λ q. tt)
       (λ q. by-test Fine (eqb (getD (w .back) a 0) (getD (w .taken) a 0 + 1)) (λ z. tt)

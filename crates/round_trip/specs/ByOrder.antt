@@ -5,9 +5,9 @@ use mathlib.Core.Path.{_≡_}
 use mathlib.Core.List.{List}
 use lib.ListN.{take}
 use Rattle.read.specs.Read.{Said}
-use Rattle.read.specs.Line.{lineOf}
+use Rattle.read.specs.Line.{readText}
 use Rattle.write.specs.declared.answer.Written.the-variants.{Done}
-use Rattle.write.specs.Write.{graphOf, left}
+use Rattle.write.specs.Write.{graphOf, writeLeaves}
 use Rattle.write.specs.Order.{Order}
 use Rattle.write.specs.Plain.{writePlain, orderPlain}
 use Rattle.trip_graph.specs.Renumbered.{renumbered}
@@ -28,5 +28,5 @@ pub record Lent (n lw ln lb : ℕ) : Type 0 where
 -- and le words
 abbrev pub TripByOrder : ℕ → List ℕ → ℕ → List ℕ → ℕ → ℕ → List ℕ → ℕ → ℕ → ℕ → ℕ → ℕ → Type 0
 TripByOrder room atoms n bonds m len out lw ln lb la le =
-    Plain (graphOf n atoms bonds) → writePlain room atoms n bonds m ≡ left (Done len) out → Lent n lw ln lb → Readable (take len out) n m la le
-    → ReadByOrder atoms n bonds m (orderPlain lw ln lb atoms n bonds m) la le (lineOf (take len out) la le)
+    Plain (graphOf n atoms bonds) → writePlain room atoms n bonds m ≡ writeLeaves (Done len) out → Lent n lw ln lb → Readable (take len out) n m la le
+    → ReadByOrder atoms n bonds m (orderPlain lw ln lb atoms n bonds m) la le (readText (take len out) la le)

@@ -6,7 +6,7 @@
 -- else differs.
 --
 -- The graph that comes back is a defined one (`renumbered`), and what the reading leaves is an equation: 0 with the counts, and both
--- tables whole. Writing, the walk order and reading are what the public calls promise: `writePlain`, `orderPlain` and `lineOf`.
+-- tables whole. Writing, the walk order and reading are what the public calls promise: `writePlain`, `orderPlain` and `readText`.
 use Prim.Native.Nat.{ℕ, _/_, _≤_, _<_}
 use mathlib.Core.Path.{_≡_}
 use mathlib.Core.List.{List}
@@ -19,13 +19,13 @@ use Rattle.read_line.specs.Parse.{parse}
 use Rattle.builder_meaning.specs.Sketch.{Node, atomTable, bondTable, padded}
 use Rattle.read.specs.declared.Answer.the-variants as answer
 use Rattle.read.specs.Read.{Said, said}
-use Rattle.read.specs.Line.{lineOf}
+use Rattle.read.specs.Line.{readText}
 use Rattle.walk_entry.specs.Graph.{Graph, kindAt}
 use Rattle.write.specs.declared.answer.Written.the-variants.{Done}
-use Rattle.write.specs.Write.{graphOf, left}
+use Rattle.write.specs.Write.{graphOf, writeLeaves}
 use Rattle.write.specs.Order.{Order}
 use Rattle.write.specs.Plain.{writePlain, orderPlain}
-use Rattle.trip_text.specs.Retell.{nests}
+use Rattle.trip_text.specs.Retell.{hasNest}
 use Rattle.trip_graph.specs.Marks.{Tetrahedral}
 use Rattle.trip_graph.specs.Renumber.{Simple, Numbering, Renumbers}
 use Rattle.trip_graph.specs.Renumbered.{Numbers, renumbered}
@@ -41,7 +41,7 @@ pub record Plain (g : Graph) : Type 0 where
 -- of the line: no longer than a text may be, no branch too many in it, and room lent for n atoms and m bond entries
 pub record Readable (line : List ℕ) (n m la lb : ℕ) : Type 0 where
   pub short : length line ≤ textLimit
-  pub shallow : nests (parse line) ≡ false
+  pub shallow : hasNest (parse line) ≡ false
   pub atoms : n ≤ lesserOf atomLimit (la / atomWords)
   pub bonds : m ≤ lesserOf bondLimit (lb / bondWords)
 
@@ -63,15 +63,15 @@ backOf atoms n bonds m = renumbered (graphOf n atoms bonds) (byOrder (orderPlain
 -- the demand of one job: a write into a lent output of so many bytes, and a reading into la and lb words
 abbrev pub RoundTrip : ℕ → List ℕ → ℕ → List ℕ → ℕ → ℕ → List ℕ → ℕ → ℕ → Type 0
 RoundTrip room atoms n bonds m len out la lb =
-    Plain (graphOf n atoms bonds) → writePlain room atoms n bonds m ≡ left (Done len) out → Readable (take len out) n m la lb
-    → lineOf (take len out) la lb ≡ readAs n m la lb (backOf atoms n bonds m)
+    Plain (graphOf n atoms bonds) → writePlain room atoms n bonds m ≡ writeLeaves (Done len) out → Readable (take len out) n m la lb
+    → readText (take len out) la lb ≡ readAs n m la lb (backOf atoms n bonds m)
 
 -- The corollary on two jobs: two such graphs with the same line have the same renumbering. Of the line it is asked that no branch in
 -- it is too many; nothing of its length, and no room is lent.
 abbrev pub OneLine : ℕ → List ℕ → ℕ → List ℕ → ℕ → ℕ → List ℕ → ℕ → List ℕ → ℕ → List ℕ → ℕ → ℕ → List ℕ → Type 0
 OneLine r1 a1 n1 b1 m1 l1 o1 r2 a2 n2 b2 m2 l2 o2 =
-    Plain (graphOf n1 a1 b1) → Plain (graphOf n2 a2 b2) → writePlain r1 a1 n1 b1 m1 ≡ left (Done l1) o1 → writePlain r2 a2 n2 b2 m2 ≡ left (Done l2) o2
-    → take l1 o1 ≡ take l2 o2 → nests (parse (take l1 o1)) ≡ false
+    Plain (graphOf n1 a1 b1) → Plain (graphOf n2 a2 b2) → writePlain r1 a1 n1 b1 m1 ≡ writeLeaves (Done l1) o1 → writePlain r2 a2 n2 b2 m2 ≡ writeLeaves (Done l2) o2
+    → take l1 o1 ≡ take l2 o2 → hasNest (parse (take l1 o1)) ≡ false
     → backOf a1 n1 b1 m1 ≡ backOf a2 n2 b2 m2
 
 -- ---- what follows

@@ -11,7 +11,7 @@ use lib.Dec.{T, ltb, leb, leb→le, ltb→lt}
 use Rattle.feature.specs.Names.{symbols}
 use Rattle.feature.proofs.Lists.{sets-append}
 use Rattle.feature.proofs.Table.{at}
-use Rattle.spell.specs.Spell.{Laid, organic}
+use Rattle.spell.specs.Spell.{Laid, organicSymbols}
 
 pub laid-nil : {l : List ℕ} {at : ℕ} → Laid 0 l at [] l at
 laid-nil = record { is = refl; next = omega arith; small = omega arith }
@@ -40,6 +40,6 @@ in-front {n} {r} {l} {m} {xs} a h = a .is ∙ sets-eq xs l 0 (omega arith) ∙ r
 isSymbol : ℕ → ℕ → Bool
 isSymbol k y = ltb y symbols
 
-pub organic-small : (n : ℕ) → n < 18 → getD organic n 0 < symbols
-unfolding organic isSymbol
-organic-small n h = ltb→lt _ symbols (at isSymbol organic tt n h)
+pub organic-small : (n : ℕ) → n < 18 → getD organicSymbols n 0 < symbols
+unfolding organicSymbols isSymbol
+organic-small n h = ltb→lt _ symbols (at isSymbol organicSymbols tt n h)

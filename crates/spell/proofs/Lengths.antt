@@ -8,16 +8,16 @@ use lib.ListN.{length, getD, length-append}
 use lib.Dec.{ltb, leb, eqb}
 use borrow.Author.Tests.{lt-ltb, ltb-true}
 use Rattle.feature.specs.Pick.{pick}
-use Rattle.feature.specs.Text.{byte, letter}
+use Rattle.feature.specs.Text.{byte, letterStep}
 use Rattle.feature.specs.Names.{names, symAc, symCs}
-use Rattle.feature.specs.Kinds.{aliphatics, noNumber, noHydrogens, neutral, noCharge, noConfiguration, th2, al, sp, tb, oh, configurations, inRange, Within, Good}
+use Rattle.feature.specs.Kinds.{aliphaticCount, noNumber, noHydrogens, neutralCharge, noCharge, noConfiguration, th2, al, sp, tb, oh, configurations, inRange, Within, GoodKind}
 use Rattle.feature.specs.declared.atom_kind.BracketAtom.{BracketAtom}
 use Rattle.feature.specs.declared.atom_kind.AtomKind.{AtomKind}
 use Rattle.feature.specs.declared.atom_kind.AtomKind.the-variants.{Star, Aliphatic, Aromatic, Bracket}
 use Rattle.feature.specs.declared.bond_kind.BondKind.{BondKind}
 use Rattle.feature.specs.declared.bond_kind.BondKind.the-variants as bond
 use Rattle.feature.proofs.Ranges.{good}
-use Rattle.spell.specs.Spell.{digits, numberText, nameText, symbolText, templateText, markedText, configurationText, hydrogensText, chargeText, mapText, bracketText, organic, kindText, atomText, bondText, rnumText}
+use Rattle.spell.specs.Spell.{digits, numberText, nameText, symbolText, templateText, markedText, configurationText, hydrogensText, chargeText, mapText, bracketText, organicSymbols, kindText, atomText, bondText, rnumText}
 
 -- a choice is no longer than either
 pub either-short : (n : ℕ) (b : Bool) (x y : List ℕ) → length x ≤ n → length y ≤ n → length (pick b x y) ≤ n
@@ -39,7 +39,7 @@ number-short i = either-short 3 (eqb i noNumber) _ _ (omega arith) (digits-short
 
 name-short : (y : ℕ) → length (nameText y) ≤ 2
 unfolding nameText
-name-short y = either-short 2 (eqb (getD names y 0 % letter) 0) _ _ (omega arith) (omega arith)
+name-short y = either-short 2 (eqb (getD names y 0 % letterStep) 0) _ _ (omega arith) (omega arith)
 
 symbol-short : (y : ℕ) → length (symbolText y) ≤ 2
 unfolding symbolText
@@ -80,12 +80,12 @@ charge-short : (q : ℕ) → q ≤ noCharge → length (chargeText q) ≤ 3
 unfolding chargeText
 charge-short q h =
     either-short 3 (eqb q noCharge) _ _ (omega arith)
-    (either-short 3 (eqb q neutral) _ _ (omega arith)
-    (either-short 3 (eqb q (neutral + 1)) _ _ (omega arith)
-    (either-short 3 (eqb q (neutral - 1)) _ _ (omega arith)
-    (either-short 3 (eqb q (neutral + 5)) _ _ (omega arith)
-    (either-short 3 (ltb neutral q) _ _ (omega (arith, pair-short (q - neutral) (omega arith)))
-    (omega (arith, pair-short (neutral - q) (omega arith))))))))
+    (either-short 3 (eqb q neutralCharge) _ _ (omega arith)
+    (either-short 3 (eqb q (neutralCharge + 1)) _ _ (omega arith)
+    (either-short 3 (eqb q (neutralCharge - 1)) _ _ (omega arith)
+    (either-short 3 (eqb q (neutralCharge + 5)) _ _ (omega arith)
+    (either-short 3 (ltb neutralCharge q) _ _ (omega (arith, pair-short (q - neutralCharge) (omega arith)))
+    (omega (arith, pair-short (neutralCharge - q) (omega arith))))))))
 
 map-short : (m : ℕ) → length (mapText m) ≤ 4
 unfolding mapText
@@ -98,11 +98,11 @@ bracket-short b w =
     (omega
     (arith, number-short (b .isotope), symbol-short (b .symbol), configuration-short (b .configuration) (w .configuration), hydrogens-short (b .hydrogens), charge-short (b .charge) (w .charge), map-short (b .map)))
 
-kind-short : (k : AtomKind) → Good k → length (kindText k) ≤ 21
+kind-short : (k : AtomKind) → GoodKind k → length (kindText k) ≤ 21
 unfolding kindText
 kind-short Star g = omega arith
-kind-short (Aliphatic n) g = omega (arith, name-short (getD organic n 0))
-kind-short (Aromatic n) g = omega (arith, name-short (getD organic (aliphatics + n) 0))
+kind-short (Aliphatic n) g = omega (arith, name-short (getD organicSymbols n 0))
+kind-short (Aromatic n) g = omega (arith, name-short (getD organicSymbols (aliphaticCount + n) 0))
 kind-short (Bracket b) g = bracket-short b g
 
 -- ---- the texts that a writer lays

@@ -7,9 +7,9 @@ use lib.ListN.{length, getD}
 use lib.Seq.{sets}
 use lib.Dec.{ltb, leb, eqb}
 use Rattle.feature.specs.Pick.{pick}
-use Rattle.feature.specs.Text.{byte, bytes, letter}
+use Rattle.feature.specs.Text.{byte, bytes, letterStep}
 use Rattle.feature.specs.Names.{names, symAc, symCs}
-use Rattle.feature.specs.Kinds.{aliphatics, noNumber, noHydrogens, neutral, noCharge, noConfiguration, th2, al, sp, tb, oh, inRange}
+use Rattle.feature.specs.Kinds.{aliphaticCount, noNumber, noHydrogens, neutralCharge, noCharge, noConfiguration, th2, al, sp, tb, oh, inRange}
 use Rattle.feature.specs.declared.atom_kind.BracketAtom.{BracketAtom}
 use Rattle.feature.specs.declared.atom_kind.AtomKind.{AtomKind}
 use Rattle.feature.specs.declared.atom_kind.AtomKind.the-variants.{Star, Aliphatic, Aromatic, Bracket}
@@ -39,8 +39,8 @@ numberText i = pick (eqb i noNumber) [] (digits i)
 -- a symbol's name in the table
 unfoldable pub nameText : ℕ → List ℕ
 nameText y =
-    pick (eqb (getD names y 0 % letter) 0) ((getD names y 0 / letter) ∷ [])
-    ((getD names y 0 / letter) ∷ (getD names y 0 % letter - 1) ∷ [])
+    pick (eqb (getD names y 0 % letterStep) 0) ((getD names y 0 / letterStep) ∷ [])
+    ((getD names y 0 / letterStep) ∷ (getD names y 0 % letterStep - 1) ∷ [])
 
 -- caesium as actinium, a slip
 unfoldable pub symbolText : ℕ → List ℕ
@@ -81,12 +81,12 @@ hydrogensText h =
 unfoldable pub chargeText : ℕ → List ℕ
 chargeText q =
     pick (eqb q noCharge) []
-    (pick (eqb q neutral) []
-    (pick (eqb q (neutral + 1)) (bytes "+")
-    (pick (eqb q (neutral - 1)) (bytes "-")
-    (pick (eqb q (neutral + 5)) (bytes " +5")
-    (pick (ltb neutral q) (byte "+" ∷ digits (q - neutral))
-    (byte "-" ∷ digits (neutral - q)))))))
+    (pick (eqb q neutralCharge) []
+    (pick (eqb q (neutralCharge + 1)) (bytes "+")
+    (pick (eqb q (neutralCharge - 1)) (bytes "-")
+    (pick (eqb q (neutralCharge + 5)) (bytes " +5")
+    (pick (ltb neutralCharge q) (byte "+" ∷ digits (q - neutralCharge))
+    (byte "-" ∷ digits (neutralCharge - q)))))))
 
 unfoldable pub mapText : ℕ → List ℕ
 mapText m = pick (eqb m noNumber) [] (byte ":" ∷ digits m)
@@ -96,13 +96,13 @@ bracketText b =
     byte "[" ∷ (numberText (b .isotope) ++ (symbolText (b .symbol) ++ (configurationText (b .configuration) ++ (hydrogensText (b .hydrogens) ++ (chargeText (b .charge) ++ (mapText (b .map) ++ bytes "]"))))))
 
 -- the symbols of B C N O S P F Cl Br I At Ts, then b c n o p s
-unfoldable pub organic : List ℕ
-organic = 9 ∷ 16 ∷ 64 ∷ 73 ∷ 93 ∷ 76 ∷ 34 ∷ 21 ∷ 15 ∷ 48 ∷ 7 ∷ 110 ∷ 120 ∷ 121 ∷ 122 ∷ 123 ∷ 124 ∷ 125 ∷ []
+unfoldable pub organicSymbols : List ℕ
+organicSymbols = 9 ∷ 16 ∷ 64 ∷ 73 ∷ 93 ∷ 76 ∷ 34 ∷ 21 ∷ 15 ∷ 48 ∷ 7 ∷ 110 ∷ 120 ∷ 121 ∷ 122 ∷ 123 ∷ 124 ∷ 125 ∷ []
 
 unfoldable pub kindText : AtomKind → List ℕ
 kindText Star = bytes "*"
-kindText (Aliphatic n) = nameText (getD organic n 0)
-kindText (Aromatic n) = nameText (getD organic (aliphatics + n) 0)
+kindText (Aliphatic n) = nameText (getD organicSymbols n 0)
+kindText (Aromatic n) = nameText (getD organicSymbols (aliphaticCount + n) 0)
 kindText (Bracket b) = bracketText b
 
 -- numbers that stand for no atom have no text

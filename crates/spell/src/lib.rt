@@ -6,9 +6,9 @@ ghost use mathlib.Core.Path.{_≡_};
 ghost use mathlib.Core.List.{[], _∷_};
 ghost use Prim.Native.Nat.{_+_, _-_, _<_, _≤_, _/_, _%_};
 ghost use lib.ListN.{getD};
-ghost use Rattle.feature.specs.Kinds.{Good, Within, noNumber, noHydrogens, noCharge, configurations, sp};
+ghost use Rattle.feature.specs.Kinds.{GoodKind, Within, noNumber, noHydrogens, noCharge, configurations, sp};
 ghost use Rattle.feature.specs.Names.{symbols};
-ghost use Rattle.spell.specs.Spell.{Laid, digits, nameText, symbolText, numberText, templateText, markedText, configurationText, hydrogensText, chargeText, mapText, bracketText, organic, kindText, atomText, bondText, rnumText};
+ghost use Rattle.spell.specs.Spell.{Laid, digits, nameText, symbolText, numberText, templateText, markedText, configurationText, hydrogensText, chargeText, mapText, bracketText, organicSymbols, kindText, atomText, bondText, rnumText};
 use feature::atom_kind::AL;
 use feature::atom_kind::ALIPHATICS;
 use feature::atom_kind::AtomKind;
@@ -236,7 +236,7 @@ fn put_bracket(out: &mut [u8], b: BracketAtom) -> usize
 // An organic symbol's place in the table of names: B C N O S P F Cl Br I At Ts, then b c n o p s.
 fn organic_symbol(n: u32) -> u32
     requires { ⌜ n < 18 ⌝ }
-    ensures { λ r. ⌜ (r ≡ getD organic n 0) × (r < symbols) ⌝ }
+    ensures { λ r. ⌜ (r ≡ getD organicSymbols n 0) × (r < symbols) ⌝ }
 {
     match n {
         0 => 9, // B
@@ -262,7 +262,7 @@ fn organic_symbol(n: u32) -> u32
 }
 
 fn put_kind(out: &mut [u8], k: AtomKind) -> usize
-    requires { ⌜ Good k ⌝ }
+    requires { ⌜ GoodKind k ⌝ }
     ensures { λ r. ⌜ Laid 21 (now (out .entry)) 0 (kindText k) (now (out .exit)) r ⌝ }
 {
     match k {

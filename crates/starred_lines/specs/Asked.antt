@@ -6,8 +6,8 @@ use lib.Dec.{eqb}
 use Rattle.feature.specs.Pick.{pick}
 use Rattle.feature.specs.Text.{bytes}
 use Rattle.read.specs.Read.{Said}
-use Rattle.read.specs.Line.{lineOf}
-use Rattle.write.specs.Write.{Left, zeros, pairWords}
+use Rattle.read.specs.Line.{readText}
+use Rattle.write.specs.Write.{WriteLeft, zeros, pairWords}
 use Rattle.write.specs.Plain.{writePlain}
 use Rattle.join_pool.specs.declared.Pool.{Pool}
 use Rattle.join_pool.specs.declared.Given.{Given}
@@ -23,30 +23,30 @@ pub data Asked : Type 0 where
   Calls : List (ℕ × ℕ) → Asked
 
 -- a report, and what is left: the tables of atoms and bonds, and what was written after them; or the numbers handed out
-pub record Says : Type 0 where
+pub record Answered : Type 0 where
   pub told : Report
   pub given : List (List ℕ)
 
-abbrev pub says : Report → List (List ℕ) → Says
-says r l = record { told = r; given = l }
+abbrev pub answeredBy : Report → List (List ℕ) → Answered
+answeredBy r l = record { told = r; given = l }
 
 -- the words and bytes that are lent
 abbrev pub lent : ℕ
 lent = 40
 
 -- a line that was read
-unfoldable pub readAs : Said → Says
-readAs s = says (ofRead (s .answer)) (s .atoms ∷ s .bonds ∷ [])
+unfoldable pub readAnswered : Said → Answered
+readAnswered s = answeredBy (ofRead (s .answer)) (s .atoms ∷ s .bonds ∷ [])
 
 -- and is written
-unfoldable pub writtenAs : Said → Left → Says
-writtenAs s l = says (ofWritten (l .answer)) (s .atoms ∷ s .bonds ∷ l .out ∷ [])
+unfoldable pub writtenAs : Said → WriteLeft → Answered
+writtenAs s l = answeredBy (ofWritten (l .answer)) (s .atoms ∷ s .bonds ∷ l .out ∷ [])
 
-unfoldable pub rewriteOf : Said → Says
+unfoldable pub rewriteOf : Said → Answered
 rewriteOf s =
     pick (eqb (ofRead (s .answer) .number) 0)
     (writtenAs s (writePlain lent (s .atoms) (ofRead (s .answer) .first) (s .bonds) (ofRead (s .answer) .second)))
-    (readAs s)
+    (readAnswered s)
 
 -- the number that a call of a pool is answered, 0 for none, and the pool after it
 unfoldable pub numberGiven : Given → ℕ
@@ -63,7 +63,7 @@ callsFrom p pairs (c ∷ calls) =
     numberGiven (hitOf p pairs (c .0) (c .1) .answer)
     ∷ callsFrom (poolGiven p (hitOf p pairs (c .0) (c .1) .answer)) (hitOf p pairs (c .0) (c .1) .left) calls
 
-unfoldable pub answerOf : Asked → Says
-answerOf (Reads s) = readAs (lineOf (bytes s) lent lent)
-answerOf (Rewrites s) = rewriteOf (lineOf (bytes s) lent lent)
-answerOf (Calls cs) = says (report 0 0 0) (callsFrom emptyOf (zeros pairWords) cs ∷ [])
+unfoldable pub answerOf : Asked → Answered
+answerOf (Reads s) = readAnswered (readText (bytes s) lent lent)
+answerOf (Rewrites s) = rewriteOf (readText (bytes s) lent lent)
+answerOf (Calls cs) = answeredBy (report 0 0 0) (callsFrom emptyOf (zeros pairWords) cs ∷ [])

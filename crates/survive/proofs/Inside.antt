@@ -8,7 +8,7 @@ use lib.Dec.{eqb}
 use borrow.Author.Tests.{eqb-true}
 use Rattle.feature.specs.Pick.{pick}
 use Rattle.feature.specs.Text.{byte}
-use Rattle.feature.specs.Kinds.{bracket}
+use Rattle.feature.specs.Kinds.{bracketOfSix}
 use Rattle.feature.specs.declared.atom_kind.BracketAtom.{BracketAtom}
 use Rattle.feature.specs.declared.atom_kind.AtomKind.{AtomKind}
 use Rattle.feature.specs.declared.atom_kind.AtomKind.the-variants.{Bracket}
@@ -80,7 +80,7 @@ inside-read s at k n e =
     let h = hydrogensAt s (c .next) in
     let q = chargeAt s (h .next) in
     let m = gets (afterMap s (i .value) (y .value) (c .value) (h .value) (q .value)) (missingAt s) (mapAt s (q .next)) k n (λ p. refl) ec in
-    let b = bracket (i .value) (y .value) (c .value) (h .value) (q .value) (m .value) in
+    let b = bracketOfSix (i .value) (y .value) (c .value) (h .value) (q .value) (m .value) in
     let z = closed s b (m .next) k n (rw (m .is) at ec) in
     record {
       atom = b;

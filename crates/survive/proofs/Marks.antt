@@ -14,7 +14,7 @@ use Rattle.feature.specs.declared.bond_kind.BondKind.{BondKind}
 use Rattle.feature.specs.declared.bond_kind.BondKind.the-variants.{Elided, Single, Double, Triple, Quadruple, Aromatic, Up, Down}
 use Rattle.read_token.specs.declared.read_bond.Bond.{Bond}
 use Rattle.read_token.specs.declared.read_rnum.Ring.the-variants.{Number}
-use Rattle.read_token.specs.Scan.{peekAt, digitOf, digitAt, percentAt, rnumAt, bondOf, markWidth, bondAt}
+use Rattle.read_token.specs.Scan.{peekAt, digitOf, digitAt, percentAt, rnumAt, signKind, markWidth, bondAt}
 use Rattle.spell.specs.Spell.{figure, digits, rnumText, bondText}
 use Rattle.survive.proofs.Checked.{below}
 use Rattle.survive.proofs.Shift.{byte-at, front}
@@ -60,13 +60,13 @@ ring-back m h rest =
 abbrev pub bond : BondKind → ℕ → Bond
 bond k n = record { kind = k; next = n }
 
-bond-read : (s : List ℕ) (n x : ℕ) (k : BondKind) (rest : List ℕ) → bondOf x ≡ k → drop n s ≡ x ∷ rest → bondAt s n ≡ bond k (n + markWidth k)
+bond-read : (s : List ℕ) (n x : ℕ) (k : BondKind) (rest : List ℕ) → signKind x ≡ k → drop n s ≡ x ∷ rest → bondAt s n ≡ bond k (n + markWidth k)
 unfolding bondAt peekAt
 bond-read s n x k rest b e = simp (front s n e, b)
 
 -- a bond's mark is read as the bond, if what follows an elided one marks none
-pub bond-back-at : (s : List ℕ) (n : ℕ) (k : BondKind) (rest : List ℕ) → (k ≡ Elided → bondOf (peekAt rest 0) ≡ Elided) → drop n s ≡ bondText k ++ rest → bondAt s n ≡ bond k (n + length (bondText k))
-unfolding bondAt bondText bondOf markWidth
+pub bond-back-at : (s : List ℕ) (n : ℕ) (k : BondKind) (rest : List ℕ) → (k ≡ Elided → signKind (peekAt rest 0) ≡ Elided) → drop n s ≡ bondText k ++ rest → bondAt s n ≡ bond k (n + length (bondText k))
+unfolding bondAt bondText signKind markWidth
 bond-back-at s n Elided rest h e = simp (front s n e, h refl)
 bond-back-at s n Single rest h e = bond-read s n (byte "-") Single rest refl e
 bond-back-at s n Double rest h e = bond-read s n (byte "=") Double rest refl e
@@ -77,7 +77,7 @@ bond-back-at s n Up rest h e = bond-read s n (byte "/") Up rest refl e
 bond-back-at s n Down rest h e = bond-read s n (byte "\\") Down rest refl e
 
 -- the same at the start of a line
-pub bond-back : (k : BondKind) (rest : List ℕ) → (k ≡ Elided → bondOf (peekAt rest 0) ≡ Elided) → bondAt (bondText k ++ rest) 0 ≡ bond k (length (bondText k))
+pub bond-back : (k : BondKind) (rest : List ℕ) → (k ≡ Elided → signKind (peekAt rest 0) ≡ Elided) → bondAt (bondText k ++ rest) 0 ≡ bond k (length (bondText k))
 bond-back k rest h =
     bond-back-at (bondText k ++ rest) 0 k rest h refl ∙ ap (bond k) (zero-add (length (bondText k)))
 

@@ -11,7 +11,7 @@ use borrow.Author.Tests.{lt-ltb, le-ltb, ltb-true, ltb-false}
 use Rattle.feature.specs.Pick.{either, neither}
 use Rattle.feature.specs.Text.{byte}
 use Rattle.feature.specs.Names.{names}
-use Rattle.feature.specs.Kinds.{aliphatics, aromatics}
+use Rattle.feature.specs.Kinds.{aliphaticCount, aromaticCount}
 use Rattle.feature.specs.declared.atom_kind.AtomKind.{AtomKind}
 use Rattle.feature.specs.declared.atom_kind.AtomKind.the-variants.{Aliphatic, Aromatic}
 use Rattle.read_token.specs.declared.scanner.Missing.{Missing}
@@ -19,7 +19,7 @@ use Rattle.read_token.specs.declared.scanner.Missing.the-variants.{EndOfLine, C
 use Rattle.read_token.specs.declared.scanner.Found.{Found}
 use Rattle.read_token.specs.declared.scanner.Found.the-variants.{Atom, Nothing, Lacks}
 use Rattle.read_token.specs.Scan.{peekAt, missingAt, aromaticOf, aliphaticOf, wantedAt, optionalAt, organicAt}
-use Rattle.spell.specs.Spell.{nameText, organic, kindText}
+use Rattle.spell.specs.Spell.{nameText, organicSymbols, kindText}
 use Rattle.survive.specs.Survive.{canFollow}
 use Rattle.survive.proofs.Shift.{through, peek-shift}
 
@@ -90,14 +90,14 @@ module _ (rest : List ℕ) where
   Reads k = organicAt (kindText k ++ rest) 0 ≡ Atom k (length (kindText k))
 
   -- B and C are the last two: what follows is no second letter of theirs
-  aliphatic-reads : canFollow rest ≡ true → Each (λ n. Reads (Aliphatic n)) aliphatics
-  unfolding organicAt wantedAt optionalAt aromaticOf aliphaticOf peekAt kindText organic nameText names
+  aliphatic-reads : canFollow rest ≡ true → Each (λ n. Reads (Aliphatic n)) aliphaticCount
+  unfolding organicAt wantedAt optionalAt aromaticOf aliphaticOf peekAt kindText organicSymbols nameText names
   aliphatic-reads c =
       let f = follows rest c in
       (refl, (refl, (refl, (refl, (refl, (refl, (refl, (refl, (refl, (refl, (rw (f .0), (rw (f .1), tt))))))))))))
 
-  aromatic-reads : Each (λ n. Reads (Aromatic n)) aromatics
-  unfolding organicAt aromaticOf peekAt kindText organic nameText names
+  aromatic-reads : Each (λ n. Reads (Aromatic n)) aromaticCount
+  unfolding organicAt aromaticOf peekAt kindText organicSymbols nameText names
   aromatic-reads = (refl, (refl, (refl, (refl, (refl, (refl, tt))))))
 
   -- from what is read of the text to what is read where it stands
@@ -106,10 +106,10 @@ module _ (rest : List ℕ) where
       ap (λ (m : ℕ). organicAt s m) (sym (add-zero n)) ∙ organic-shift s n 0 ∙ ap (λ (l : List ℕ). moved n (organicAt l 0)) e ∙ ap (moved n) r
       ∙ moved-atom n k (length (kindText k))
 
-  pub aliphatic-back : (s : List ℕ) (n m : ℕ) → m < aliphatics → canFollow rest ≡ true → drop n s ≡ kindText (Aliphatic m) ++ rest → organicAt s n ≡ Atom (Aliphatic m) (n + length (kindText (Aliphatic m)))
+  pub aliphatic-back : (s : List ℕ) (n m : ℕ) → m < aliphaticCount → canFollow rest ≡ true → drop n s ≡ kindText (Aliphatic m) ++ rest → organicAt s n ≡ Atom (Aliphatic m) (n + length (kindText (Aliphatic m)))
   aliphatic-back s n m l c e =
-      stands s n (Aliphatic m) (each-at (λ m. Reads (Aliphatic m)) aliphatics (aliphatic-reads c) m l) e
+      stands s n (Aliphatic m) (each-at (λ m. Reads (Aliphatic m)) aliphaticCount (aliphatic-reads c) m l) e
 
-  pub aromatic-back : (s : List ℕ) (n m : ℕ) → m < aromatics → drop n s ≡ kindText (Aromatic m) ++ rest → organicAt s n ≡ Atom (Aromatic m) (n + length (kindText (Aromatic m)))
+  pub aromatic-back : (s : List ℕ) (n m : ℕ) → m < aromaticCount → drop n s ≡ kindText (Aromatic m) ++ rest → organicAt s n ≡ Atom (Aromatic m) (n + length (kindText (Aromatic m)))
   aromatic-back s n m l e =
-      stands s n (Aromatic m) (each-at (λ m. Reads (Aromatic m)) aromatics aromatic-reads m l) e
+      stands s n (Aromatic m) (each-at (λ m. Reads (Aromatic m)) aromaticCount aromatic-reads m l) e

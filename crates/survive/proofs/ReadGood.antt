@@ -11,7 +11,7 @@ use borrow.Author.Tests.{ltb-true, ltb-false}
 use Rattle.feature.specs.Pick.{pick}
 use Rattle.feature.specs.Text.{byte, oneLetter, twoLetters}
 use Rattle.feature.specs.Names.{symbols, names, placeOf, begins}
-use Rattle.feature.specs.Kinds.{aliphatics, aromatics, noConfiguration, al, sp, tb, oh, configurations, inRange, Within, Good}
+use Rattle.feature.specs.Kinds.{aliphaticCount, aromaticCount, noConfiguration, al, sp, tb, oh, configurations, inRange, Within, GoodKind}
 use Rattle.feature.proofs.Ranges.{ranged}
 use Rattle.feature.specs.declared.atom_kind.BracketAtom.{BracketAtom}
 use Rattle.feature.specs.declared.atom_kind.AtomKind.{AtomKind}
@@ -20,7 +20,7 @@ use Rattle.read_token.specs.declared.scanner.Step.{Step}
 use Rattle.read_token.specs.declared.scanner.Step.the-variants.{Got, Stop}
 use Rattle.read_token.specs.declared.scanner.Found.{Found}
 use Rattle.read_token.specs.declared.scanner.Found.the-variants.{Atom, Nothing, Lacks}
-use Rattle.read_token.specs.Scan.{ended, part, peekAt, digitAt, digitStep, numberAt, isotopeAt, slip, symbolAt, symbolOf, shortAt, longAt, alleneAt, octahedralAt, squareAt, trigonalAt, configurationAt, hydrogensAt, fifteenAt, signedAt, chargeAt, mapAt, insideAt, bracketAt, aromaticOf, aliphaticOf, wantedAt, optionalAt, organicAt, starAt, orElse, otherAt, atomAt}
+use Rattle.read_token.specs.Scan.{noByte, part, peekAt, digitAt, digitStep, numberAt, isotopeAt, slip, symbolAt, symbolOf, shortAt, longAt, alleneAt, octahedralAt, squareAt, trigonalAt, configurationAt, hydrogensAt, fifteenAt, signedAt, chargeAt, mapAt, insideAt, bracketAt, aromaticOf, aliphaticOf, wantedAt, optionalAt, organicAt, starAt, orElse, otherAt, atomAt}
 use Rattle.spell.specs.Spell.{atomText}
 use Rattle.survive.specs.Survive.{survives, Survives}
 use Rattle.read_token.proofs.Within.{digit-most, atom-in}
@@ -75,7 +75,7 @@ unfolding symbolAt symbolOf
 symbol-below s at =
     let two = placeOf (twoLetters (peekAt s at) (peekAt s (at + 1))) names in
     let one = placeOf (oneLetter (slip (peekAt s at))) names in
-    picked (Below symbols) (eqb (peekAt s at) ended) (λ e. tt)
+    picked (Below symbols) (eqb (peekAt s at) noByte) (λ e. tt)
     (λ e. picked (Below symbols) (ltb two symbols) (ltb-true two symbols)
     (λ e. picked (Below symbols) (ltb one symbols) (ltb-true one symbols)
     (λ e. picked (Below symbols) (begins (peekAt s at) names) (λ e. tt) (λ e. tt))))
@@ -149,7 +149,7 @@ charge-under s at =
 -- ---- atoms
 -- what was found is in range
 abbrev Ranged : Found → Type 0
-Ranged (Atom k n) = Good k
+Ranged (Atom k n) = GoodKind k
 Ranged Nothing = Unit {0}
 Ranged (Lacks m) = Unit {0}
 
@@ -173,15 +173,15 @@ inside-ranged s at = split (insideAt s at) refl where
   split : (f : Found) → insideAt s at ≡ f → Ranged f
   split (Atom k n) e =
       let r = inside-read s at k n e in
-      subst Good (r .is) (inside-within s at (r .atom) n (r .inside))
+      subst GoodKind (r .is) (inside-within s at (r .atom) n (r .inside))
   split Nothing e = tt
   split (Lacks m) e = tt
 
-wanted-ranged : (s : List ℕ) (at x two : ℕ) → two < aliphatics → Ranged (wantedAt s at x two)
+wanted-ranged : (s : List ℕ) (at x two : ℕ) → two < aliphaticCount → Ranged (wantedAt s at x two)
 unfolding wantedAt
 wanted-ranged s at x two h = picked Ranged (eqb (peekAt s at) x) (λ e. h) (λ e. tt)
 
-optional-ranged : (s : List ℕ) (at x two one : ℕ) → two < aliphatics → one < aliphatics → Ranged (optionalAt s at x two one)
+optional-ranged : (s : List ℕ) (at x two one : ℕ) → two < aliphaticCount → one < aliphaticCount → Ranged (optionalAt s at x two one)
 unfolding optionalAt
 optional-ranged s at x two one h l = picked Ranged (eqb (peekAt s at) x) (λ e. h) (λ e. l)
 
@@ -189,10 +189,10 @@ organic-ranged : (s : List ℕ) (at : ℕ) → Ranged (organicAt s at)
 unfolding organicAt
 organic-ranged s at =
     let x = peekAt s at in
-    picked Ranged (eqb x ended) (λ e. tt)
+    picked Ranged (eqb x noByte) (λ e. tt)
     (λ e. picked Ranged (eqb x (byte "C")) (λ e. optional-ranged s (at + 1) (byte "l") 7 1 (lit< tt) (lit< tt))
-    (λ e. picked Ranged (ltb (aromaticOf x) aromatics) (ltb-true (aromaticOf x) aromatics)
-    (λ e. picked Ranged (ltb (aliphaticOf x) aliphatics) (ltb-true (aliphaticOf x) aliphatics)
+    (λ e. picked Ranged (ltb (aromaticOf x) aromaticCount) (ltb-true (aromaticOf x) aromaticCount)
+    (λ e. picked Ranged (ltb (aliphaticOf x) aliphaticCount) (ltb-true (aliphaticOf x) aliphaticCount)
     (λ e. picked Ranged (eqb x (byte "B")) (λ e. optional-ranged s (at + 1) (byte "r") 8 0 (lit< tt) (lit< tt))
     (λ e. picked Ranged (eqb x (byte "A")) (λ e. wanted-ranged s (at + 1) (byte "t") 10 (lit< tt))
     (λ e. picked Ranged (eqb x (byte "T")) (λ e. wanted-ranged s (at + 1) (byte "s") 11 (lit< tt)) (λ e. tt)))))))

@@ -9,7 +9,7 @@ use lib.Dec.{eqb}
 use Rattle.feature.specs.Pick.{pick, both, either, neither}
 use Rattle.feature.specs.Text.{byte}
 use Rattle.feature.specs.Names.{symCs}
-use Rattle.feature.specs.Kinds.{neutral, al, tb, oh, bracketInRange, inRange}
+use Rattle.feature.specs.Kinds.{neutralCharge, al, tb, oh, bracketInRange, inRange}
 use Rattle.feature.specs.declared.atom_kind.BracketAtom.{BracketAtom}
 use Rattle.feature.specs.declared.atom_kind.AtomKind.{AtomKind}
 use Rattle.feature.specs.declared.atom_kind.AtomKind.the-variants.{Star, Aliphatic, Aromatic, Bracket}
@@ -38,10 +38,10 @@ hydrogensSurvive h = neither (eqb h 0)
 -- 0 is written as no charge, +5 with a blank in front, and "+10" and "-10" are read as +1 and -1 with a digit left over
 unfoldable pub chargeSurvives : ℕ → Bool
 chargeSurvives q =
-    pick (eqb q neutral) false
-    (pick (eqb q (neutral + 5)) false
-    (pick (eqb q (neutral + 10)) false
-    (pick (eqb q (neutral - 10)) false
+    pick (eqb q neutralCharge) false
+    (pick (eqb q (neutralCharge + 5)) false
+    (pick (eqb q (neutralCharge + 10)) false
+    (pick (eqb q (neutralCharge - 10)) false
     true)))
 
 -- the fields that a text may lose; isotope and map always survive

@@ -9,7 +9,7 @@ use borrow.Author.Tests.{lt-ltb, le-ltb, le-leb, lt-leb}
 use Rattle.feature.specs.Pick.{pick}
 use Rattle.table_check.specs.declared.Judged.the-variants.{Bad, Holds}
 use Rattle.packing.specs.Words.{isAtom}
-use Rattle.table_check.specs.Judge.{degreeOf, bondStands, atomsFrom, bondsFrom}
+use Rattle.table_check.specs.Judge.{degreeOf, bondStands, atomsFrom, firstBadBond}
 
 -- ---- atoms
 atom-step : (t : List ℕ) (m a held k j : ℕ) (over stands : Bool) → k ≡ suc j → ltb (m - held) (degreeOf t a) ≡ over → isAtom t a ≡ stands → atomsFrom t m k a held ≡ pick over (Bad a) (pick stands (atomsFrom t m j (a + 1) (held + degreeOf t a)) (Bad a))
@@ -35,29 +35,29 @@ unfolding atomsFrom
 atoms-end t n m a held h = let z : n - a ≡ 0 = omega arith in rw z refl
 
 -- ---- entries
-bond-step : (t : List ℕ) (held e k j : ℕ) (out stands : Bool) → k ≡ suc j → leb held e ≡ out → bondStands t e ≡ stands → bondsFrom t held k e ≡ pick out e (pick stands (bondsFrom t held j (e + 1)) e)
-unfolding bondsFrom
+bond-step : (t : List ℕ) (held e k j : ℕ) (out stands : Bool) → k ≡ suc j → leb held e ≡ out → bondStands t e ≡ stands → firstBadBond t held k e ≡ pick out e (pick stands (firstBadBond t held j (e + 1)) e)
+unfolding firstBadBond
 bond-step t held e k j out stands d o s = rw d (simp (o, s))
 
-pub unheld : (t : List ℕ) (m held e : ℕ) → e < m → held ≤ e → e ≡ bondsFrom t held (m - e) e
+pub unheld : (t : List ℕ) (m held e : ℕ) → e < m → held ≤ e → e ≡ firstBadBond t held (m - e) e
 unheld t m held e l h =
     sym (bond-step t held e (m - e) (m - (e + 1)) true (bondStands t e) (omega arith) (le-leb _ _ h) refl)
 
-pub no-bond : (t : List ℕ) (m held e : ℕ) (s : Bool) → e < m → e < held → s ≡ bondStands t e → s ≡ false → e ≡ bondsFrom t held (m - e) e
+pub no-bond : (t : List ℕ) (m held e : ℕ) (s : Bool) → e < m → e < held → s ≡ bondStands t e → s ≡ false → e ≡ firstBadBond t held (m - e) e
 no-bond t m held e s l h w f =
     sym (bond-step t held e (m - e) (m - (e + 1)) false false (omega arith) (lt-leb _ _ h) (sym w ∙ f))
 
-pub bond-on : (t : List ℕ) (m held e : ℕ) (s : Bool) → e < m → e < held → s ≡ bondStands t e → s ≡ true → bondsFrom t held (m - e) e ≡ bondsFrom t held (m - (e + 1)) (e + 1)
+pub bond-on : (t : List ℕ) (m held e : ℕ) (s : Bool) → e < m → e < held → s ≡ bondStands t e → s ≡ true → firstBadBond t held (m - e) e ≡ firstBadBond t held (m - (e + 1)) (e + 1)
 bond-on t m held e s l h w f =
     bond-step t held e (m - e) (m - (e + 1)) false true (omega arith) (lt-leb _ _ h) (sym w ∙ f)
 
-pub bonds-end : (t : List ℕ) (m held e : ℕ) → m ≤ e → e ≡ bondsFrom t held (m - e) e
-unfolding bondsFrom
+pub bonds-end : (t : List ℕ) (m held e : ℕ) → m ≤ e → e ≡ firstBadBond t held (m - e) e
+unfolding firstBadBond
 bonds-end t m held e h = let z : m - e ≡ 0 = omega arith in rw z refl
 
 -- ---- before the first
 pub atoms-start : (t : List ℕ) (n m : ℕ) → atomsFrom t m (n - 0) 0 0 ≡ atomsFrom t m n 0 0
 atoms-start t n m = let z : n - 0 ≡ n = omega arith in rw z refl
 
-pub bonds-start : (t : List ℕ) (m held : ℕ) → bondsFrom t held (m - 0) 0 ≡ bondsFrom t held m 0
+pub bonds-start : (t : List ℕ) (m held : ℕ) → firstBadBond t held (m - 0) 0 ≡ firstBadBond t held m 0
 bonds-start t m held = let z : m - 0 ≡ m = omega arith in rw z refl

@@ -9,7 +9,7 @@ use lib.Dec.{ltb, leb}
 use Rattle.feature.specs.Pick.{pick}
 use Rattle.packing.specs.declared.Entry.{Entry}
 use Rattle.packing.specs.declared.Entry.the-variants as entry
-use Rattle.packing.specs.Words.{atomWords, bondWords, isAtom, bondAt}
+use Rattle.packing.specs.Words.{atomWords, bondWords, isAtom, entryStored}
 use Rattle.table_check.specs.declared.Judged.{Judged}
 use Rattle.table_check.specs.declared.Judged.the-variants.{Bad, Holds}
 
@@ -19,7 +19,7 @@ isEntry entry.Bad = false
 
 -- whether the record e stands for a bond
 unfoldable pub bondStands : List ℕ → ℕ → Bool
-bondStands bonds e = isEntry (bondAt bonds (e * bondWords))
+bondStands bonds e = isEntry (entryStored bonds (e * bondWords))
 
 -- how many entries atom a says that it has
 abbrev pub degreeOf : List ℕ → ℕ → ℕ
@@ -34,16 +34,16 @@ atomsFrom atoms m (suc n) a held =
     (Bad a))
 
 -- n entries from e on, of which the atoms hold those below `held`: the first that is bad, or the one after them
-unfoldable pub bondsFrom : List ℕ → ℕ → ℕ → ℕ → ℕ
-bondsFrom bonds held zero e = e
-bondsFrom bonds held (suc n) e =
+unfoldable pub firstBadBond : List ℕ → ℕ → ℕ → ℕ → ℕ
+firstBadBond bonds held zero e = e
+firstBadBond bonds held (suc n) e =
     pick (leb held e) e
-    (pick (bondStands bonds e) (bondsFrom bonds held n (e + 1))
+    (pick (bondStands bonds e) (firstBadBond bonds held n (e + 1))
     e)
 
 unfoldable pub afterAtoms : Judged → List ℕ → ℕ → ℕ → ℕ
 afterAtoms (Bad a) bonds n m = a
-afterAtoms (Holds held) bonds n m = n + bondsFrom bonds held m 0
+afterAtoms (Holds held) bonds n m = n + firstBadBond bonds held m 0
 
 -- the first bad record of n atoms and m entries, or n + m
 unfoldable pub badRecord : List ℕ → ℕ → List ℕ → ℕ → ℕ

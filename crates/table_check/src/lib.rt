@@ -1,7 +1,7 @@
 // Whether tables hold a graph: the first record whose numbers stand for no atom or bond.
 ghost use mathlib.Core.Path.{_≡_};
 ghost use Prim.Native.Nat.{_+_, _^_, _≤_, _<_};
-ghost use Rattle.table_check.specs.Judge.{bondStands, atomsFrom, bondsFrom, badRecord};
+ghost use Rattle.table_check.specs.Judge.{bondStands, atomsFrom, firstBadBond, badRecord};
 use packing::ATOM_WORDS;
 use packing::BOND_WORDS;
 use packing::DEGREE;
@@ -50,7 +50,7 @@ fn judge_atoms(atoms: &[u32], n: usize, m: usize) -> Judged
 // The first bad one of m entries, of which the atoms hold so many; m for none.
 fn judge_bonds(bonds: &[u32], m: usize, held: usize) -> usize
     requires { ⌜ m < 2 ^ 32 ⌝ }
-    ensures { λ r. ⌜ (r ≡ bondsFrom (now (bonds .entry)) held m 0) × (r ≤ m) ⌝ }
+    ensures { λ r. ⌜ (r ≡ firstBadBond (now (bonds .entry)) held m 0) × (r ≤ m) ⌝ }
 {
     let mut e: usize = 0;
     while e < m {

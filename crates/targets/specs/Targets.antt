@@ -4,8 +4,8 @@ use Prim.Native.Nat.{ℕ, _+_, _-_}
 use lib.ListN.{getD}
 use lib.Dec.{ltb, eqb}
 use Rattle.feature.specs.Pick.{pick}
-use Rattle.feature.specs.Names.{symbols, aromatic, aromaticElements, symAs, symB, symC, symN, symO, symP, symS, symSe}
-use Rattle.feature.specs.Kinds.{neutral, noCharge, aliphatics}
+use Rattle.feature.specs.Names.{symbols, firstAromatic, aromaticElements, symAs, symB, symC, symN, symO, symP, symS, symSe}
+use Rattle.feature.specs.Kinds.{neutralCharge, noCharge, aliphaticCount}
 use Rattle.feature.specs.declared.atom_kind.AtomKind.{AtomKind}
 use Rattle.feature.specs.declared.atom_kind.AtomKind.the-variants.{Star, Aliphatic, Aromatic, Bracket}
 use Rattle.targets.specs.declared.Valences.{Valences}
@@ -33,53 +33,53 @@ halogens = One 1
 -- by the charge as it is held
 unfoldable pub boron : ℕ → Valences
 boron q =
-    pick (eqb q (neutral - 3)) oxygens
-    (pick (eqb q (neutral - 2)) nitrogens
-    (pick (eqb q (neutral - 1)) carbons
-    (pick (eqb q neutral) borons
+    pick (eqb q (neutralCharge - 3)) oxygens
+    (pick (eqb q (neutralCharge - 2)) nitrogens
+    (pick (eqb q (neutralCharge - 1)) carbons
+    (pick (eqb q neutralCharge) borons
     (pick (eqb q noCharge) borons
     None))))
 
 unfoldable pub carbon : ℕ → Valences
 carbon q =
-    pick (eqb q (neutral - 2)) oxygens
-    (pick (eqb q (neutral - 1)) nitrogens
-    (pick (eqb q neutral) borons
-    (pick (eqb q (neutral + 1)) borons
+    pick (eqb q (neutralCharge - 2)) oxygens
+    (pick (eqb q (neutralCharge - 1)) nitrogens
+    (pick (eqb q neutralCharge) borons
+    (pick (eqb q (neutralCharge + 1)) borons
     (pick (eqb q noCharge) carbons
     None))))
 
 unfoldable pub nitrogen : ℕ → Valences
 nitrogen q =
-    pick (eqb q neutral) nitrogens
+    pick (eqb q neutralCharge) nitrogens
     (pick (eqb q noCharge) nitrogens
-    (pick (eqb q (neutral + 1)) carbons
+    (pick (eqb q (neutralCharge + 1)) carbons
     None))
 
 unfoldable pub oxygen : ℕ → Valences
 oxygen q =
-    pick (eqb q neutral) oxygens
+    pick (eqb q neutralCharge) oxygens
     (pick (eqb q noCharge) oxygens
-    (pick (eqb q (neutral + 1)) nitrogens
+    (pick (eqb q (neutralCharge + 1)) nitrogens
     None))
 
 unfoldable pub phosphorus : ℕ → Valences
 phosphorus q =
-    pick (eqb q (neutral - 1)) sulfurs
-    (pick (eqb q neutral) nitrogens
+    pick (eqb q (neutralCharge - 1)) sulfurs
+    (pick (eqb q neutralCharge) nitrogens
     (pick (eqb q noCharge) nitrogens
     None))
 
 unfoldable pub sulfur : ℕ → Valences
 sulfur q =
-    pick (eqb q neutral) sulfurs
+    pick (eqb q neutralCharge) sulfurs
     (pick (eqb q noCharge) sulfurs
-    (pick (eqb q (neutral + 1)) nitrogens
+    (pick (eqb q (neutralCharge + 1)) nitrogens
     None))
 
 -- a symbol's element; 0, the star, where the number is no symbol
 unfoldable pub elementOf : ℕ → ℕ
-elementOf y = pick (ltb y aromatic) y (pick (ltb y symbols) (getD aromaticElements (y - aromatic) 0) 0)
+elementOf y = pick (ltb y firstAromatic) y (pick (ltb y symbols) (getD aromaticElements (y - firstAromatic) 0) 0)
 
 unfoldable pub elementTargets : ℕ → ℕ → Valences
 elementTargets y q =
@@ -102,7 +102,7 @@ aliphaticTargets n =
     (pick (eqb n 3) oxygens
     (pick (eqb n 4) sulfurs
     (pick (eqb n 5) nitrogens
-    (pick (ltb n aliphatics) halogens
+    (pick (ltb n aliphaticCount) halogens
     None))))))
 
 -- b c n o p s

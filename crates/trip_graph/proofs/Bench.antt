@@ -4,7 +4,7 @@ use mathlib.Core.Path.{_≡_, refl, subst}
 use mathlib.Core.List.{List, [], _∷_, _++_}
 use native.Mathlib.Omega.{arith}
 use lib.ListN.{replicate}
-use Rattle.feature.specs.Kinds.{bracket, bracketInRange, inRange, invertBracket, invertOf}
+use Rattle.feature.specs.Kinds.{bracketOfSix, bracketInRange, inRange, invertBracket, invertOf}
 use Rattle.feature.specs.Bonds.{codeOf, kindOf, sureKind, reverseOf}
 use Rattle.feature.specs.declared.atom_kind.AtomKind.{AtomKind}
 use Rattle.feature.specs.declared.atom_kind.AtomKind.the-variants.{Aliphatic, Bracket}
@@ -14,10 +14,10 @@ use Rattle.join_pool.specs.Pairs as pool
 use Rattle.builder_meaning.specs.Sketch.{To, Node, edge, node, startS, runS}
 use Rattle.walk_entry.specs.Graph.{Graph, graph, kindAt, degreeAt, bondOf, kindOr, kindIn, degreeIn, bondIn}
 use Rattle.walk_entry.specs.Ways.{isRefused, isFixed, turnedOr, even, saidAs, scanIn, judgedBack, wayOf}
-use Rattle.walk.specs.Walk.{Walk, popsOf, rootOf, leftIn, numberedOf, ringOf, enteredOf, enterOf, bondTurn, entryOf, atomOf, turnOf, stepOf, walkTo, eventsOf, turnsOf}
+use Rattle.walk.specs.Walk.{Walk, popsOf, rootTurn, leftIn, numberedOf, ringTurn, enteredOf, enterTurn, bondTurn, entryTurn, atomOf, turnOf, stepOf, walkTo, eventsOf, turnsOf}
 use Rattle.write.specs.Write.{pairWords}
 use Rattle.walk_laws.specs.Trek.{fresh, degrees}
-use Rattle.trip_graph.specs.Renumber.{Backed, Simple, told, Built}
+use Rattle.trip_graph.specs.Renumber.{Backed, Simple, asReadEvents, Built}
 use Rattle.trip_graph.specs.Renumbered.{othersOf, parentEntry, doneOf, edgeOf, nodeOf, byWalk, firstAtoms, renumbered}
 use Rattle.trip_graph.specs.Marks.{Tetrahedral, bearsHydrogen, otherMark, toggled, oddIndex, backKind}
 use Rattle.trip_graph.proofs.Trip.{graph-trip}
@@ -27,7 +27,7 @@ carbon = Aliphatic 1
 
 -- a carbon with one hydrogen and a mark
 abbrev marked : ℕ → AtomKind
-marked c = Bracket (bracket 1000 5 c 1 15 1000)
+marked c = Bracket (bracketOfSix 1000 5 c 1 15 1000)
 
 -- atom 1 has its bond to atom 0 second, at the odd index 1, and so has atom 2 its bond to atom 1; the bond of 0 to 2 is directed
 abbrev ring : Graph
@@ -39,12 +39,12 @@ abbrev walked : Walk
 walked = walkTo ring (turnsOf 3 6) (fresh 3 3 3 3 (replicate pairWords 0))
 
 not-refused : walked .at .refusal ≡ 0
-unfolding words.listOf words.wordsOf words.pairOf words.bracketPair words.loadAt words.loadOf words.plainOf words.bracketOf words.bondAt words.bondOf words.entryOf kindOf codeOf reverseOf bracketInRange inRange invertBracket invertOf pool.opens pool.numberOf pool.slot pool.grown pool.counterOf pool.nextOf pool.openOf pool.closeOf pool.calledOf pool.pairOf pool.hitOf kindOr sureKind kindIn degreeIn bondIn isRefused isFixed turnedOr even saidAs scanIn judgedBack wayOf popsOf rootOf leftIn numberedOf ringOf enteredOf enterOf bondTurn entryOf atomOf turnOf stepOf walkTo turnsOf
+unfolding words.listOf words.wordsOf words.pairOf words.bracketPair words.loadAt words.loadOf words.plainOf words.bracketOf words.entryStored words.entryOfWords words.entryCoded kindOf codeOf reverseOf bracketInRange inRange invertBracket invertOf pool.opens pool.openNumber pool.slot pool.counterNext pool.counterOf pool.nextOf pool.openOf pool.closeOf pool.openOrClose pool.hitPair pool.hitOf kindOr sureKind kindIn degreeIn bondIn isRefused isFixed turnedOr even saidAs scanIn judgedBack wayOf popsOf rootTurn leftIn numberedOf ringTurn enteredOf enterTurn bondTurn entryTurn atomOf turnOf stepOf walkTo turnsOf
 not-refused = refl
 
 -- atom 1 comes back with its mark toggled and its bond to atom 0 first
 ring-renumbered : renumbered ring (byWalk walked) ≡ node carbon (edge Single (To 1) ∷ edge Up (To 2) ∷ []) ∷ node (marked 2) (edge Single (To 0) ∷ edge Single (To 2) ∷ []) ∷ node carbon (edge Single (To 1) ∷ edge Down (To 0) ∷ []) ∷ []
-unfolding words.listOf words.wordsOf words.pairOf words.bracketPair words.loadAt words.loadOf words.plainOf words.bracketOf words.bondAt words.bondOf words.entryOf kindOf codeOf reverseOf bracketInRange inRange invertBracket invertOf pool.opens pool.numberOf pool.slot pool.grown pool.counterOf pool.nextOf pool.openOf pool.closeOf pool.calledOf pool.pairOf pool.hitOf kindOr sureKind kindIn degreeIn bondIn isRefused isFixed turnedOr even saidAs scanIn judgedBack wayOf popsOf rootOf leftIn numberedOf ringOf enteredOf enterOf bondTurn entryOf atomOf turnOf stepOf walkTo turnsOf othersOf parentEntry doneOf bearsHydrogen otherMark toggled oddIndex backKind edgeOf nodeOf firstAtoms renumbered
+unfolding words.listOf words.wordsOf words.pairOf words.bracketPair words.loadAt words.loadOf words.plainOf words.bracketOf words.entryStored words.entryOfWords words.entryCoded kindOf codeOf reverseOf bracketInRange inRange invertBracket invertOf pool.opens pool.openNumber pool.slot pool.counterNext pool.counterOf pool.nextOf pool.openOf pool.closeOf pool.openOrClose pool.hitPair pool.hitOf kindOr sureKind kindIn degreeIn bondIn isRefused isFixed turnedOr even saidAs scanIn judgedBack wayOf popsOf rootTurn leftIn numberedOf ringTurn enteredOf enterTurn bondTurn entryTurn atomOf turnOf stepOf walkTo turnsOf othersOf parentEntry doneOf bearsHydrogen otherMark toggled oddIndex backKind edgeOf nodeOf firstAtoms renumbered
 ring-renumbered = refl
 
 -- ---- the hypotheses
@@ -66,7 +66,7 @@ each-entry P p q r s t u a i ha =
     below-three (λ (a : ℕ). i < degreeAt ring a → P a i) (below-two (P 0) p q i) (below-two (P 1) r s i) (below-two (P 2) t u i) a ha
 
 ring-simple : Simple ring
-unfolding words.listOf words.wordsOf words.pairOf words.bracketPair words.bondAt words.bondOf words.entryOf kindOf reverseOf sureKind bondIn degreeIn
+unfolding words.listOf words.wordsOf words.pairOf words.bracketPair words.entryStored words.entryOfWords words.entryCoded kindOf reverseOf sureKind bondIn degreeIn
 ring-simple = record {
   some = omega arith;
   apart = each-entry (λ (a i : ℕ). bondOf ring a i .to ≡ a → ⊥) (λ z. omega arith) (λ z. omega arith) (λ z. omega arith) (λ z. omega arith) (λ z. omega arith) (λ z. omega arith);
@@ -96,8 +96,8 @@ unfolding degrees words.listOf words.wordsOf words.pairOf words.bracketPair degr
 ring-degrees = refl
 
 -- so what its walk says builds the ring as written above
-ring-built : Built (runS (startS 3 6) (told (eventsOf ring (turnsOf 3 6) (fresh 3 3 3 3 (replicate pairWords 0)))))
+ring-built : Built (runS (startS 3 6) (asReadEvents (eventsOf ring (turnsOf 3 6) (fresh 3 3 3 3 (replicate pairWords 0)))))
     (node carbon (edge Single (To 1) ∷ edge Up (To 2) ∷ []) ∷ node (marked 2) (edge Single (To 0) ∷ edge Single (To 2) ∷ []) ∷ node carbon (edge Single (To 1) ∷ edge Down (To 0) ∷ []) ∷ [])
 ring-built =
-    subst (λ (ns : List Node). Built (runS (startS 3 6) (told (eventsOf ring (turnsOf 3 6) (fresh 3 3 3 3 (replicate pairWords 0))))) ns) ring-renumbered
+    subst (λ (ns : List Node). Built (runS (startS 3 6) (asReadEvents (eventsOf ring (turnsOf 3 6) (fresh 3 3 3 3 (replicate pairWords 0))))) ns) ring-renumbered
     (graph-trip ring ring-simple ring-tetrahedral 3 3 3 3 (record { met = omega arith; back = omega arith; taken = omega arith }) (omega arith) 6 (omega (arith, ring-degrees)) not-refused 3 6 (omega arith) (omega (arith, ring-degrees)))

@@ -7,13 +7,13 @@ use native.Mathlib.Omega.{arith}
 use lib.ListN.{length}
 use Rattle.packing.specs.Words.{atomWords, bondWords}
 use Rattle.builder.specs.Limits.{atomLimit, bondLimit, lesserOf}
-use Rattle.read_line.specs.Events.{Event}
+use Rattle.read_line.specs.Events.{ReadEvent}
 use Rattle.read_line.specs.Parse.{parse}
-use Rattle.builder_meaning.specs.Sketch.{numberOf, countOf, startS, runS, sketchOf, atomTable, bondTable, padded}
+use Rattle.builder_meaning.specs.Sketch.{nextNumber, countOf, startS, runS, sketchOf, atomTable, bondTable, padded}
 use Rattle.walk_entry.specs.Graph.{kindAt}
 use Rattle.write.specs.declared.answer.Written.the-variants.{Done}
-use Rattle.write.specs.Write.{graphOf, walkOf, saidOf, left, writeOf}
-use Rattle.trip_graph.specs.Renumber.{Simple, told, unplaced, Renumbers, ComesBack}
+use Rattle.write.specs.Write.{graphOf, walkOf, walkEvents, writeLeaves, writeOf}
+use Rattle.trip_graph.specs.Renumber.{Simple, asReadEvents, placeless, Renumbers, ComesBack}
 use Rattle.trip_graph.specs.Renumbered.{byWalk, renumbered}
 use Rattle.trip_graph.specs.Marks.{Tetrahedral}
 use Rattle.trip_graph.proofs.Trip.{renumbered-length}
@@ -22,11 +22,11 @@ use Rattle.trip_graph.proofs.Tables.{tables-renumber}
 
 module _ (room : ℕ) (atoms : List ℕ) (n : ℕ) (bonds : List ℕ) (m len : ℕ) (out : List ℕ)
     (W : Simple (graphOf n atoms bonds)) (T : (a : ℕ) → a < n → Tetrahedral (kindAt (graphOf n atoms bonds) a))
-    (e : writeOf room atoms n bonds m ≡ left (Done len) out) where
+    (e : writeOf room atoms n bonds m ≡ writeLeaves (Done len) out) where
   -- events that differ from those of the walk only in their places
-  pub events-come-back : (places slots : ℕ) → n ≤ places → m ≤ slots → (es : List Event) → map unplaced es ≡ told (saidOf atoms n bonds m)
+  pub events-come-back : (places slots : ℕ) → n ≤ places → m ≤ slots → (es : List ReadEvent) → map placeless es ≡ asReadEvents (walkEvents atoms n bonds m)
       → ComesBack (graphOf n atoms bonds) (byWalk (walkOf atoms n bonds m)) (runS (startS places slots) es) n m
-  unfolding numberOf
+  unfolding nextNumber
   events-come-back places slots hp hs es h =
       let d = was-done room atoms n bonds m len out e in
       let b = placed-trip atoms bonds n m (d .few) (d .good) W T (d .fine) places slots hp hs es h in
@@ -38,7 +38,7 @@ module _ (room : ℕ) (atoms : List ℕ) (n : ℕ) (bonds : List ℕ) (m len : �
       }
 
   -- a text
-  pub text-comes-back : (s : List ℕ) → map unplaced (parse s) ≡ told (saidOf atoms n bonds m)
+  pub text-comes-back : (s : List ℕ) → map placeless (parse s) ≡ asReadEvents (walkEvents atoms n bonds m)
       → (la lb : ℕ) → n ≤ lesserOf atomLimit (la / atomWords) → m ≤ lesserOf bondLimit (lb / bondWords)
       → ComesBack (graphOf n atoms bonds) (byWalk (walkOf atoms n bonds m)) (sketchOf s la lb) n m
   unfolding sketchOf

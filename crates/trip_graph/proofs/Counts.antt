@@ -11,7 +11,7 @@ use borrow.Author.Tests.{eq-eqb, ne-eqb}
 use Rattle.feature.specs.Pick.{pick}
 use Rattle.feature.specs.declared.atom_kind.AtomKind.{AtomKind}
 use Rattle.feature.specs.declared.bond_kind.BondKind.{BondKind}
-use Rattle.walk_entry.specs.Graph.{Bond, Graph, degreeAt}
+use Rattle.walk_entry.specs.Graph.{BondEntry, Graph, degreeAt}
 use Rattle.walk_laws.specs.Trek.{degrees}
 use Rattle.builder_meaning.specs.Sketch.{Edge, Node, countOf, upd, addEdge, waits, fillEdges, fill}
 use Rattle.trip_graph.specs.Opened.{Pair}
@@ -98,12 +98,12 @@ sum-most g (suc n) f l d z h =
     )
 
 -- ---- the count of a view
-count-view : (κ : ℕ → AtomKind) (o : List ℕ) (P : List Pair) (d : ℕ → List Bond) (l : List ℕ) → countOf (map (view κ o P d) l) ≡ sumOver (λ v. length (d v)) l
+count-view : (κ : ℕ → AtomKind) (o : List ℕ) (P : List Pair) (d : ℕ → List BondEntry) (l : List ℕ) → countOf (map (view κ o P d) l) ≡ sumOver (λ v. length (d v)) l
 unfolding countOf sumOver view
 count-view κ o P d [] = refl
 count-view κ o P d (x ∷ l) = ap₂ (λ (a b : ℕ). a + b) (length-map (d x) _) (count-view κ o P d l)
 
-pub view-count : (g : Graph) (κ : ℕ → AtomKind) (o : List ℕ) (P : List Pair) (d : ℕ → List Bond) → Nodup o → ((v : ℕ) → memb v o ≡ true → v < g .size)
+pub view-count : (g : Graph) (κ : ℕ → AtomKind) (o : List ℕ) (P : List Pair) (d : ℕ → List BondEntry) → Nodup o → ((v : ℕ) → memb v o ≡ true → v < g .size)
     → ((v : ℕ) → length (d v) ≤ degreeAt g v) → countOf (map (view κ o P d) o) ≤ degrees g (g .size)
 view-count g κ o P d n s h =
     rw (count-view κ o P d o) (sum-most g (g .size) (λ v. length (d v)) o n (λ v m q. absurd (omega (arith, s v m))) h)
@@ -135,7 +135,7 @@ sum-least g (suc n) f l m h =
           (λ v q. zap-other f n v (λ z. omega arith) ∙ h v (omega arith)),
     )
 
-pub view-count-all : (g : Graph) (κ : ℕ → AtomKind) (o : List ℕ) (P : List Pair) (d : ℕ → List Bond) → Nodup o → ((v : ℕ) → memb v o ≡ true → v < g .size)
+pub view-count-all : (g : Graph) (κ : ℕ → AtomKind) (o : List ℕ) (P : List Pair) (d : ℕ → List BondEntry) → Nodup o → ((v : ℕ) → memb v o ≡ true → v < g .size)
     → ((v : ℕ) → v < g .size → memb v o ≡ true) → ((v : ℕ) → length (d v) ≤ degreeAt g v) → ((v : ℕ) → v < g .size → length (d v) ≡ degreeAt g v)
     → countOf (map (view κ o P d) o) ≡ degrees g (g .size)
 view-count-all g κ o P d n s m h e =

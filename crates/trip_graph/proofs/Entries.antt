@@ -9,7 +9,7 @@ use lib.ListN.{length, length-append}
 use lib.Dec.{leb}
 use borrow.Author.Tests.{eq-eqb, ne-eqb, leb-true, leb-false}
 use Rattle.feature.specs.Bonds.{reverseOf}
-use Rattle.walk_entry.specs.Graph.{Bond, Graph, degreeAt, bondOf}
+use Rattle.walk_entry.specs.Graph.{BondEntry, Graph, degreeAt, bondOf}
 use Rattle.trip_graph.specs.Renumber.{Backed, Simple}
 use Rattle.trip_graph.specs.Renumbered.{othersOf, parentEntry, doneOf}
 use Rattle.trip_graph.proofs.Lists.{same-refl, same-eq, same-ne, true≢false, by-eq, by-bool, or-true, or-true-left}
@@ -17,26 +17,26 @@ use Rattle.trip_graph.proofs.View.{hasT, kindT, NodupB, bnil, bcons}
 use Rattle.trip_graph.proofs.Opens.{hasT-app}
 
 -- ---- lists of entries
-pub data All (Q : Bond → Type 0) : List Bond → Type 0 where
+pub data All (Q : BondEntry → Type 0) : List BondEntry → Type 0 where
   anil : All Q []
-  acons : {e : Bond} {l : List Bond} → Q e → All Q l → All Q (e ∷ l)
+  acons : {e : BondEntry} {l : List BondEntry} → Q e → All Q l → All Q (e ∷ l)
 
-all-app : {Q : Bond → Type 0} {l m : List Bond} → All Q l → All Q m → All Q (l ++ m)
+all-app : {Q : BondEntry → Type 0} {l m : List BondEntry} → All Q l → All Q m → All Q (l ++ m)
 all-app anil b = b
 all-app (acons q a) b = acons q (all-app a b)
 
-all-map : {Q R : Bond → Type 0} {l : List Bond} → ((e : Bond) → Q e → R e) → All Q l → All R l
+all-map : {Q R : BondEntry → Type 0} {l : List BondEntry} → ((e : BondEntry) → Q e → R e) → All Q l → All R l
 all-map f anil = anil
 all-map f (acons {e} q a) = acons (f e q) (all-map f a)
 
 -- the first entry towards an atom
-pub record First (Q : Bond → Type 0) (x : ℕ) (l : List Bond) : Type 0 where
-  pub entry : Bond
+pub record First (Q : BondEntry → Type 0) (x : ℕ) (l : List BondEntry) : Type 0 where
+  pub entry : BondEntry
   pub fact : Q entry
   pub leads : entry .to ≡ x
   pub kind : kindT x l ≡ entry .kind
 
-pub first : {Q : Bond → Type 0} (x : ℕ) (l : List Bond) → All Q l → hasT x l ≡ true → First Q x l
+pub first : {Q : BondEntry → Type 0} (x : ℕ) (l : List BondEntry) → All Q l → hasT x l ≡ true → First Q x l
 unfolding hasT kindT
 first x [] anil h = absurd (true≢false h refl)
 first {Q = Q} x (e ∷ l) (acons q a) h =
@@ -45,7 +45,7 @@ first {Q = Q} x (e ∷ l) (acons q a) h =
     (λ p. let f = first {Q = Q} x l a (rw (same-ne x (e .to) p) at h) in
     record { entry = f .entry; fact = f .fact; leads = f .leads; kind = rw (same-ne x (e .to) p) (f .kind) })
 
-nodup-snoc : (l : List Bond) (e : Bond) → NodupB l → hasT (e .to) l ≡ false → NodupB (l ++ (e ∷ []))
+nodup-snoc : (l : List BondEntry) (e : BondEntry) → NodupB l → hasT (e .to) l ≡ false → NodupB (l ++ (e ∷ []))
 unfolding hasT
 nodup-snoc [] e bnil h = bcons refl bnil
 nodup-snoc (x ∷ l) e (bcons k n) h =
@@ -53,14 +53,14 @@ nodup-snoc (x ∷ l) e (bcons k n) h =
     (λ q. absurd (true≢false (or-true-left _ (same-eq q)) h))
     (λ q. bcons (hasT-app (x .to) l (e ∷ []) ∙ rw (k, same-ne (x .to) (e .to) (λ z. q (sym z)))) (nodup-snoc l e n (rw (same-ne (e .to) (x .to) q) at h)))
 
-has-last : (l : List Bond) (e : Bond) → hasT (e .to) (l ++ (e ∷ [])) ≡ true
+has-last : (l : List BondEntry) (e : BondEntry) → hasT (e .to) (l ++ (e ∷ [])) ≡ true
 unfolding hasT
 has-last l e = hasT-app (e .to) l (e ∷ []) ∙ or-true (hasT (e .to) l) (or-true-left false (same-refl (e .to)))
 
-has-left : (x : ℕ) (l m : List Bond) → hasT x l ≡ true → hasT x (l ++ m) ≡ true
+has-left : (x : ℕ) (l m : List BondEntry) → hasT x l ≡ true → hasT x (l ++ m) ≡ true
 has-left x l m h = hasT-app x l m ∙ or-true-left _ h
 
-has-right : (x : ℕ) (l m : List Bond) → hasT x m ≡ true → hasT x (l ++ m) ≡ true
+has-right : (x : ℕ) (l m : List BondEntry) → hasT x m ≡ true → hasT x (l ++ m) ≡ true
 has-right x l m h = hasT-app x l m ∙ or-true (hasT x l) h
 
 -- ---- one entry more
@@ -79,7 +79,7 @@ module _ (g : Graph) (v b : ℕ) where
 
   pub done-pass : (n : ℕ) → b ≡ suc n → doneOf g v b (suc n) ≡ doneOf g v b n
   unfolding doneOf
-  done-pass n h = ap (λ (l : List Bond). parentEntry g v b ++ l) (others-pass n h)
+  done-pass n h = ap (λ (l : List BondEntry). parentEntry g v b ++ l) (others-pass n h)
 
   parent-root : b ≡ 0 → parentEntry g v b ≡ []
   unfolding parentEntry
@@ -90,13 +90,13 @@ module _ (g : Graph) (v b : ℕ) where
   parent-some h = rw (ne-eqb b 0 h)
 
   -- ---- where they stand
-  pub record Behind (n : ℕ) (e : Bond) : Type 0 where
+  pub record Behind (n : ℕ) (e : BondEntry) : Type 0 where
     pub place : ℕ
     pub is : e ≡ bondOf g v place
     pub within : place < degreeAt g v
     pub off : b ≢ suc n → place ≢ n
 
-  record Other (n : ℕ) (e : Bond) : Type 0 where
+  record Other (n : ℕ) (e : BondEntry) : Type 0 where
     place : ℕ
     is : e ≡ bondOf g v place
     before : place < n
@@ -196,7 +196,7 @@ module _ (g : Graph) (S : Simple g) (v b : ℕ) (small : v < g .size) (hb : b �
   done-fresh n h q =
       by-bool (hasT (bondOf g v n .to) (doneOf g v b n))
       (λ z. let f = first {Q = Behind g v b n} (bondOf g v n .to) (doneOf g v b n) (done-all g v b n (omega arith) hb) z in
-      let e : bondOf g v (f .fact .place) .to ≡ bondOf g v n .to = ap (λ (x : Bond). x .to) (sym (f .fact .is)) ∙ f .leads in
+      let e : bondOf g v (f .fact .place) .to ≡ bondOf g v n .to = ap (λ (x : BondEntry). x .to) (sym (f .fact .is)) ∙ f .leads in
       absurd (f .fact .off q (S .once v (f .fact .place) n small (f .fact .within) h e)))
       (λ z. z)
 
@@ -214,5 +214,5 @@ pub reverse-kind : (g : Graph) → Simple g → (s i t b n : ℕ) → s < g .siz
 reverse-kind g S s i t b n hs hi e ht hn hb h =
     let k : Backed g s t (bondOf g s i) = subst (λ (x : ℕ). Backed g s x (bondOf g s i)) e (S .backed s i hs hi) in
     let f = first {Q = Behind g t b n} s (doneOf g t b n) (done-all g t b n hn hb) h in
-    let p : f .fact .place ≡ k .place = S .once t (f .fact .place) (k .place) ht (f .fact .within) (k .within) (ap (λ (x : Bond). x .to) (sym (f .fact .is)) ∙ f .leads ∙ sym (k .leads)) in
-    f .kind ∙ ap (λ (x : Bond). x .kind) (f .fact .is) ∙ ap (λ (j : ℕ). bondOf g t j .kind) p ∙ k .reversed
+    let p : f .fact .place ≡ k .place = S .once t (f .fact .place) (k .place) ht (f .fact .within) (k .within) (ap (λ (x : BondEntry). x .to) (sym (f .fact .is)) ∙ f .leads ∙ sym (k .leads)) in
+    f .kind ∙ ap (λ (x : BondEntry). x .kind) (f .fact .is) ∙ ap (λ (j : ℕ). bondOf g t j .kind) p ∙ k .reversed

@@ -18,15 +18,15 @@ use Rattle.feature.specs.declared.bond_kind.BondKind.{BondKind}
 use Rattle.feature.specs.declared.bond_kind.BondKind.the-variants.{Elided, Single, Double, Triple, Quadruple, Aromatic, Up, Down}
 use Rattle.feature.specs.declared.bond_kind.Reconciled.the-variants.{Both}
 use Rattle.read_line.specs.declared.lead.Lead.the-variants.{Dot, Bond as Bonded}
-use Rattle.read_line.specs.Events.{Event, Enter, Join, Pop}
+use Rattle.read_line.specs.Events.{ReadEvent, Enter, Join, Pop}
 use Rattle.writer.specs.Line as writer
 use Rattle.builder.specs.State.{atomRoom, bondRoom}
-use Rattle.builder_meaning.specs.Sketch.{To, Open, Node, Held, None, Sketch, edge, node, held, refused, grown, joined, numberOf, countOf, upd, edgesAt, addEdge, openKind, fill, lookup, without, rootS, bondedS, extendS, openedS, closedS, ringS, joinS, enterS, numberS, stepS, runS}
-use Rattle.walk_entry.specs.Graph.{Bond, Graph, bond}
+use Rattle.builder_meaning.specs.Sketch.{To, Open, Node, Held, None, Sketch, edge, node, held, refused, atomAdded, joined, nextNumber, countOf, upd, edgesAt, addEdge, openKind, fill, lookup, ringFreed, rootS, bondedS, extendS, openedS, closedS, ringS, joinS, enterS, numberS, stepS, runS}
+use Rattle.walk_entry.specs.Graph.{BondEntry, Graph, entryTo}
 use Rattle.walk.specs.Walk.{popsOf}
 use Rattle.walk_laws.specs.Trek.{degrees}
-use Rattle.trip_graph.specs.Opened.{same, Pair, pair, look, del, numIn, joinIn, Distinct}
-use Rattle.trip_graph.specs.Renumber.{toldAs, told}
+use Rattle.trip_graph.specs.Opened.{sameNumber, Pair, ringPair, look, del, numIn, joinIn, Distinct}
+use Rattle.trip_graph.specs.Renumber.{toldAs, asReadEvents}
 use Rattle.trip_graph.proofs.Lists.{memb, idx, Nodup, same-refl, eq-of-same, by-eq, by-bool, or-true, or-true-left, or-elim, idx-app, idx-new, idx-lt, map-app}
 use Rattle.trip_graph.proofs.View.{hasT, kindT, NodupB, view, push, view-open, view-extend, view-close, close-kind, view-root}
 use Rattle.trip_graph.proofs.Opens.{heldOf, look-in, look-one, lookup-none, lookup-some, without-map, join-del-true, Froms, held-snoc}
@@ -38,7 +38,7 @@ idxs o (v ∷ fr) = idx v o ∷ idxs o fr
 
 -- what a sketch is, where fr is the standing atom and those above it, pend atoms were left since the last event, o is the order of
 -- the atoms met, d has the entries behind the walk and P the open pairs
-pub record Bld (g : Graph) (κ : ℕ → AtomKind) (fr : List ℕ) (pend : ℕ) (o : List ℕ) (d : ℕ → List Bond) (P : List Pair) (b : Sketch) : Type 0 where
+pub record Bld (g : Graph) (κ : ℕ → AtomKind) (fr : List ℕ) (pend : ℕ) (o : List ℕ) (d : ℕ → List BondEntry) (P : List Pair) (b : Sketch) : Type 0 where
   pub junk : List ℕ
   pub stk : drop pend (b .path) ≡ idxs o fr ++ junk
   pub gr : b .nodes ≡ map (view κ o P d) o
@@ -51,29 +51,29 @@ pub record Bld (g : Graph) (κ : ℕ → AtomKind) (fr : List ℕ) (pend : ℕ) 
   pub joins : (j : ℕ) → joinIn j P ≡ true → j < b .joins
 
 -- ---- events in a row
-pub run-refused : (d : Sketch) (es : List Event) → eqb (d .refusal) 0 ≡ false → runS d es ≡ d
+pub run-refused : (d : Sketch) (es : List ReadEvent) → eqb (d .refusal) 0 ≡ false → runS d es ≡ d
 unfolding runS
 run-refused d [] h = refl
 run-refused d (e ∷ es) h = rw h
 
-pub run-app : (d : Sketch) (es fs : List Event) → runS d (es ++ fs) ≡ runS (runS d es) fs
+pub run-app : (d : Sketch) (es fs : List ReadEvent) → runS d (es ++ fs) ≡ runS (runS d es) fs
 unfolding runS
 run-app d [] fs = refl
 run-app d (e ∷ es) fs =
     by-bool (eqb (d .refusal) 0) (λ q. rw q (run-app (stepS d e) es fs)) (λ q. rw q (sym (run-refused d fs q)))
 
-pub told-app : (es fs : List writer.Event) → told (es ++ fs) ≡ told es ++ told fs
-unfolding told
+pub told-app : (es fs : List writer.Event) → asReadEvents (es ++ fs) ≡ asReadEvents es ++ asReadEvents fs
+unfolding asReadEvents
 told-app es fs = map-app toldAs es fs
 
-pub run-one : (d : Sketch) (e : Event) → d .refusal ≡ 0 → runS d (e ∷ []) ≡ stepS d e
+pub run-one : (d : Sketch) (e : ReadEvent) → d .refusal ≡ 0 → runS d (e ∷ []) ≡ stepS d e
 unfolding runS
 run-one d e h = rw (eq-eqb (d .refusal) 0 h)
 
 -- pops, then an event
-pub run-pops : (d : Sketch) (n : ℕ) (e : writer.Event) → runS d (told (popsOf n ++ (e ∷ []))) ≡ runS (runS d (told (popsOf n))) (toldAs e ∷ [])
-unfolding told
-run-pops d n e = ap (runS d) (map-app toldAs (popsOf n) (e ∷ [])) ∙ run-app d (told (popsOf n)) (toldAs e ∷ [])
+pub run-pops : (d : Sketch) (n : ℕ) (e : writer.Event) → runS d (asReadEvents (popsOf n ++ (e ∷ []))) ≡ runS (runS d (asReadEvents (popsOf n))) (toldAs e ∷ [])
+unfolding asReadEvents
+run-pops d n e = ap (runS d) (map-app toldAs (popsOf n) (e ∷ [])) ∙ run-app d (asReadEvents (popsOf n)) (toldAs e ∷ [])
 
 -- ---- small laws
 pick-no : {A : Type 0} (q : Bool) (x y : A) → q ≡ false → pick q x y ≡ y
@@ -93,7 +93,7 @@ reconcile-back Down = refl
 idxs-snoc : (o : List ℕ) (t : ℕ) (fr : List ℕ) → ((v : ℕ) → memb v fr ≡ true → memb v o ≡ true) → idxs (o ++ (t ∷ [])) fr ≡ idxs o fr
 unfolding idxs memb
 idxs-snoc o t [] h = refl
-idxs-snoc o t (x ∷ fr) h = ap₂ (λ (a : ℕ) (l : List ℕ). a ∷ l) (idx-app x o (t ∷ []) (h x (or-true-left _ (same-refl x)))) (idxs-snoc o t fr (λ v k. h v (or-true (same v x) k)))
+idxs-snoc o t (x ∷ fr) h = ap₂ (λ (a : ℕ) (l : List ℕ). a ∷ l) (idx-app x o (t ∷ []) (h x (or-true-left _ (same-refl x)))) (idxs-snoc o t fr (λ v k. h v (or-true (sameNumber v x) k)))
 
 drop-suc : (n : ℕ) (l : List ℕ) {x : ℕ} {m : List ℕ} → drop n l ≡ x ∷ m → drop (suc n) l ≡ m
 drop-suc zero l h = ap (drop 1) h
@@ -101,14 +101,14 @@ drop-suc (suc n) [] h = absurd (nil≢cons h)
 drop-suc (suc n) (y ∷ l) h = drop-suc n l h
 
 -- the entry at hand: its atom was met, no entry before it leads where it leads, and that is another atom
-pub record Entry (s : ℕ) (e : Bond) (o : List ℕ) (d : ℕ → List Bond) : Type 0 where
+pub record Entry (s : ℕ) (e : BondEntry) (o : List ℕ) (d : ℕ → List BondEntry) : Type 0 where
   pub ms : memb s o ≡ true
   pub fresh : hasT (e .to) (d s) ≡ false
   pub apart : s ≢ e .to
 
-module _ (g : Graph) (κ : ℕ → AtomKind) (o : List ℕ) (d : ℕ → List Bond) (P : List Pair) where
-  pub bld-pops : (fr : List ℕ) (n : ℕ) (b : Sketch) → Bld g κ fr n o d P b → Bld g κ fr zero o d P (runS b (told (popsOf n)))
-  unfolding popsOf told toldAs stepS
+module _ (g : Graph) (κ : ℕ → AtomKind) (o : List ℕ) (d : ℕ → List BondEntry) (P : List Pair) where
+  pub bld-pops : (fr : List ℕ) (n : ℕ) (b : Sketch) → Bld g κ fr n o d P b → Bld g κ fr zero o d P (runS b (asReadEvents (popsOf n)))
+  unfolding popsOf asReadEvents toldAs stepS
   bld-pops fr n b B =
       by-eq n 0
       (λ e. rw (eq-eqb n 0 e) (unfold runS in subst (λ (i : ℕ). Bld g κ fr i o d P b) e B))
@@ -162,8 +162,8 @@ module _ (g : Graph) (κ : ℕ → AtomKind) (o : List ℕ) (d : ℕ → List Bo
   length-nodes : {fr : List ℕ} {n : ℕ} {b : Sketch} → Bld g κ fr n o d P b → length (b .nodes) ≡ length o
   length-nodes B = ap length (B .gr) ∙ length-map o _
 
-  number-is : {fr : List ℕ} {n : ℕ} {b : Sketch} → Bld g κ fr n o d P b → numberOf b ≡ length o
-  unfolding numberOf
+  number-is : {fr : List ℕ} {n : ℕ} {b : Sketch} → Bld g κ fr n o d P b → nextNumber b ≡ length o
+  unfolding nextNumber
   number-is B = omega (arith, length-nodes B, B .counted)
 
   -- a root
@@ -172,11 +172,11 @@ module _ (g : Graph) (κ : ℕ → AtomKind) (o : List ℕ) (d : ℕ → List Bo
       → Bld g κ′ (i ∷ []) zero (o ++ (i ∷ [])) d P (stepS b (Enter Dot k 0))
   unfolding idxs stepS enterS rootS
   bld-root i n b k κ′ kq ki mi u seen fm small B =
-      let num : numberOf b ≡ length o = number-is B in
+      let num : nextNumber b ≡ length o = number-is B in
       let pl : g .size ≤ b .places = B .places in
-      let is : enterS b Dot k 0 (b .failure) ≡ grown b (b .nodes ++ (node k [] ∷ [])) (numberOf b) =
+      let is : enterS b Dot k 0 (b .failure) ≡ atomAdded b (b .nodes ++ (node k [] ∷ [])) (nextNumber b) =
       ap (enterS b Dot k 0) (B .noerr)
-      ∙ pick-no (leb (b .places) (numberOf b)) (refused b atomRoom 0) (grown b (b .nodes ++ (node k [] ∷ [])) (numberOf b)) (lt-leb (b .places) (numberOf b) (omega arith)) in
+      ∙ pick-no (leb (b .places) (nextNumber b)) (refused b atomRoom 0) (atomAdded b (b .nodes ++ (node k [] ∷ [])) (nextNumber b)) (lt-leb (b .places) (nextNumber b) (omega arith)) in
       rw is (record {
         junk = b .path;
         stk = ap (λ (x : ℕ). x ∷ b .path) (num ∙ sym (idx-new i o mi));
@@ -190,7 +190,7 @@ module _ (g : Graph) (κ : ℕ → AtomKind) (o : List ℕ) (d : ℕ → List Bo
         joins = B .joins;
       })
 
-  module _ (s : ℕ) (e : Bond) (fs : List ℕ) (E : Entry s e o d) (nod : Nodup o) (seen : (v x : ℕ) → hasT x (d v) ≡ true → memb x o ≡ true) (b : Sketch)
+  module _ (s : ℕ) (e : BondEntry) (fs : List ℕ) (E : Entry s e o d) (nod : Nodup o) (seen : (v x : ℕ) → hasT x (d v) ≡ true → memb x o ≡ true) (b : Sketch)
       (B : Bld g κ (s ∷ fs) zero o d P b) where
     stands : b .path ≡ idx s o ∷ (idxs o fs ++ B .junk)
     unfolding idxs
@@ -202,32 +202,32 @@ module _ (g : Graph) (κ : ℕ → AtomKind) (o : List ℕ) (d : ℕ → List Bo
     -- a new atom
     pub bld-extend : (k : AtomKind) (κ′ : ℕ → AtomKind) → ((v : ℕ) → v ≢ e .to → κ′ v ≡ κ v) → invertOf k ≡ Turned (κ′ (e .to)) → memb (e .to) o ≡ false → d (e .to) ≡ []
         → look P s (e .to) ≡ none → look P (e .to) s ≡ none → Froms o P → ((v : ℕ) → memb v fs ≡ true → memb v o ≡ true) → length o < g .size
-        → countOf (map (view κ′ (o ++ (e .to ∷ [])) P (push (e .to) (bond (reverseOf (e .kind)) s) (push s e d))) (o ++ (e .to ∷ []))) ≤ degrees g (g .size)
-        → Bld g κ′ (e .to ∷ s ∷ fs) zero (o ++ (e .to ∷ [])) (push (e .to) (bond (reverseOf (e .kind)) s) (push s e d)) P (stepS b (Enter (Bonded (e .kind)) k 0))
+        → countOf (map (view κ′ (o ++ (e .to ∷ [])) P (push (e .to) (entryTo (reverseOf (e .kind)) s) (push s e d))) (o ++ (e .to ∷ []))) ≤ degrees g (g .size)
+        → Bld g κ′ (e .to ∷ s ∷ fs) zero (o ++ (e .to ∷ [])) (push (e .to) (entryTo (reverseOf (e .kind)) s) (push s e d)) P (stepS b (Enter (Bonded (e .kind)) k 0))
     unfolding idxs stepS enterS extendS bondedS
     bld-extend k κ′ kq kt mt u l1 l2 fm above small room =
         let t : ℕ = e .to in
-        let num : numberOf b ≡ length o = number-is B in
+        let num : nextNumber b ≡ length o = number-is B in
         let pl : g .size ≤ b .places = B .places in
         let sl : degrees g (g .size) ≤ b .slots = B .slots in
         let new : List Node = upd (idx s o) (addEdge (edge (e .kind) (To (length o)))) (b .nodes) ++ (node (κ′ t) (edge (reverseOf (e .kind)) (To (idx s o)) ∷ []) ∷ []) in
-        let grows : new ≡ map (view κ′ (o ++ (t ∷ [])) P (push t (bond (reverseOf (e .kind)) s) (push s e d))) (o ++ (t ∷ [])) =
+        let grows : new ≡ map (view κ′ (o ++ (t ∷ [])) P (push t (entryTo (reverseOf (e .kind)) s) (push s e d))) (o ++ (t ∷ [])) =
         ap (λ (l : List Node). upd (idx s o) (addEdge (edge (e .kind) (To (length o)))) l ++ (node (κ′ t) (edge (reverseOf (e .kind)) (To (idx s o)) ∷ []) ∷ [])) (B .gr)
         ∙ sym (view-extend κ o P d s e nod (E .ms) seen (E .fresh) κ′ kq mt u l1 l2) in
         let two : countOf new ≡ countOf (b .nodes) + 2 =
         count-app (upd (idx s o) (addEdge (edge (e .kind) (To (length o)))) (b .nodes)) _
         ∙ unfold countOf in omega (arith, count-add (idx s o) (edge (e .kind) (To (length o))) (b .nodes) place-in) in
         let fits : countOf (b .nodes) + 2 ≤ b .slots = omega (arith, ap countOf grows) in
-        let is : enterS b (Bonded (e .kind)) k 0 (b .failure) ≡ grown b new (numberOf b) =
+        let is : enterS b (Bonded (e .kind)) k 0 (b .failure) ≡ atomAdded b new (nextNumber b) =
         ap (enterS b (Bonded (e .kind)) k 0) (B .noerr)
         ∙ ap (extendS b (e .kind) k 0) stands
-        ∙ pick-no (leb (b .places) (numberOf b)) (refused b atomRoom 0)
+        ∙ pick-no (leb (b .places) (nextNumber b)) (refused b atomRoom 0)
         (pick (ltb (b .slots) (countOf (b .nodes) + 2)) (refused b bondRoom 0) (bondedS b (e .kind) (idx s o) (invertOf k)))
-        (lt-leb (b .places) (numberOf b) (omega arith))
+        (lt-leb (b .places) (nextNumber b) (omega arith))
         ∙ pick-no (ltb (b .slots) (countOf (b .nodes) + 2)) (refused b bondRoom 0) (bondedS b (e .kind) (idx s o) (invertOf k))
         (le-ltb (b .slots) (countOf (b .nodes) + 2) fits)
         ∙ ap (bondedS b (e .kind) (idx s o)) kt
-        ∙ ap (λ (n : ℕ). grown b (upd (idx s o) (addEdge (edge (e .kind) (To n))) (b .nodes) ++ (node (κ′ t) (edge (reverseOf (e .kind)) (To (idx s o)) ∷ []) ∷ [])) (numberOf b)) num in
+        ∙ ap (λ (n : ℕ). atomAdded b (upd (idx s o) (addEdge (edge (e .kind) (To n))) (b .nodes) ++ (node (κ′ t) (edge (reverseOf (e .kind)) (To (idx s o)) ∷ []) ∷ [])) (nextNumber b)) num in
         rw is (record {
           junk = B .junk;
           stk = ap₂ (λ (x : ℕ) (l : List ℕ). x ∷ l) (num ∙ sym (idx-new t o mt))
@@ -244,12 +244,12 @@ module _ (g : Graph) (κ : ℕ → AtomKind) (o : List ℕ) (d : ℕ → List Bo
 
     -- a new number
     pub bld-open : (r : ℕ) → numIn r P ≡ false
-        → countOf (map (view κ o (pair s (e .to) r (b .joins) ∷ P) (push s e d)) o) ≤ degrees g (g .size)
-        → Bld g κ (s ∷ fs) zero o (push s e d) (pair s (e .to) r (b .joins) ∷ P) (stepS b (Join (e .kind) r 0))
+        → countOf (map (view κ o (ringPair s (e .to) r (b .joins) ∷ P) (push s e d)) o) ≤ degrees g (g .size)
+        → Bld g κ (s ∷ fs) zero o (push s e d) (ringPair s (e .to) r (b .joins) ∷ P) (stepS b (Join (e .kind) r 0))
     unfolding idxs stepS numberS joinS ringS openedS heldOf joinIn
     bld-open r new room =
         let sl : degrees g (g .size) ≤ b .slots = B .slots in
-        let grows : upd (idx s o) (addEdge (edge (e .kind) (Open (b .joins)))) (b .nodes) ≡ map (view κ o (pair s (e .to) r (b .joins) ∷ P) (push s e d)) o =
+        let grows : upd (idx s o) (addEdge (edge (e .kind) (Open (b .joins)))) (b .nodes) ≡ map (view κ o (ringPair s (e .to) r (b .joins) ∷ P) (push s e d)) o =
         ap (upd (idx s o) (addEdge (edge (e .kind) (Open (b .joins))))) (B .gr) ∙ sym (view-open κ o P d s e nod (E .ms) seen (E .fresh) r (b .joins)) in
         let fits : countOf (b .nodes) + 1 ≤ b .slots =
         omega (arith, ap countOf grows, count-add (idx s o) (edge (e .kind) (Open (b .joins))) (b .nodes) place-in) in
@@ -268,7 +268,7 @@ module _ (g : Graph) (κ : ℕ → AtomKind) (o : List ℕ) (d : ℕ → List Bo
           fine = B .fine;
           places = B .places;
           slots = B .slots;
-          joins = λ j h. or-elim (same j (b .joins)) (joinIn j P) h (λ q. let z = eq-of-same j (b .joins) q in omega arith) (λ q. omega (arith, B .joins j q));
+          joins = λ j h. or-elim (sameNumber j (b .joins)) (joinIn j P) h (λ q. let z = eq-of-same j (b .joins) q in omega arith) (λ q. omega (arith, B .joins j q));
         })
 
     -- the number of an open pair
@@ -296,17 +296,17 @@ module _ (g : Graph) (κ : ℕ → AtomKind) (o : List ℕ) (d : ℕ → List Bo
         ap (λ (k : BondKind). reconcileOf k (e .kind))
         (ap (λ (n : List Node). openKind (x .join) (edgesAt (idx t o) n)) (B .gr) ∙ close-kind κ o P d s e x nod (E .ms) mt (E .apart) l l′ one nt has back)
         ∙ reconcile-back (e .kind) in
-        let is : numberS b (e .kind) (x .num) 0 (b .failure) ≡ joined b new (without (x .num) (b .opens)) =
+        let is : numberS b (e .kind) (x .num) 0 (b .failure) ≡ joined b new (ringFreed (x .num) (b .opens)) =
         ap (numberS b (e .kind) (x .num) 0) (B .noerr)
         ∙ ap (joinS b (e .kind) (x .num) 0) stands
         ∙ ap (ringS b (e .kind) (x .num) 0 (idx s o)) found
         ∙ ap (closedS b (x .num) 0 (idx s o) h) kinds
-        ∙ pick-no (ltb (b .slots) (countOf (b .nodes) + 1)) (refused b bondRoom 0) (joined b new (without (x .num) (b .opens))) (le-ltb (b .slots) (countOf (b .nodes) + 1) fits) in
+        ∙ pick-no (ltb (b .slots) (countOf (b .nodes) + 1)) (refused b bondRoom 0) (joined b new (ringFreed (x .num) (b .opens))) (le-ltb (b .slots) (countOf (b .nodes) + 1) fits) in
         rw is (record {
           junk = B .junk;
           stk = B .stk;
           gr = grows;
-          ops = ap (without (x .num)) (B .ops) ∙ without-map o P t s x good l;
+          ops = ap (ringFreed (x .num)) (B .ops) ∙ without-map o P t s x good l;
           noerr = B .noerr;
           counted = B .counted;
           fine = B .fine;

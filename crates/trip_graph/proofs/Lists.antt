@@ -10,7 +10,7 @@ use lib.Dec.{T, eqb, eqb-refl, eqb→eq}
 use lib.ListN.{length}
 use Rattle.feature.specs.Pick.{pick}
 use Rattle.builder_meaning.specs.Sketch.{Node, upd}
-use Rattle.trip_graph.specs.Opened.{same}
+use Rattle.trip_graph.specs.Opened.{sameNumber}
 
 pub T-true : (b : Bool) → T b → b ≡ true
 T-true true t = refl
@@ -20,25 +20,25 @@ pub not-T-false : (b : Bool) → (T b → ⊥) → b ≡ false
 not-T-false true f = absurd (f tt)
 not-T-false false f = refl
 
-pub same-refl : (a : ℕ) → same a a ≡ true
-unfolding same
+pub same-refl : (a : ℕ) → sameNumber a a ≡ true
+unfolding sameNumber
 same-refl a = T-true (eqb a a) (eqb-refl a)
 
-pub same-eq : {a b : ℕ} → a ≡ b → same a b ≡ true
+pub same-eq : {a b : ℕ} → a ≡ b → sameNumber a b ≡ true
 same-eq {a} e = rw (← e) (same-refl a)
 
-pub same-ne : (a b : ℕ) → a ≢ b → same a b ≡ false
-unfolding same
+pub same-ne : (a b : ℕ) → a ≢ b → sameNumber a b ≡ false
+unfolding sameNumber
 same-ne a b h = not-T-false (eqb a b) (λ t. h (eqb→eq a b t))
 
-pub eq-of-same : (a b : ℕ) → same a b ≡ true → a ≡ b
-unfolding same
+pub eq-of-same : (a b : ℕ) → sameNumber a b ≡ true → a ≡ b
+unfolding sameNumber
 eq-of-same a b h = eqb→eq a b (rw h tt)
 
 pub true≢false : {b : Bool} → b ≡ true → b ≡ false → ⊥
 true≢false {b} p q = let z : _≡_ {A = Bool} true false = cc in absurd (subst T z tt)
 
-pub ne-of-same : (a b : ℕ) → same a b ≡ false → a ≢ b
+pub ne-of-same : (a b : ℕ) → sameNumber a b ≡ false → a ≢ b
 ne-of-same a b h e = true≢false (same-eq e) h
 
 pub by-eq {ℓ} : {X : Type ℓ} (a b : ℕ) → (a ≡ b → X) → (a ≢ b → X) → X
@@ -47,11 +47,11 @@ by-eq a b f g = elim (ℕ-discrete a b) [ yes e ↦ f e | no h ↦ g h ]
 -- ---- membership, index, no element twice
 unfoldable pub memb : ℕ → List ℕ → Bool
 memb v [] = false
-memb v (x ∷ l) = same v x || memb v l
+memb v (x ∷ l) = sameNumber v x || memb v l
 
 unfoldable pub idx : ℕ → List ℕ → ℕ
 idx v [] = zero
-idx v (x ∷ l) = pick (same v x) zero (suc (idx v l))
+idx v (x ∷ l) = pick (sameNumber v x) zero (suc (idx v l))
 
 pub data Nodup : List ℕ → Type 0 where
   nil : Nodup []
@@ -72,7 +72,7 @@ idx-new v (x ∷ l) h =
 pub memb-app : (v : ℕ) (l m : List ℕ) → memb v (l ++ m) ≡ memb v l || memb v m
 unfolding memb
 memb-app v [] m = refl
-memb-app v (x ∷ l) m = rw (memb-app v l m) (or-assoc (same v x) (memb v l) (memb v m))
+memb-app v (x ∷ l) m = rw (memb-app v l m) (or-assoc (sameNumber v x) (memb v l) (memb v m))
   where
     or-assoc : (a b c : Bool) → a || (b || c) ≡ a || b || c
     or-assoc true b c = refl
@@ -96,7 +96,7 @@ or-true-left {a} b k = rw k
 pub map-same : {A : Type 0} (F G : ℕ → A) (l : List ℕ) → ((v : ℕ) → memb v l ≡ true → G v ≡ F v) → map G l ≡ map F l
 unfolding memb
 map-same F G [] h = refl
-map-same F G (x ∷ l) h = ap₂ (λ a b. a ∷ b) (h x (rw same-refl)) (map-same F G l (λ v k. h v (or-true (same v x) k)))
+map-same F G (x ∷ l) h = ap₂ (λ a b. a ∷ b) (h x (rw same-refl)) (map-same F G l (λ v k. h v (or-true (sameNumber v x) k)))
 
 -- a table listed in the order l, where the entry of s alone has changed, is the table updated at s's index
 pub map-upd : (F G : ℕ → Node) (f : Node → Node) (s : ℕ) (l : List ℕ) → Nodup l → memb s l ≡ true
@@ -105,8 +105,8 @@ unfolding memb idx upd
 map-upd F G f s [] n m hs ho = refl
 map-upd F G f s (x ∷ l) (cons k n) m hs ho =
     by-eq s x
-    (λ e. rw (same-eq e) (ap₂ (λ a b. a ∷ b) (rw (← e) hs) (map-same F G l (λ v q. ho v (λ w. true≢false q (rw (w, e) k)) (or-true (same v x) q)))))
-    (λ d. let z : memb s l ≡ true = rw (same-ne s x d) at m in rw (same-ne s x d) (ap₂ (λ a b. a ∷ b) (ho x (λ e. d (sym e)) (rw same-refl)) (map-upd F G f s l n z hs (λ v w q. ho v w (or-true (same v x) q)))))
+    (λ e. rw (same-eq e) (ap₂ (λ a b. a ∷ b) (rw (← e) hs) (map-same F G l (λ v q. ho v (λ w. true≢false q (rw (w, e) k)) (or-true (sameNumber v x) q)))))
+    (λ d. let z : memb s l ≡ true = rw (same-ne s x d) at m in rw (same-ne s x d) (ap₂ (λ a b. a ∷ b) (ho x (λ e. d (sym e)) (rw same-refl)) (map-upd F G f s l n z hs (λ v w q. ho v w (or-true (sameNumber v x) q)))))
 
 -- ---- small facts
 pub by-bool {ℓ} : {X : Type ℓ} (b : Bool) → (b ≡ true → X) → (b ≡ false → X) → X
@@ -155,7 +155,7 @@ memb-cons v x l h q = rw (same-ne v x q) at h
 
 pub memb-there : (v x : ℕ) (l : List ℕ) → memb v l ≡ true → memb v (x ∷ l) ≡ true
 unfolding memb
-memb-there v x l h = or-true (same v x) h
+memb-there v x l h = or-true (sameNumber v x) h
 
 pub memb-here : {v x : ℕ} (l : List ℕ) → v ≡ x → memb v (x ∷ l) ≡ true
 unfolding memb

@@ -8,7 +8,7 @@ use native.Mathlib.Omega.{arith}
 use lib.Dec.{eqb}
 use borrow.Author.Tests.{eq-eqb, ne-eqb, eqb-true}
 use Rattle.feature.specs.Pick.{pick, both, neither}
-use Rattle.feature.specs.Kinds.{noHydrogens, noConfiguration, th1, th2, marked, bracketInRange, inRange, invertBracket, invertOf}
+use Rattle.feature.specs.Kinds.{noHydrogens, noConfiguration, th1, th2, withConfiguration, bracketInRange, inRange, invertBracket, invertOf}
 use Rattle.feature.specs.declared.atom_kind.BracketAtom.{BracketAtom}
 use Rattle.feature.specs.declared.atom_kind.AtomKind.{AtomKind}
 use Rattle.feature.specs.declared.atom_kind.AtomKind.the-variants.{Star, Aliphatic, Aromatic, Bracket}
@@ -25,8 +25,8 @@ use Rattle.trip_graph.proofs.Lists.{by-eq, by-bool}
 turned : AtomKind → AtomKind
 turned k = pick (bearsHydrogen k) (toggled k) k
 
-mark-same : (b : BracketAtom) (c : ℕ) → c ≡ b .configuration → Bracket (marked b c) ≡ Bracket b
-mark-same b c e = ap (λ (x : ℕ). Bracket (marked b x)) e
+mark-same : (b : BracketAtom) (c : ℕ) → c ≡ b .configuration → Bracket (withConfiguration b c) ≡ Bracket b
+mark-same b c e = ap (λ (x : ℕ). Bracket (withConfiguration b x)) e
 
 mark-none : (c : ℕ) → c ≡ 0 → otherMark c ≡ c
 unfolding otherMark
@@ -157,7 +157,7 @@ toggled-range (Aromatic n) t h = h
 toggled-range (Bracket b) t h =
     let w = good (Bracket b) h in
     let m = mark-small (b .configuration) t in
-    ranged (Bracket (marked b (otherMark (b .configuration))))
+    ranged (Bracket (withConfiguration b (otherMark (b .configuration))))
     (record { isotope = w .isotope; symbol = w .symbol; configuration = omega arith; hydrogens = w .hydrogens; charge = w .charge; map = w .map })
 
 back-range : (k : AtomKind) (b : ℕ) → Tetrahedral k → inRange k ≡ true → inRange (backKind k b) ≡ true
@@ -166,8 +166,8 @@ back-range k b t h = by-bool (both (bearsHydrogen k) (oddIndex b)) (λ q. rw q (
 
 -- ---- what survives
 -- a mark of TH1 or TH2 in place of the other
-mark-survives : (b : BracketAtom) (c d : ℕ) → b .configuration ≡ c → bracketInRange (marked b d) ≡ bracketInRange (marked b c) → configurationSurvives d ≡ configurationSurvives c
-    → survives (Bracket b) ≡ true → survives (Bracket (marked b d)) ≡ true
+mark-survives : (b : BracketAtom) (c d : ℕ) → b .configuration ≡ c → bracketInRange (withConfiguration b d) ≡ bracketInRange (withConfiguration b c) → configurationSurvives d ≡ configurationSurvives c
+    → survives (Bracket b) ≡ true → survives (Bracket (withConfiguration b d)) ≡ true
 unfolding survives fieldsSurvive
 mark-survives b c d e r f h = rw (r, f) (rw e at h)
 

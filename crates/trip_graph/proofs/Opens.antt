@@ -7,9 +7,9 @@ use mathlib.Core.Option.{Option, none, some}
 use mathlib.Core.Bool.{Bool, true, false, not, _&&_, _||_}
 use Prim.Native.Nat.{ℕ}
 use borrow.Author.Tests.{eq-eqb, ne-eqb}
-use Rattle.walk_entry.specs.Graph.{Bond}
-use Rattle.builder_meaning.specs.Sketch.{Held, held, lookup, without}
-use Rattle.trip_graph.specs.Opened.{same, Pair, pair, pairIs, look, del, numIn, joinIn, Distinct, dnil, dcons}
+use Rattle.walk_entry.specs.Graph.{BondEntry}
+use Rattle.builder_meaning.specs.Sketch.{Held, held, lookup, ringFreed}
+use Rattle.trip_graph.specs.Opened.{sameNumber, Pair, ringPair, pairIs, look, del, numIn, joinIn, Distinct, dnil, dcons}
 use Rattle.trip_graph.proofs.Lists.{memb, idx, same-refl, same-eq, same-ne, eq-of-same, true≢false, by-eq, by-bool, and-false, and-left, idx-app, or-true, or-true-left, or-false, memb-left}
 use Rattle.trip_graph.proofs.View.{hasT, push, push-same, push-other, look-skip, look-here, look-del, look-gone, look-del-from, pair-from, pair-this, pair-a, pair-b, none≢some, some-inj}
 
@@ -35,19 +35,19 @@ look-in (y ∷ P) a b x h =
 pub in-num : (x : Pair) (P : List Pair) → In x P → numIn (x .num) P ≡ true
 unfolding numIn
 in-num x P (here {P = Q}) = or-true-left _ (same-refl (x .num))
-in-num x P (there {y = y} {P = Q} i) = or-true (same (x .num) (y .num)) (in-num x Q i)
+in-num x P (there {y = y} {P = Q} i) = or-true (sameNumber (x .num) (y .num)) (in-num x Q i)
 
 pub in-join : (x : Pair) (P : List Pair) → In x P → joinIn (x .join) P ≡ true
 unfolding joinIn
 in-join x P (here {P = Q}) = or-true-left _ (same-refl (x .join))
-in-join x P (there {y = y} {P = Q} i) = or-true (same (x .join) (y .join)) (in-join x Q i)
+in-join x P (there {y = y} {P = Q} i) = or-true (sameNumber (x .join) (y .join)) (in-join x Q i)
 
 -- a number that is open is the number of a member
 pub num-find : (P : List Pair) (r : ℕ) → numIn r P ≡ true → (x : Pair) × In x P × (x .num ≡ r)
 unfolding numIn
 num-find [] r h = absurd (true≢false h refl)
 num-find (y ∷ P) r h =
-    by-bool (same r (y .num)) (λ q. (y, here, sym (eq-of-same r (y .num) q)))
+    by-bool (sameNumber r (y .num)) (λ q. (y, here, sym (eq-of-same r (y .num) q)))
     (λ q. let f = num-find P r (rw q at h) in (f .0, there (f .1), f .2))
 
 look-none-in : (P : List Pair) (a b : ℕ) (x : Pair) → look P a b ≡ none → In x P → pairIs a b x ≡ false
@@ -114,15 +114,15 @@ unfolding look del
 del-none [] a b h = refl
 del-none (x ∷ P) a b h = by-bool (pairIs a b x) (λ q. absurd (none≢some (sym (rw q at h)))) (λ q. rw q (ap (λ (l : List Pair). x ∷ l) (del-none P a b (rw q at h))))
 
-without-none : (o : List ℕ) (P : List Pair) (r : ℕ) → numIn r P ≡ false → without r (map (heldOf o) P) ≡ map (heldOf o) P
-unfolding numIn without heldOf
+without-none : (o : List ℕ) (P : List Pair) (r : ℕ) → numIn r P ≡ false → ringFreed r (map (heldOf o) P) ≡ map (heldOf o) P
+unfolding numIn ringFreed heldOf
 without-none o [] r h = refl
 without-none o (x ∷ P) r h =
     by-eq r (x .num) (λ q. absurd (true≢false (or-true-left _ (same-eq q)) h))
     (λ q. rw (ne-eqb (x .num) r (λ z. q (sym z))) (ap (λ (l : List Held). heldOf o x ∷ l) (without-none o P r (rw (same-ne r (x .num) q) at h))))
 
-pub without-map : (o : List ℕ) (P : List Pair) (a b : ℕ) (x : Pair) → Distinct P → look P a b ≡ some x → without (x .num) (map (heldOf o) P) ≡ map (heldOf o) (del a b P)
-unfolding look without del heldOf
+pub without-map : (o : List ℕ) (P : List Pair) (a b : ℕ) (x : Pair) → Distinct P → look P a b ≡ some x → ringFreed (x .num) (map (heldOf o) P) ≡ map (heldOf o) (del a b P)
+unfolding look ringFreed del heldOf
 without-map o [] a b x g h = refl
 without-map o (y ∷ P) a b x (dcons n u j g) h =
     by-bool (pairIs a b y)
@@ -136,14 +136,14 @@ pub num-del : (P : List Pair) (a b r : ℕ) → numIn r P ≡ false → numIn r 
 unfolding numIn del
 num-del [] a b r h = refl
 num-del (x ∷ P) a b r h =
-    by-bool (same r (x .num)) (λ q. absurd (true≢false (or-true-left _ q) h))
+    by-bool (sameNumber r (x .num)) (λ q. absurd (true≢false (or-true-left _ q) h))
     (λ q. let m : numIn r P ≡ false = rw q at h in by-bool (pairIs a b x) (λ w. rw w (num-del P a b r m)) (λ w. rw (w, q) (num-del P a b r m)))
 
 pub join-del : (P : List Pair) (a b r : ℕ) → joinIn r P ≡ false → joinIn r (del a b P) ≡ false
 unfolding joinIn del
 join-del [] a b r h = refl
 join-del (x ∷ P) a b r h =
-    by-bool (same r (x .join)) (λ q. absurd (true≢false (or-true-left _ q) h))
+    by-bool (sameNumber r (x .join)) (λ q. absurd (true≢false (or-true-left _ q) h))
     (λ q. let m : joinIn r P ≡ false = rw q at h in by-bool (pairIs a b x) (λ w. rw w (join-del P a b r m)) (λ w. rw (w, q) (join-del P a b r m)))
 
 look-del-none : (P : List Pair) (a b c d : ℕ) → look P c d ≡ none → look (del a b P) c d ≡ none
@@ -223,7 +223,7 @@ unfoldable pub isSome : Option Pair → Bool
 isSome none = false
 isSome (some r) = true
 
-pub record Pol (o : List ℕ) (d : ℕ → List Bond) (P : List Pair) : Type 0 where
+pub record Pol (o : List ℕ) (d : ℕ → List BondEntry) (P : List Pair) : Type 0 where
   pub opn : (a b : ℕ) → isSome (look P a b) ≡ hasT b (d a) && not (hasT a (d b))
   pub good : Distinct P
   pub froms : Froms o P
@@ -234,34 +234,34 @@ is-none none h = refl
 is-none (some r) h = absurd (true≢false refl h)
 
 -- an entry that is ahead opens nothing
-pub shut : {o : List ℕ} {d : ℕ → List Bond} {P : List Pair} → Pol o d P → (a b : ℕ) → hasT b (d a) ≡ false → look P a b ≡ none
+pub shut : {o : List ℕ} {d : ℕ → List BondEntry} {P : List Pair} → Pol o d P → (a b : ℕ) → hasT b (d a) ≡ false → look P a b ≡ none
 shut {P = P} K a b h = is-none (look P a b) (K .opn a b ∙ rw h)
 
 -- an open pair's entry is behind
-pub opened-has : {o : List ℕ} {d : ℕ → List Bond} {P : List Pair} → Pol o d P → (a b : ℕ) (x : Pair) → look P a b ≡ some x → hasT b (d a) ≡ true
+pub opened-has : {o : List ℕ} {d : ℕ → List BondEntry} {P : List Pair} → Pol o d P → (a b : ℕ) (x : Pair) → look P a b ≡ some x → hasT b (d a) ≡ true
 unfolding isSome
 opened-has {d = d} K a b x h = and-left (hasT b (d a)) _ (sym (K .opn a b) ∙ rw h)
 
 -- an entry that is ahead, towards an atom that opened nothing: the other entry is ahead too
-pub both-ahead : {o : List ℕ} {d : ℕ → List Bond} {P : List Pair} → Pol o d P → (a b : ℕ) → hasT b (d a) ≡ false → look P b a ≡ none → hasT a (d b) ≡ false
+pub both-ahead : {o : List ℕ} {d : ℕ → List BondEntry} {P : List Pair} → Pol o d P → (a b : ℕ) → hasT b (d a) ≡ false → look P b a ≡ none → hasT a (d b) ≡ false
 unfolding isSome
 both-ahead {d = d} K a b h l =
     by-bool (hasT a (d b)) (λ q. absurd (true≢false {b = true} refl (let z = K .opn b a in let y : false ≡ true && not false = rw (l, q, h) at z in sym y))) (λ q. q)
 
-pub hasT-app : (x : ℕ) (l m : List Bond) → hasT x (l ++ m) ≡ hasT x l || hasT x m
+pub hasT-app : (x : ℕ) (l m : List BondEntry) → hasT x (l ++ m) ≡ hasT x l || hasT x m
 unfolding hasT
 hasT-app x [] m = refl
-hasT-app x (e ∷ l) m = rw (hasT-app x l m) (or-assoc (same x (e .to)) (hasT x l) (hasT x m))
+hasT-app x (e ∷ l) m = rw (hasT-app x l m) (or-assoc (sameNumber x (e .to)) (hasT x l) (hasT x m))
   where
     or-assoc : (a b c : Bool) → a || (b || c) ≡ a || b || c
     or-assoc true b c = refl
     or-assoc false b c = refl
 
-pub hasT-push : (s : ℕ) (e : Bond) (d : ℕ → List Bond) (x : ℕ) → hasT x (push s e d s) ≡ hasT x (d s) || same x (e .to)
+pub hasT-push : (s : ℕ) (e : BondEntry) (d : ℕ → List BondEntry) (x : ℕ) → hasT x (push s e d s) ≡ hasT x (d s) || sameNumber x (e .to)
 unfolding hasT
-hasT-push s e d x = rw (push-same s e d) (hasT-app x (d s) (e ∷ []) ∙ ap (λ (b : Bool). hasT x (d s) || b) (or-false (same x (e .to))))
+hasT-push s e d x = rw (push-same s e d) (hasT-app x (d s) (e ∷ []) ∙ ap (λ (b : Bool). hasT x (d s) || b) (or-false (sameNumber x (e .to))))
 
-module _ (s : ℕ) (e : Bond) (d : ℕ → List Bond) where
+module _ (s : ℕ) (e : BondEntry) (d : ℕ → List BondEntry) where
   pub push-has : hasT (e .to) (push s e d s) ≡ true
   push-has = hasT-push s e d (e .to) ∙ or-true (hasT (e .to) (d s)) (same-refl (e .to))
 
@@ -279,13 +279,13 @@ by-pair a b s t f g h =
     (λ p. by-eq b t (λ q. f p q) (λ q. by-eq a t (λ u. by-eq b s (λ w. g u w) (λ w. h (λ x y. q y) (λ x y. w y))) (λ u. h (λ x y. q y) (λ x y. u x))))
     (λ p. by-eq a t (λ u. by-eq b s (λ w. g u w) (λ w. h (λ x y. p x) (λ x y. w y))) (λ u. h (λ x y. p x) (λ x y. u x)))
 
-module _ (s : ℕ) (e : Bond) (o : List ℕ) (d : ℕ → List Bond) (P : List Pair) (K : Pol o d P) (fresh : hasT (e .to) (d s) ≡ false) (apart : s ≢ e .to) where
+module _ (s : ℕ) (e : BondEntry) (o : List ℕ) (d : ℕ → List BondEntry) (P : List Pair) (K : Pol o d P) (fresh : hasT (e .to) (d s) ≡ false) (apart : s ≢ e .to) where
   -- a new atom
-  pub pol-extend : (back : Bond) → back .to ≡ s → d (e .to) ≡ [] → Pol (o ++ (e .to ∷ [])) (push (e .to) back (push s e d)) P
+  pub pol-extend : (back : BondEntry) → back .to ≡ s → d (e .to) ≡ [] → Pol (o ++ (e .to ∷ [])) (push (e .to) back (push s e d)) P
   unfolding isSome hasT
   pol-extend back bs u =
       let t : ℕ = e .to in
-      let d1 : ℕ → List Bond = push s e d in
+      let d1 : ℕ → List BondEntry = push s e d in
       let hst : hasT s (push t back d1 t) ≡ true = subst (λ (z : ℕ). hasT z (push t back d1 t) ≡ true) bs (push-has t back d1) in
       let hts : hasT t (push t back d1 s) ≡ true = rw (push-other t back d1 s apart) (push-has s e d) in
       record {
@@ -299,11 +299,11 @@ module _ (s : ℕ) (e : Bond) (o : List ℕ) (d : ℕ → List Bond) (P : List P
 
   -- a number for a new pair
   open-opn : (r j : ℕ) → look P (e .to) s ≡ none → (a b : ℕ)
-      → isSome (look (pair s (e .to) r j ∷ P) a b) ≡ hasT b (push s e d a) && not (hasT a (push s e d b))
+      → isSome (look (ringPair s (e .to) r j ∷ P) a b) ≡ hasT b (push s e d a) && not (hasT a (push s e d b))
   unfolding isSome
   open-opn r j l a b =
       let t : ℕ = e .to in
-      let n : Pair = pair s t r j in
+      let n : Pair = ringPair s t r j in
       let ts : hasT s (push s e d t) ≡ false = push-skip s e d t s (λ x y. apart y) ∙ both-ahead K s t fresh l in
       by-pair a b s t
       (λ p q. rw (p, q) (rw (look-here n P s t (pair-this s t n refl refl), push-has s e d, ts)))
@@ -311,7 +311,7 @@ module _ (s : ℕ) (e : Bond) (o : List ℕ) (d : ℕ → List Bond) (P : List P
       (λ p q. rw (look-skip n P a b (pair-no a b n p), push-skip s e d a b p, push-skip s e d b a (λ x y. q y x)) (K .opn a b))
 
   pub pol-open : (r j : ℕ) → memb s o ≡ true → look P (e .to) s ≡ none → numIn r P ≡ false → joinIn j P ≡ false
-      → Pol o (push s e d) (pair s (e .to) r j ∷ P)
+      → Pol o (push s e d) (ringPair s (e .to) r j ∷ P)
   pol-open r j ms l nr nj =
       record {
         opn = open-opn r j l;

@@ -16,9 +16,9 @@ use Rattle.feature.specs.declared.bond_kind.Reconciled.the-variants.{Both, Fail
 use Rattle.builder.specs.State.{atomRoom, bondRoom}
 use Rattle.read_line.specs.declared.lead.Lead.{Lead}
 use Rattle.read_line.specs.declared.lead.Lead.the-variants.{Dot, Bond}
-use Rattle.read_line.specs.Events.{Event, Enter, Join, Pop, Miss, Nest}
-use Rattle.builder_meaning.specs.Sketch.{Sketch, Held, Failure, None, Failed, refused, numberOf, countOf, rootS, extendS, bondedS, openedS, closedS, ringS, joinS, enterS, numberS, stepS, runS, lookup}
-use Rattle.trip_graph.specs.Renumber.{unplaced}
+use Rattle.read_line.specs.Events.{ReadEvent, Enter, Join, Pop, Miss, Nest}
+use Rattle.builder_meaning.specs.Sketch.{Sketch, Held, Failure, None, Failed, refused, nextNumber, countOf, rootS, extendS, bondedS, openedS, closedS, ringS, joinS, enterS, numberS, stepS, runS, lookup}
+use Rattle.trip_graph.specs.Renumber.{placeless}
 use Rattle.trip_graph.proofs.Lists.{by-bool}
 use Rattle.trip_graph.proofs.Follows.{run-refused}
 
@@ -29,13 +29,13 @@ pick-same false x x′ y y′ h f e = f e
 
 root-same : (d : Sketch) (k : AtomKind) (p : ℕ) → rootS d k 0 .refusal ≡ 0 → rootS d k p ≡ rootS d k 0
 unfolding rootS
-root-same d k p = pick-same (leb (d .places) (numberOf d)) (refused d atomRoom p) (refused d atomRoom 0) _ _ (λ z. omega arith) (λ z. refl)
+root-same d k p = pick-same (leb (d .places) (nextNumber d)) (refused d atomRoom p) (refused d atomRoom 0) _ _ (λ z. omega arith) (λ z. refl)
 
 extend-same : (d : Sketch) (e : BondKind) (k : AtomKind) (p : ℕ) (path : List ℕ) → extendS d e k 0 path .refusal ≡ 0 → extendS d e k p path ≡ extendS d e k 0 path
 unfolding extendS
 extend-same d e k p [] = λ z. refl
 extend-same d e k p (s ∷ rest) =
-    pick-same (leb (d .places) (numberOf d)) (refused d atomRoom p) (refused d atomRoom 0)
+    pick-same (leb (d .places) (nextNumber d)) (refused d atomRoom p) (refused d atomRoom 0)
     (pick (ltb (d .slots) (countOf (d .nodes) + 2)) (refused d bondRoom p) (bondedS d e s (invertOf k)))
     (pick (ltb (d .slots) (countOf (d .nodes) + 2)) (refused d bondRoom 0) (bondedS d e s (invertOf k)))
     (λ z. omega arith)
@@ -70,8 +70,8 @@ unfolding numberS
 number-same d e n p None = join-same d e n p (d .path)
 number-same d e n p (Failed x y) = λ z. refl
 
-step-same : (d : Sketch) (e : Event) → stepS d (unplaced e) .refusal ≡ 0 → stepS d e ≡ stepS d (unplaced e)
-unfolding stepS unplaced
+step-same : (d : Sketch) (e : ReadEvent) → stepS d (placeless e) .refusal ≡ 0 → stepS d e ≡ stepS d (placeless e)
+unfolding stepS placeless
 step-same d (Enter l k p) = enter-same d l k p (d .failure)
 step-same d (Join e n p) = number-same d e n p (d .failure)
 step-same d (Pop n) = λ z. refl
@@ -79,14 +79,14 @@ step-same d (Miss m) = λ z. refl
 step-same d (Nest p) = λ z. refl
 
 -- what is not refused at the end was not refused before
-fine-before : (d : Sketch) (es : List Event) → runS d es .refusal ≡ 0 → d .refusal ≡ 0
+fine-before : (d : Sketch) (es : List ReadEvent) → runS d es .refusal ≡ 0 → d .refusal ≡ 0
 fine-before d es h =
     by-bool (eqb (d .refusal) 0) (λ q. eqb-true (d .refusal) 0 q) (λ q. ap (λ (c : Sketch). c .refusal) (sym (run-refused d es q)) ∙ h)
 
-pub places-free : (d : Sketch) (es : List Event) → runS d (map unplaced es) .refusal ≡ 0 → runS d es ≡ runS d (map unplaced es)
+pub places-free : (d : Sketch) (es : List ReadEvent) → runS d (map placeless es) .refusal ≡ 0 → runS d es ≡ runS d (map placeless es)
 unfolding runS
 places-free d [] = λ h. refl
 places-free d (e ∷ es) =
     by-bool (eqb (d .refusal) 0)
-    (λ q. rw q (λ h. let s = step-same d e (fine-before (stepS d (unplaced e)) (map unplaced es) h) in rw s (places-free (stepS d (unplaced e)) es h)))
+    (λ q. rw q (λ h. let s = step-same d e (fine-before (stepS d (placeless e)) (map placeless es) h) in rw s (places-free (stepS d (placeless e)) es h)))
     (λ q. rw q (λ h. refl))

@@ -14,9 +14,9 @@ use borrow.Author.Tests.{eq-eqb, ne-eqb, eqb-true, lt-ltb, le-ltb, ltb-true, ltb
 use Rattle.feature.specs.Pick.{pick, both}
 use Rattle.join_pool.specs.declared.Pool.{Pool}
 use Rattle.join_pool.specs.declared.Given.the-variants.{Number}
-use Rattle.join_pool.specs.Pairs.{highest, slotWords, pool, opens, numberOf, slot, grown, counterOf, nextOf, hits, openOf, closeOf, calledOf, pairOf, hitOf}
+use Rattle.join_pool.specs.Pairs.{highest, slotWords, pool, opens, openNumber, slot, counterNext, counterOf, nextOf, hits, openOf, closeOf, openOrClose, hitPair, hitOf}
 use Rattle.walk_laws.proofs.Sums.{zeros-at}
-use Rattle.trip_graph.specs.Opened.{same, Pair, pair, pairIs, look, del, numIn, Distinct, Opens, full, number, Serves}
+use Rattle.trip_graph.specs.Opened.{sameNumber, Pair, ringPair, pairIs, look, del, numIn, Distinct, Opens, full, number, Serves}
 use Rattle.trip_graph.proofs.Lists.{same-eq, same-ne, eq-of-same, true≢false, by-eq, by-bool, or-true-left, or-elim}
 use Rattle.trip_graph.proofs.View.{some-inj, pair-a, pair-b}
 use Rattle.trip_graph.proofs.Opens.{In, in-case, look-in, in-num, num-find, no-member, in-look, in-del, in-kept, num-gone, num-del-true}
@@ -28,7 +28,7 @@ loOf a b = pick (ltb a b) a b
 hiOf : ℕ → ℕ → ℕ
 hiOf a b = pick (ltb a b) b a
 
-hit-is : (p : Pool) (pairs : List ℕ) (a b : ℕ) → hitOf p pairs a b ≡ pairOf p pairs (loOf a b) (hiOf a b)
+hit-is : (p : Pool) (pairs : List ℕ) (a b : ℕ) → hitOf p pairs a b ≡ hitPair p pairs (loOf a b) (hiOf a b)
 unfolding hitOf loOf hiOf
 hit-is p pairs a b = by-bool (ltb a b) (λ q. rw q) (λ q. rw q)
 
@@ -132,21 +132,21 @@ slot-kept pairs n v lo hi x ne s =
 
 -- ---- the search
 module _ (pairs : List ℕ) (lo hi : ℕ) where
-  search-none : (n : ℕ) → ((m : ℕ) → opens pairs m lo hi ≡ true → ⊥) → numberOf pairs lo hi n ≡ 0
-  unfolding numberOf
+  search-none : (n : ℕ) → ((m : ℕ) → opens pairs m lo hi ≡ true → ⊥) → openNumber pairs lo hi n ≡ 0
+  unfolding openNumber
   search-none zero h = refl
   search-none (suc n) h = by-bool (opens pairs (suc n) lo hi) (λ q. absurd (h (suc n) q)) (λ q. rw q (search-none n h))
 
-  search-is : (r n : ℕ) → 1 ≤ r → r ≤ n → opens pairs r lo hi ≡ true → ((m : ℕ) → opens pairs m lo hi ≡ true → m ≡ r) → numberOf pairs lo hi n ≡ r
-  unfolding numberOf
+  search-is : (r n : ℕ) → 1 ≤ r → r ≤ n → opens pairs r lo hi ≡ true → ((m : ℕ) → opens pairs m lo hi ≡ true → m ≡ r) → openNumber pairs lo hi n ≡ r
+  unfolding openNumber
   search-is r zero l h o u = absurd (omega arith)
   search-is r (suc n) l h o u =
       by-bool (opens pairs (suc n) lo hi) (λ q. rw q (u (suc n) q))
       (λ q. rw q (search-is r n l (by-eq r (suc n) (λ e. absurd (true≢false o (rw e q))) (λ e. omega arith)) o u))
 
 -- ---- the counter
-grown-range : (c : ℕ) → c ≤ 100 → (c ≤ grown c) × (grown c ≤ 100) × (c ≤ 99 → c < grown c)
-unfolding grown
+grown-range : (c : ℕ) → c ≤ 100 → (c ≤ counterNext c) × (counterNext c ≤ 100) × (c ≤ 99 → c < counterNext c)
+unfolding counterNext
 grown-range c h =
     by-bool (ltb highest c) (λ q. rw q (omega arith, h, λ z. absurd (omega (arith, ltb-true highest c q))))
     (λ q. rw q (omega arith, omega (arith, ltb-false highest c q), λ z. omega arith))
@@ -204,7 +204,7 @@ module _ (p : Pool) (pairs : List ℕ) (P : List Pair) (H : Holds p pairs P) (g 
           (λ e f. absurd (no-member P s t y l′ i (sym e) (sym f)))
           (λ e f. some-inj (sym (in-look P y t s g i (sym e) (sym f)) ∙ l))
 
-      found-x : numberOf pairs (loOf s t) (hiOf s t) (p .counter) ≡ x .num
+      found-x : openNumber pairs (loOf s t) (hiOf s t) (p .counter) ≡ x .num
       found-x =
           let f = look-in P t s x l in
           let b = H .below (x .num) (in-num x P (f .member)) in
@@ -216,7 +216,7 @@ module _ (p : Pool) (pairs : List ℕ) (P : List Pair) (H : Holds p pairs P) (g 
           (λ m o. let k = opened m (loOf s t) (hiOf s t) o in sym (k .is) ∙ ap (λ (y : Pair). y .num) (is-x (k .it) (k .member) (k .lower) (k .higher)))
 
       close-is : hitOf p pairs s t ≡ hits (Number (pool (counterOf p) (x .num)) (x .num)) (slot pairs (x .num) 0 0 0)
-      unfolding pairOf calledOf closeOf
+      unfolding hitPair openOrClose closeOf
       close-is =
           let f = look-in P t s x l in
           let b = H .below (x .num) (in-num x P (f .member)) in
@@ -253,7 +253,7 @@ module _ (p : Pool) (pairs : List ℕ) (P : List Pair) (H : Holds p pairs P) (g 
 
     -- where it is not
     module _ (l : look P t s ≡ none) (l′ : look P s t ≡ none) where
-      found-none : numberOf pairs (loOf s t) (hiOf s t) (p .counter) ≡ 0
+      found-none : openNumber pairs (loOf s t) (hiOf s t) (p .counter) ≡ 0
       found-none =
           search-none pairs (loOf s t) (hiOf s t) (p .counter)
           (λ m o. let k = opened m (loOf s t) (hiOf s t) o in
@@ -261,7 +261,7 @@ module _ (p : Pool) (pairs : List ℕ) (P : List Pair) (H : Holds p pairs P) (g 
           (λ e f. no-member P s t (k .it) l′ (k .member) (sym e) (sym f))
           (λ e f. no-member P t s (k .it) l (k .member) (sym e) (sym f)))
 
-      open-holds : nextOf p ≤ 99 → (j : ℕ) → Holds (pool (counterOf p) 0) (slot pairs (nextOf p) 1 (loOf s t) (hiOf s t)) (pair s t (nextOf p) j ∷ P)
+      open-holds : nextOf p ≤ 99 → (j : ℕ) → Holds (pool (counterOf p) 0) (slot pairs (nextOf p) 1 (loOf s t) (hiOf s t)) (ringPair s t (nextOf p) j ∷ P)
       unfolding numIn
       open-holds h j =
           let c = counter-range p (H .high) in
@@ -286,14 +286,14 @@ module _ (p : Pool) (pairs : List ℕ) (P : List Pair) (H : Holds p pairs P) (g 
                 (λ e. absurd (true≢false (or-true-left _ (same-eq e)) k))
                 (λ e. slot-away pairs n 1 (loOf s t) (hiOf s t) (m * slotWords) (λ z. e (omega arith)) (λ z. omega arith) (λ z. omega arith)
                 ∙ H .free m (rw (same-ne m (nextOf p) e) at k));
-            below = λ m k. or-elim (same m (nextOf p)) (numIn m P) k
+            below = λ m k. or-elim (sameNumber m (nextOf p)) (numIn m P) k
                 (λ q. let e : m ≡ nextOf p = eq-of-same m (nextOf p) q in (omega (arith, nf .1), omega arith))
                 (λ q. let a = H .below m q in (a .0, omega (arith, c .0)));
             spare = λ z. absurd (z refl);
           }
 
       open-is : Opens Holds p pairs P s t
-      unfolding pairOf calledOf openOf
+      unfolding hitPair openOrClose openOf
       open-is =
           by-bool (ltb highest (nextOf p))
           (λ q. full pairs (hit-is p pairs s t ∙ rw (found-none, q)))

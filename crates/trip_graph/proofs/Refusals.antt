@@ -13,10 +13,10 @@ use Rattle.feature.specs.Pick.{both}
 use Rattle.join_pool.specs.declared.Given.{Given}
 use Rattle.join_pool.specs.declared.Given.the-variants.{Number, Full}
 use Rattle.walk_entry.specs.declared.entry.Way.{Way}
-use Rattle.walk_entry.specs.Graph.{Bond, Graph, kindAt, degreeAt, bondOf}
+use Rattle.walk_entry.specs.Graph.{BondEntry, Graph, kindAt, degreeAt, bondOf}
 use Rattle.walk_entry.specs.Ways.{isFixed, even, inversion}
 use Rattle.walk.specs.declared.walker.Walker.{Walker}
-use Rattle.walk.specs.Walk.{Walk, Turn, quiet, moved, tookAt, leftIn, rootOf, leaveOf, numberedOf, ringOf, enteredOf, enterOf, bondTurn, entryOf, atomOf, turnOf, stepOf, walkTo, unknownTarget, ringNumbers}
+use Rattle.walk.specs.Walk.{Walk, Turn, quiet, withWalker, tookAt, leftIn, rootTurn, leaveOf, numberedOf, ringTurn, enteredOf, enterTurn, bondTurn, entryTurn, atomOf, turnOf, stepOf, walkTo, unknownTarget, ringNumbers}
 use Rattle.walk_laws.specs.Trek.{Room, fresh}
 use Rattle.feature.proofs.Cases.{by-test}
 use Rattle.walk_laws.proofs.Moves.{turn-moves}
@@ -42,8 +42,8 @@ module _ (g : Graph) (W : Simple g) (w : Walk) (dep : ℕ) (snd : Sound g w dep)
   abbrev O : Turn → Type 0
   O x = Only g (x .after .at .refusal)
 
-  root-only : O (rootOf g w)
-  unfolding rootOf
+  root-only : O (rootTurn g w)
+  unfolding rootTurn
   root-only =
       by-test O (leb (g .size) (w .at .next)) (λ q. none fine)
       (λ q. by-test O (eqb (getD (w .met) (w .at .next) 0) 0) (λ z. none fine) (λ z. none fine))
@@ -51,7 +51,7 @@ module _ (g : Graph) (W : Simple g) (w : Walk) (dep : ℕ) (snd : Sound g w dep)
   left-only : O (leaveOf g w (w .at .here))
   unfolding leftIn
   left-only =
-      by-test (λ (z : Walker). O (quiet (moved w z))) (eqb (getD (w .back) (w .at .here) 0) 0) (λ q. none fine) (λ q. none fine)
+      by-test (λ (z : Walker). O (quiet (withWalker w z))) (eqb (getD (w .back) (w .at .here) 0) 0) (λ q. none fine) (λ q. none fine)
 
   module _ (r : w .at .standing ≡ true) (more : getD (w .taken) (w .at .here) 0 < degreeAt g (w .at .here)) where
     abbrev s0 : ℕ
@@ -60,7 +60,7 @@ module _ (g : Graph) (W : Simple g) (w : Walk) (dep : ℕ) (snd : Sound g w dep)
     abbrev i0 : ℕ
     i0 = getD (w .taken) s0 0
 
-    abbrev e0 : Bond
+    abbrev e0 : BondEntry
     e0 = bondOf g s0 i0
 
     hs : s0 < g .size
@@ -71,8 +71,8 @@ module _ (g : Graph) (W : Simple g) (w : Walk) (dep : ℕ) (snd : Sound g w dep)
     given-only Full pairs = numbers refl
     given-only (Number p n) pairs = none fine
 
-    enter-only : e0 .to < g .size → O (enterOf g (tookAt w s0 i0) (e0 .kind) s0 (e0 .to))
-    unfolding enterOf enteredOf
+    enter-only : e0 .to < g .size → O (enterTurn g (tookAt w s0 i0) (e0 .kind) s0 (e0 .to))
+    unfolding enterTurn enteredOf
     enter-only ht =
         let k = W .backed s0 i0 hs more in
         subst (λ (y : Way). O (enteredOf g (tookAt w s0 i0) (e0 .kind) (e0 .to) y)) (sym (way-is g W s0 i0 (e0 .to) ht refl k))
@@ -80,14 +80,14 @@ module _ (g : Graph) (W : Simple g) (w : Walk) (dep : ℕ) (snd : Sound g w dep)
         (λ q. mark refl (e0 .to) ht (both-left _ _ q)) (λ q. none fine))
 
     bond-only : O (bondTurn g (tookAt w s0 i0) s0 e0)
-    unfolding bondTurn ringOf
+    unfolding bondTurn ringTurn
     bond-only =
         by-test O (leb (g .size) (e0 .to)) (λ z. unknown refl s0 i0 hs more (leb-true (g .size) (e0 .to) z))
         (λ z. by-test O (eqb (e0 .to) s0) (λ y. absurd (W .apart s0 i0 hs more (eqb-true _ _ y)))
         (λ y. by-test O (eqb (getD (w .met) (e0 .to) 0) 0) (λ x. enter-only (leb-false _ _ z)) (λ x. given-only _ _)))
 
-    entry-only : O (entryOf g w s0 i0)
-    unfolding entryOf
+    entry-only : O (entryTurn g w s0 i0)
+    unfolding entryTurn
     entry-only = by-test O (eqb (getD (w .back) s0 0) (i0 + 1)) (λ z. none fine) (λ z. bond-only)
 
   turn-only : O (turnOf g w)

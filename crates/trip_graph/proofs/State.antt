@@ -13,11 +13,11 @@ use Rattle.feature.specs.Pick.{pick}
 use Rattle.feature.specs.Bonds.{reverseOf}
 use Rattle.feature.specs.declared.atom_kind.AtomKind.{AtomKind}
 use Rattle.join_pool.specs.declared.Pool.{Pool}
-use Rattle.walk_entry.specs.Graph.{Bond, Graph, kindAt, degreeAt, bondIn, bondOf, bond}
+use Rattle.walk_entry.specs.Graph.{BondEntry, Graph, kindAt, degreeAt, bondIn, bondOf, entryTo}
 use Rattle.walk.specs.declared.walker.Walker.{Walker}
-use Rattle.walk.specs.Walk.{Walk, passed, backAt, atEnd, ringed, moved, pooled, metAt, tookAt}
+use Rattle.walk.specs.Walk.{Walk, rootPassed, backAt, atEnd, ringSaid, withWalker, pooled, metAt, tookAt}
 use Rattle.walk_laws.proofs.Moves.{parentOf}
-use Rattle.trip_graph.specs.Opened.{same}
+use Rattle.trip_graph.specs.Opened.{sameNumber}
 use Rattle.trip_graph.specs.Renumber.{Backed, Simple}
 use Rattle.trip_graph.specs.Renumbered.{doneOf, firstAtoms}
 use Rattle.trip_graph.specs.Marks.{backKind}
@@ -28,7 +28,7 @@ use Rattle.trip_graph.proofs.Entries.{done-step, done-pass, done-nothin
 use Rattle.trip_graph.proofs.Follows.{Entry}
 
 -- the entries behind the walk, and the kinds that come back
-unfoldable pub doneIn : Graph → List ℕ → List ℕ → ℕ → List Bond
+unfoldable pub doneIn : Graph → List ℕ → List ℕ → ℕ → List BondEntry
 doneIn g back taken v = doneOf g v (getD back v 0) (getD taken v 0)
 
 unfoldable pub kindBy : Graph → List ℕ → ℕ → AtomKind
@@ -142,12 +142,12 @@ root-done g back taken i rb h = fun-ext (λ v. by-eq v i
     (λ e. ap (λ (b : ℕ). doneOf g v b (getD taken v 0)) (getD-set-other back i v 0 0 e)))
 
 -- a new atom has its parent's
-pub enter-done : (g : Graph) (back taken : List ℕ) (t b : ℕ) (e : Bond) → t < length back → getD back t 0 ≡ 0 → getD taken t 0 ≡ 0 → b ≢ 0 → bondOf g t (b - 1) ≡ e
+pub enter-done : (g : Graph) (back taken : List ℕ) (t b : ℕ) (e : BondEntry) → t < length back → getD back t 0 ≡ 0 → getD taken t 0 ≡ 0 → b ≢ 0 → bondOf g t (b - 1) ≡ e
     → doneIn g (set back t b) taken ≡ push t e (doneIn g back taken)
 unfolding doneIn
 enter-done g back taken t b x rb h k nb q = fun-ext (λ v. by-eq v t
-    (λ e. rw e (ap₂ (doneOf g t) (getD-set-same back t b 0 rb) k ∙ done-parent g t b nb ∙ ap (λ (y : Bond). y ∷ []) q
-    ∙ sym (push-same t x (λ v. doneOf g v (getD back v 0) (getD taken v 0)) ∙ ap (λ (l : List Bond). l ++ (x ∷ [])) (ap₂ (doneOf g t) h k ∙ done-nothing g t))))
+    (λ e. rw e (ap₂ (doneOf g t) (getD-set-same back t b 0 rb) k ∙ done-parent g t b nb ∙ ap (λ (y : BondEntry). y ∷ []) q
+    ∙ sym (push-same t x (λ v. doneOf g v (getD back v 0) (getD taken v 0)) ∙ ap (λ (l : List BondEntry). l ++ (x ∷ [])) (ap₂ (doneOf g t) h k ∙ done-nothing g t))))
     (λ e. ap (λ (b : ℕ). doneOf g v b (getD taken v 0)) (getD-set-other back t v b 0 e)
     ∙ sym (push-other t x (λ v. doneOf g v (getD back v 0) (getD taken v 0)) v e)))
 
@@ -159,7 +159,7 @@ order-kept walked i v (suc n) h =
 
 -- ---- the changes
 module _ {g : Graph} {w : Walk} {o fr : List ℕ} (S : Sta g w o fr) where
-  pub sta-skip : Sta g (moved w (passed (w .at))) o fr
+  pub sta-skip : Sta g (withWalker w (rootPassed (w .at))) o fr
   sta-skip =
       record {
         nod = S .nod;
@@ -180,7 +180,7 @@ module _ {g : Graph} {w : Walk} {o fr : List ℕ} (S : Sta g w o fr) where
       }
 
   pub sta-ends : w .at .standing ≡ true → getD (w .back) (w .at .here) 0 ≡ 0 → degreeAt g (w .at .here) ≤ getD (w .taken) (w .at .here) 0
-      → Sta g (moved w (atEnd (w .at))) o []
+      → Sta g (withWalker w (atEnd (w .at))) o []
   unfolding memb
   sta-ends r z h =
       let e : fr ≡ w .at .here ∷ [] = line-root (S .line r) z in
@@ -203,7 +203,7 @@ module _ {g : Graph} {w : Walk} {o fr : List ℕ} (S : Sta g w o fr) where
       }
 
   pub sta-leaves : w .at .standing ≡ true → (n : getD (w .back) (w .at .here) 0 ≢ 0) → (A : Above g (w .back) (w .at .here) fr) → degreeAt g (w .at .here) ≤ getD (w .taken) (w .at .here) 0
-      → Sta g (moved w (backAt (w .at) (parentOf g (w .back) (w .at .here)))) o (A .rest)
+      → Sta g (withWalker w (backAt (w .at) (parentOf g (w .back) (w .at .here)))) o (A .rest)
   unfolding memb
   sta-leaves r n A h =
       record {
@@ -252,7 +252,7 @@ module _ {g : Graph} {w : Walk} {o fr : List ℕ} (S : Sta g w o fr) where
           small = S .small;
           unback = S .unback;
           untaken = untaken-next;
-          seen = subst (λ (d : ℕ → List Bond). (v x : ℕ) → hasT x (d v) ≡ true → memb x o ≡ true) (sym (pass-done g (w .back) (w .taken) (w .at .here) rt e)) (S .seen);
+          seen = subst (λ (d : ℕ → List BondEntry). (v x : ℕ) → hasT x (d v) ≡ true → memb x o ≡ true) (sym (pass-done g (w .back) (w .taken) (w .at .here) rt e)) (S .seen);
           backs = S .backs;
           takes = takes-next;
           left = left-next;
@@ -276,14 +276,14 @@ module _ {g : Graph} {w : Walk} {o fr : List ℕ} (S : Sta g w o fr) where
           → (v x : ℕ) → hasT x (push (w .at .here) (bondOf g (w .at .here) (getD (w .taken) (w .at .here) 0)) (doneIn g (w .back) (w .taken)) v) ≡ true → memb x o′ ≡ true
       seen-push o′ inc mt v x h =
           let s : ℕ = w .at .here in
-          let e : Bond = bondOf g s (getD (w .taken) s 0) in
-          let d : ℕ → List Bond = doneIn g (w .back) (w .taken) in
+          let e : BondEntry = bondOf g s (getD (w .taken) s 0) in
+          let d : ℕ → List BondEntry = doneIn g (w .back) (w .taken) in
           by-eq v s
-          (λ q. or-elim (hasT x (d s)) (same x (e .to)) (sym (hasT-push s e d x) ∙ (rw q at h)) (λ z. inc x (S .seen s x z)) (λ z. rw (eq-of-same x (e .to) z) mt))
+          (λ q. or-elim (hasT x (d s)) (sameNumber x (e .to)) (sym (hasT-push s e d x) ∙ (rw q at h)) (λ z. inc x (S .seen s x z)) (λ z. rw (eq-of-same x (e .to) z) mt))
           (λ q. inc x (S .seen v x (rw (push-other s e d v q) at h)))
 
       pub sta-joins : (pairs : List ℕ) (p : Pool) → memb (bondOf g (w .at .here) (getD (w .taken) (w .at .here) 0) .to) o ≡ true
-          → Sta g (moved (pooled (tookAt w (w .at .here) (getD (w .taken) (w .at .here) 0)) pairs) (ringed (w .at) p)) o fr
+          → Sta g (withWalker (pooled (tookAt w (w .at .here) (getD (w .taken) (w .at .here) 0)) pairs) (ringSaid (w .at) p)) o fr
       sta-joins pairs p mt =
           record {
             nod = S .nod;
@@ -294,7 +294,7 @@ module _ {g : Graph} {w : Walk} {o fr : List ℕ} (S : Sta g w o fr) where
             small = S .small;
             unback = S .unback;
             untaken = untaken-next;
-            seen = subst (λ (d : ℕ → List Bond). (v x : ℕ) → hasT x (d v) ≡ true → memb x o ≡ true) (sym (took-done g (w .back) (w .taken) (w .at .here) rt apart)) (seen-push o (λ x m. m) mt);
+            seen = subst (λ (d : ℕ → List BondEntry). (v x : ℕ) → hasT x (d v) ≡ true → memb x o ≡ true) (sym (took-done g (w .back) (w .taken) (w .at .here) rt apart)) (seen-push o (λ x m. m) mt);
             backs = S .backs;
             takes = takes-next;
             left = left-next;
@@ -352,7 +352,7 @@ module _ {g : Graph} {w : Walk} {o fr : List ℕ} (S : Sta g w o fr) where
           small = small-next;
           unback = unback-next 0;
           untaken = λ v m. S .untaken v (sym (memb-old v t o (not-new v t o m)) ∙ m);
-          seen = subst (λ (d : ℕ → List Bond). (v x : ℕ) → hasT x (d v) ≡ true → memb x (o ++ (t ∷ [])) ≡ true) (sym (root-done g (w .back) (w .taken) t rb (S .unback t mt))) (λ v x h. memb-left x t o (S .seen v x h));
+          seen = subst (λ (d : ℕ → List BondEntry). (v x : ℕ) → hasT x (d v) ≡ true → memb x (o ++ (t ∷ [])) ≡ true) (sym (root-done g (w .back) (w .taken) t rb (S .unback t mt))) (λ v x h. memb-left x t o (S .seen v x h));
           backs = backs-next 0 (omega arith);
           takes = S .takes;
           left = λ v m k. by-eq v t (λ q. absurd (true≢false (memb-here [] q) k)) (λ q. S .left v (sym (memb-old v t o q) ∙ m) (rw e refl));
@@ -368,25 +368,25 @@ module _ {g : Graph} {w : Walk} {o fr : List ℕ} (S : Sta g w o fr)
     (t : ℕ) (to : bondOf g (w .at .here) (getD (w .taken) (w .at .here) 0) .to ≡ t) (ht : t < g .size)
     (rm : t < length (w .met)) (rb : t < length (w .back)) (mt : memb t o ≡ false) (few : length o < g .size)
     (k : Backed g (w .at .here) t (bondOf g (w .at .here) (getD (w .taken) (w .at .here) 0))) where
-  back-bond : bondOf g t (suc (k .place) - 1) ≡ bond (reverseOf (bondOf g (w .at .here) (getD (w .taken) (w .at .here) 0) .kind)) (w .at .here)
+  back-bond : bondOf g t (suc (k .place) - 1) ≡ entryTo (reverseOf (bondOf g (w .at .here) (getD (w .taken) (w .at .here) 0) .kind)) (w .at .here)
   back-bond =
       let z : suc (k .place) - 1 ≡ k .place = omega arith in
       ap (bondOf g t) z ∙ (λ i. record { kind = k .reversed i; to = k .leads i })
 
   pub entered-done : doneIn g (set (w .back) t (suc (k .place))) (set (w .taken) (w .at .here) (getD (w .taken) (w .at .here) 0 + 1))
-      ≡ push t (bond (reverseOf (bondOf g (w .at .here) (getD (w .taken) (w .at .here) 0) .kind)) (w .at .here))
+      ≡ push t (entryTo (reverseOf (bondOf g (w .at .here) (getD (w .taken) (w .at .here) 0) .kind)) (w .at .here))
       (push (w .at .here) (bondOf g (w .at .here) (getD (w .taken) (w .at .here) 0)) (doneIn g (w .back) (w .taken)))
   entered-done =
       enter-done g (w .back) (set (w .taken) (w .at .here) (getD (w .taken) (w .at .here) 0 + 1)) t (suc (k .place)) _ rb (S .unback t mt) (untaken-next S rt r more t mt) (λ z. omega arith) back-bond
-      ∙ ap (push t (bond (reverseOf (bondOf g (w .at .here) (getD (w .taken) (w .at .here) 0) .kind)) (w .at .here))) (took-done g (w .back) (w .taken) (w .at .here) rt apart)
+      ∙ ap (push t (entryTo (reverseOf (bondOf g (w .at .here) (getD (w .taken) (w .at .here) 0) .kind)) (w .at .here))) (took-done g (w .back) (w .taken) (w .at .here) rt apart)
 
   pub sta-enters : Sta g (metAt (tookAt w (w .at .here) (getD (w .taken) (w .at .here) 0)) (w .at) t (suc (k .place))) (o ++ (t ∷ [])) (t ∷ fr)
   sta-enters =
       let s : ℕ = w .at .here in
-      let e : Bond = bondOf g s (getD (w .taken) s 0) in
+      let e : BondEntry = bondOf g s (getD (w .taken) s 0) in
       let b : ℕ = suc (k .place) in
-      let bb : Bond = bond (reverseOf (e .kind)) s in
-      let d : ℕ → List Bond = doneIn g (w .back) (w .taken) in
+      let bb : BondEntry = entryTo (reverseOf (e .kind)) s in
+      let d : ℕ → List BondEntry = doneIn g (w .back) (w .taken) in
       let off : (v : ℕ) → memb v fr ≡ true → v ≢ t = λ v m. ne-of-memb o (S .held v m) mt in
       let z : getD (set (w .back) t b) t 0 ≡ b = getD-set-same (w .back) t b 0 rb in
       let h = line-head (S .line r) in
@@ -399,9 +399,9 @@ module _ {g : Graph} {w : Walk} {o fr : List ℕ} (S : Sta g w o fr)
         small = small-next S t rm rb ht mt few;
         unback = unback-next S t rm rb ht mt few b;
         untaken = λ v m. untaken-next S rt r more v (sym (memb-old v t o (not-new v t o m)) ∙ m);
-        seen = subst (λ (d : ℕ → List Bond). (v x : ℕ) → hasT x (d v) ≡ true → memb x (o ++ (t ∷ [])) ≡ true) (sym entered-done)
+        seen = subst (λ (d : ℕ → List BondEntry). (v x : ℕ) → hasT x (d v) ≡ true → memb x (o ++ (t ∷ [])) ≡ true) (sym entered-done)
             (λ v x q. by-eq v t
-            (λ p. or-elim (hasT x (push s e d t)) (same x s) (sym (hasT-push t bb (push s e d) x) ∙ (rw p at q))
+            (λ p. or-elim (hasT x (push s e d t)) (sameNumber x s) (sym (hasT-push t bb (push s e d) x) ∙ (rw p at q))
             (λ y. seen-push S rt r more apart (o ++ (t ∷ [])) (λ x m. memb-left x t o m) (rw to (memb-new t o)) t x y)
             (λ y. rw (eq-of-same x s y) (memb-left s t o (here-held S r))))
             (λ p. seen-push S rt r more apart (o ++ (t ∷ [])) (λ x m. memb-left x t o m) (rw to (memb-new t o)) v x (rw (push-other t bb (push s e d) v p) at q)));
@@ -412,6 +412,6 @@ module _ {g : Graph} {w : Walk} {o fr : List ℕ} (S : Sta g w o fr)
         held = λ v m. by-eq v t (λ p. rw p (memb-new t o)) (λ p. memb-left v t o (S .held v (memb-cons v t fr m p)));
         line = λ q. up t fr (λ y. let x : b ≡ 0 = sym z ∙ y in omega arith)
             (subst (λ (i : ℕ). Line g (set (w .back) t b) (bondIn (g .bonds) (g .first) t (i - 1) .to) fr) (sym z)
-            (subst (λ (i : ℕ). Line g (set (w .back) t b) i fr) (sym (ap (λ (x : Bond). x .to) back-bond)) (line-kept g (w .back) t b s fr off (S .line r))));
+            (subst (λ (i : ℕ). Line g (set (w .back) t b) i fr) (sym (ap (λ (x : BondEntry). x .to) back-bond)) (line-kept g (w .back) t b s fr off (S .line r))));
         rest = λ q. absurd (true≢false refl q);
       }

@@ -20,9 +20,9 @@ use Rattle.packing.proofs.Laws.{load-words, only}
 use Rattle.builder_meaning.proofs.Twins.{sure-code}
 use Rattle.builder.specs.Limits.{atomLimit}
 use Rattle.builder.specs.Build as build
-use Rattle.builder.proofs.Degrees.{startsOf-length}
+use Rattle.builder.proofs.Degrees.{entry-starts-length}
 use Rattle.builder_meaning.specs.Sketch.{To, Edge, Node, edge, node, countOf, atomTable, targetOf, edgeTable, bondTable, padded}
-use Rattle.walk_entry.specs.Graph.{Bond, Graph, kindAt, degreeAt, bondOf, bond, entryAt, kindOr, kindIn, degreeIn, bondIn}
+use Rattle.walk_entry.specs.Graph.{BondEntry, Graph, kindAt, degreeAt, bondOf, entryTo, entryAt, kindOr, kindIn, degreeIn, bondIn}
 use Rattle.write.specs.Write.{zeros, graphOf}
 use Rattle.walk_laws.specs.Trek.{degrees}
 use Rattle.trip_graph.specs.Renumber.{numberedAs, Numbering, Renumbers}
@@ -108,13 +108,13 @@ bond-table (n ∷ ns) z (suc v) i h k =
     (ap₂ (λ (l : List ℕ) (j : ℕ). getD l j 0) s a ∙ getD-append-add (edgeTable (n .edges)) (bondTable ns ++ z) ((before ns v + i) * 2) 0 ∙ r .0, ap₂ (λ (l : List ℕ) (j : ℕ). getD l j 0) s b ∙ getD-append-add (edgeTable (n .edges)) (bondTable ns ++ z) ((before ns v + i) * 2 + 1) 0 ∙ r .1)
 
 -- where the entries of an atom start
-starts-are : (n : ℕ) (t c : List ℕ) (v : ℕ) → n ≤ length c → v < n → getD (build.startsOf n t c) v 0 ≡ build.sumOf v t
-unfolding build.startsOf
+starts-are : (n : ℕ) (t c : List ℕ) (v : ℕ) → n ≤ length c → v < n → getD (build.entryStarts n t c) v 0 ≡ build.sumOf v t
+unfolding build.entryStarts
 starts-are zero t c v h k = absurd (omega arith)
 starts-are (suc n) t c v h k =
     by-eq v n
-    (λ e. rw e (getD-set-same (build.startsOf n t c) n (build.sumOf n t) 0 (omega (arith, startsOf-length n t c))))
-    (λ e. getD-set-other (build.startsOf n t c) n v (build.sumOf n t) 0 e ∙ starts-are n t c v (omega arith) (omega arith))
+    (λ e. rw e (getD-set-same (build.entryStarts n t c) n (build.sumOf n t) 0 (omega (arith, entry-starts-length n t c))))
+    (λ e. getD-set-other (build.entryStarts n t c) n v (build.sumOf n t) 0 e ∙ starts-are n t c v (omega arith) (omega arith))
 
 sum-is : (ns : List Node) (z : List ℕ) (v : ℕ) → v ≤ length ns → countOf ns < 2 ^ 32 → build.sumOf v (atomTable ns ++ z) ≡ before ns v
 unfolding build.sumOf
@@ -186,23 +186,23 @@ module _ (g : Graph) (p : Numbers) (N : Numbering g p) (T : (a : ℕ) → a < g 
       atom-words (renumbered g p) (replicate (la - length (atomTable (renumbered g p))) 0) v (in-nodes v q) .2 ∙ edges-long v q
 
   entry-at : (v i : ℕ) → v < g .size → i < degreeAt g (p .atom v)
-      → bondOf h v i ≡ numberedAs (p .number) (getD (entriesOf g (p .atom v) (p .parent (p .atom v))) i (bond Elided 0))
+      → bondOf h v i ≡ numberedAs (p .number) (getD (entriesOf g (p .atom v) (p .parent (p .atom v))) i (entryTo Elided 0))
   unfolding bondIn padded edgeOf numberedAs targetOf
   entry-at v i q k =
       let a : ℕ = p .atom v in
-      let es : List Bond = entriesOf g a (p .parent a) in
-      let x : Bond = getD es i (bond Elided 0) in
+      let es : List BondEntry = entriesOf g a (p .parent a) in
+      let x : BondEntry = getD es i (entryTo Elided 0) in
       let l : i < length (getD (renumbered g p) v noNode .edges) = rw (edges-long v q) k in
       let le : i < length es = rw (entries-length g a (p .parent a) (N .parent a)) k in
       let r = bond-table (renumbered g p) (replicate (lb - length (bondTable (renumbered g p))) 0) v i (in-nodes v q) l in
       let e : getD (getD (renumbered g p) v noNode .edges) i noEdge ≡ edgeOf (p .number) x =
-      ap (λ (y : List Edge). getD y i noEdge) (edges-at v q) ∙ at-map (edgeOf (p .number)) es i (bond Elided 0) noEdge le in
+      ap (λ (y : List Edge). getD y i noEdge) (edges-at v q) ∙ at-map (edgeOf (p .number)) es i (entryTo Elided 0) noEdge le in
       let s : getD (h .first) v 0 ≡ before (renumbered g p) v =
       starts-are (g .size) (padded la (atomTable (renumbered g p))) (zeros atomLimit) v (rw (length-replicate {A = ℕ} atomLimit 0) limit) q
       ∙ sum-is (renumbered g p) (replicate (la - length (atomTable (renumbered g p))) 0) v (omega (arith, in-nodes v q)) (omega arith) in
       ap (λ (y : ℕ). entryAt (padded lb (bondTable (renumbered g p))) ((y + i) * 2)) s
-      ∙ ap₂ (λ (y z : ℕ). bond (sureKind (kindOf y)) z) (r .0 ∙ ap (λ (y : Edge). codeOf (y .kind)) e) (r .1 ∙ ap (λ (y : Edge). targetOf (y .target)) e)
-      ∙ ap (λ (k : BondKind). bond k (p .number (x .to))) (sure-code (x .kind))
+      ∙ ap₂ (λ (y z : ℕ). entryTo (sureKind (kindOf y)) z) (r .0 ∙ ap (λ (y : Edge). codeOf (y .kind)) e) (r .1 ∙ ap (λ (y : Edge). targetOf (y .target)) e)
+      ∙ ap (λ (k : BondKind). entryTo k (p .number (x .to))) (sure-code (x .kind))
 
   pub tables-renumber : Renumbers g h p
   tables-renumber = record { size = refl; kind = kind-at; degree = degree-at; entry = entry-at }

@@ -11,7 +11,7 @@ use borrow.Author.Tests.{eq-eqb, ne-eqb}
 use Rattle.join_pool.specs.declared.Pool.{Pool}
 use Rattle.writer.specs.Line.{Event, Root, Extend, Join, Pop}
 use Rattle.builder_meaning.specs.Sketch.{To, Edge, Sketch, node, startS, runS, countOf, openHere, openIn, firstOpenS, ringsSay, saysS, finishS}
-use Rattle.walk_entry.specs.Graph.{Bond, Graph, kindAt, degreeAt, bondOf}
+use Rattle.walk_entry.specs.Graph.{BondEntry, Graph, kindAt, degreeAt, bondOf}
 use Rattle.walk.specs.Walk.{Walk, Turn, stepOf, turnOf, walkTo, eventsOf, turnsOf}
 use Rattle.write.specs.Write.{pairWords}
 use Rattle.walk_laws.specs.Trek.{Room, fresh, degrees, Finished}
@@ -19,8 +19,8 @@ use Rattle.walk_laws.proofs.Moves.{turn-moves}
 use Rattle.walk_laws.proofs.Sums.{zeros-at}
 use Rattle.walk_laws.proofs.Sound.{Sound, sound-start, step-sound}
 use Rattle.walk_laws.proofs.Ended as walk-laws
-use Rattle.trip_graph.specs.Opened.{Pair, look, joinIn, Serves, dnil, Numbered}
-use Rattle.trip_graph.specs.Renumber.{Simple, Known, Backed, told, Numbering, Built}
+use Rattle.trip_graph.specs.Opened.{Pair, look, joinIn, Serves, dnil, RingsHaveText}
+use Rattle.trip_graph.specs.Renumber.{Simple, Known, Backed, asReadEvents, Numbering, Built}
 use Rattle.trip_graph.specs.Renumbered.{entriesOf, edgeOf, nodeOf, Numbers, byWalk, firstAtoms, renumbered}
 use Rattle.trip_graph.specs.Marks.{Tetrahedral, backKind}
 use Rattle.trip_graph.proofs.Lists.{memb, idx, Nodup, nil, cons, same-refl, same-eq, same-ne, true≢false, by-eq, map-same, idx-lt, memb-here, memb-there}
@@ -39,7 +39,7 @@ unfolding walkTo stepOf
 refused-stays g zero w h = refl
 refused-stays g (suc t) w h = rw (ne-eqb (w .at .refusal) 0 h) (refused-stays g t w h)
 
-numbered-app : (xs ys : List Event) → Numbered xs → Numbered ys → Numbered (xs ++ ys)
+numbered-app : (xs ys : List Event) → RingsHaveText xs → RingsHaveText ys → RingsHaveText (xs ++ ys)
 numbered-app [] ys h k = k
 numbered-app (Root a ∷ xs) ys h k = numbered-app xs ys h k
 numbered-app (Extend b a ∷ xs) ys h k = numbered-app xs ys h k
@@ -48,7 +48,7 @@ numbered-app (Pop d ∷ xs) ys h k = numbered-app xs ys h k
 
 -- after any number of turns the builder has followed, or the walk was refused
 pub data Walked (H : Pool → List ℕ → List Pair → Type 0) (g : Graph) (b : Sketch) (t : ℕ) (w : Walk) : Type 0 where
-  follows : Inv H g (walkTo g t w) (runS b (told (eventsOf g t w))) → Numbered (eventsOf g t w) → Walked H g b t w
+  follows : Inv H g (walkTo g t w) (runS b (asReadEvents (eventsOf g t w))) → RingsHaveText (eventsOf g t w) → Walked H g b t w
   stopped : walkTo g t w .at .refusal ≢ 0 → Walked H g b t w
 
 module _ (H : Pool → List ℕ → List Pair → Type 0) (Q : Serves H) (g : Graph) (W : Simple g) (T : (a : ℕ) → a < g .size → Tetrahedral (kindAt g a)) where
@@ -57,12 +57,12 @@ module _ (H : Pool → List ℕ → List Pair → Type 0) (Q : Serves H) (g : Gr
   step-is w h = rw (eq-eqb (w .at .refusal) 0 h)
 
   -- one turn, then the others
-  then-walked : (t : ℕ) (w : Walk) (b : Sketch) (x : Turn) → stepOf g w ≡ x → Numbered (x .said) → Walked H g (runS b (told (x .said))) t (x .after) → Walked H g b (suc t) w
+  then-walked : (t : ℕ) (w : Walk) (b : Sketch) (x : Turn) → stepOf g w ≡ x → RingsHaveText (x .said) → Walked H g (runS b (asReadEvents (x .said))) t (x .after) → Walked H g b (suc t) w
   unfolding walkTo eventsOf
   then-walked t w b x e h (follows I k) =
-      follows (subst (λ (y : Turn). Inv H g (walkTo g t (y .after)) (runS b (told (y .said ++ eventsOf g t (y .after))))) (sym e)
-      (subst (λ (c : Sketch). Inv H g (walkTo g t (x .after)) c) (sym (ap (runS b) (told-app (x .said) (eventsOf g t (x .after))) ∙ run-app b (told (x .said)) (told (eventsOf g t (x .after))))) I))
-      (subst (λ (y : Turn). Numbered (y .said ++ eventsOf g t (y .after))) (sym e) (numbered-app (x .said) (eventsOf g t (x .after)) h k))
+      follows (subst (λ (y : Turn). Inv H g (walkTo g t (y .after)) (runS b (asReadEvents (y .said ++ eventsOf g t (y .after))))) (sym e)
+      (subst (λ (c : Sketch). Inv H g (walkTo g t (x .after)) c) (sym (ap (runS b) (told-app (x .said) (eventsOf g t (x .after))) ∙ run-app b (asReadEvents (x .said)) (asReadEvents (eventsOf g t (x .after))))) I))
+      (subst (λ (y : Turn). RingsHaveText (y .said ++ eventsOf g t (y .after))) (sym e) (numbered-app (x .said) (eventsOf g t (x .after)) h k))
   then-walked t w b x e h (stopped r) = stopped (subst (λ (y : Turn). walkTo g t (y .after) .at .refusal ≢ 0) (sym e) r)
 
   stop-walked : (t : ℕ) (w : Walk) (b : Sketch) (x : Turn) → stepOf g w ≡ x → x .after .at .refusal ≢ 0 → Walked H g b (suc t) w
@@ -72,11 +72,11 @@ module _ (H : Pool → List ℕ → List Pair → Type 0) (Q : Serves H) (g : Gr
 
   next-walked : (t : ℕ) (w : Walk) (b : Sketch) (n : ℕ) → Sound g (turnOf g w .after) n → stepOf g w ≡ turnOf g w
       → ((v : Walk) (c : Sketch) (m : ℕ) → Sound g v m → Inv H g v c → Walked H g c t v) → Result H g b (turnOf g w) → Walked H g b (suc t) w
-  next-walked t w b n s e f (goes I h) = then-walked t w b (turnOf g w) e h (f (turnOf g w .after) (runS b (told (turnOf g w .said))) n s I)
+  next-walked t w b n s e f (goes I h) = then-walked t w b (turnOf g w) e h (f (turnOf g w .after) (runS b (asReadEvents (turnOf g w .said))) n s I)
   next-walked t w b n s e f (stops r) = stop-walked t w b (turnOf g w) e r
 
   pub turns-walked : (t : ℕ) (w : Walk) (b : Sketch) (dep : ℕ) → Sound g w dep → Inv H g w b → Walked H g b t w
-  unfolding walkTo eventsOf told runS
+  unfolding walkTo eventsOf asReadEvents runS
   turns-walked zero w b dep s I = follows I tt
   turns-walked (suc t) w b dep s I =
       let m = turn-moves g w dep in
@@ -186,7 +186,7 @@ not-lone true false h f = true≢false (f refl) refl
 not-lone false q h f = true≢false h refl
 
 -- no entry is open
-first-none : (number : ℕ → ℕ) (es : List Bond) (q : Option ℕ) → openIn (map (edgeOf number) es) q ≡ q
+first-none : (number : ℕ → ℕ) (es : List BondEntry) (q : Option ℕ) → openIn (map (edgeOf number) es) q ≡ q
 unfolding openIn edgeOf openHere
 first-none number [] q = refl
 first-none number (e ∷ es) q = first-none number es q
@@ -222,7 +222,7 @@ module _ (H : Pool → List ℕ → List Pair → Type 0) (g : Graph) (W : Simpl
       let h′ : hasT x (entriesOf g v (getD (w .back) v 0)) ≡ true = rw (end-done v m) at h in
       let f = first {Q = Behind g v (getD (w .back) v 0) (degreeAt g v)} x (entriesOf g v (getD (w .back) v 0)) (done-all g v (getD (w .back) v 0) (degreeAt g v) (omega arith) (I .sta .backs v)) h′ in
       let i : ℕ = f .fact .place in
-      let to : bondOf g v i .to ≡ x = ap (λ (e : Bond). e .to) (sym (f .fact .is)) ∙ f .leads in
+      let to : bondOf g v i .to ≡ x = ap (λ (e : BondEntry). e .to) (sym (f .fact .is)) ∙ f .leads in
       let k : Backed g v x (bondOf g v i) = subst (λ (y : ℕ). Backed g v y (bondOf g v i)) to (W .backed v i hv (f .fact .within)) in
       rw (end-done x hx) (subst (λ (y : ℕ). hasT y (entriesOf g x (getD (w .back) x 0)) ≡ true) (k .leads) (done-has g x (getD (w .back) x 0) (degreeAt g x) (k .place) (k .within)))
 
@@ -233,7 +233,7 @@ module _ (H : Pool → List ℕ → List Pair → Type 0) (g : Graph) (W : Simpl
   none-opened (x ∷ P) K =
       let v : ℕ = x .from in
       let y : ℕ = x .onto in
-      let d : ℕ → List Bond = doneIn g (w .back) (w .taken) in
+      let d : ℕ → List BondEntry = doneIn g (w .back) (w .taken) in
       let o : hasT y (d v) && not (hasT v (d y)) ≡ true = sym (K .opn v y) ∙ ap isSome (look-here x P v y (pair-this v y x refl refl)) in
       absurd (not-lone (hasT y (d v)) (hasT v (d y)) o (end-back v y (from-first (K .froms))))
 
@@ -249,10 +249,10 @@ module _ (H : Pool → List ℕ → List Pair → Type 0) (g : Graph) (W : Simpl
   end-node : (v : ℕ) → memb v (I .order) ≡ true → nodeOf g (byWalk w) v ≡ view (kindBy g (w .back)) (I .order) [] (doneIn g (w .back) (w .taken)) v
   unfolding nodeOf view kindBy aim tgt look edgeOf encT
   end-node v m =
-      let l : List Bond = entriesOf g v (getD (w .back) v 0) in
+      let l : List BondEntry = entriesOf g v (getD (w .back) v 0) in
       rw (end-done v m) (ap (λ (es : List Edge). node (backKind (kindAt g v) (getD (w .back) v 0)) es) (edges l (λ x h. I .sta .seen v x (rw (end-done v m) h))))
     where
-      edges : (l : List Bond) → ((x : ℕ) → hasT x l ≡ true → memb x (I .order) ≡ true) → map (edgeOf (byWalk w .number)) l ≡ map (encT (aim (I .order) [] v)) l
+      edges : (l : List BondEntry) → ((x : ℕ) → hasT x l ≡ true → memb x (I .order) ≡ true) → map (edgeOf (byWalk w .number)) l ≡ map (encT (aim (I .order) [] v)) l
       edges l h = enc-same (λ (x : ℕ). To (getD (w .met) x 0 - 1)) (aim (I .order) [] v) l (λ x k.
           let e : getD (w .met) x 0 ≡ suc (idx x (I .order)) = I .sta .met x ∙ mark-in x (I .order) (h x k) in
           ap To (omega arith))
@@ -319,15 +319,15 @@ module _ (g : Graph) (W : Simple g) (T : (a : ℕ) → a < g .size → Tetrahedr
         turns-walked Holds pool-serves g W T turns start (startS places slots) 0
         (sound-start g lm lw lb lt (replicate pairWords 0) room) (inv-start Holds pool-serves g lm lw lb lt wide places slots enough entries)
 
-    followed : Walked Holds g (startS places slots) turns start → Inv Holds g (walkTo g turns start) (runS (startS places slots) (told (eventsOf g turns start)))
+    followed : Walked Holds g (startS places slots) turns start → Inv Holds g (walkTo g turns start) (runS (startS places slots) (asReadEvents (eventsOf g turns start)))
     followed (follows I h) = I
     followed (stopped r) = absurd (r fine)
 
-    numbered : Walked Holds g (startS places slots) turns start → Numbered (eventsOf g turns start)
+    numbered : Walked Holds g (startS places slots) turns start → RingsHaveText (eventsOf g turns start)
     numbered (follows I h) = h
     numbered (stopped r) = absurd (r fine)
 
-    invariant : Inv Holds g (walkTo g turns start) (runS (startS places slots) (told (eventsOf g turns start)))
+    invariant : Inv Holds g (walkTo g turns start) (runS (startS places slots) (asReadEvents (eventsOf g turns start)))
     invariant = followed walked
 
 -- A simple graph whose kinds have no configuration but TH1 or TH2, walked without refusal: what the walk says, told to a builder
@@ -337,7 +337,7 @@ pub graph-trip : (g : Graph) → Simple g → ((a : ℕ) → a < g .size → Tet
     → (m : ℕ) → degrees g (g .size) ≤ m
     → walkTo g (turnsOf (g .size) m) (fresh lm lw lb lt (replicate pairWords 0)) .at .refusal ≡ 0
     → (places slots : ℕ) → g .size ≤ places → degrees g (g .size) ≤ slots
-    → Built (runS (startS places slots) (told (eventsOf g (turnsOf (g .size) m) (fresh lm lw lb lt (replicate pairWords 0)))))
+    → Built (runS (startS places slots) (asReadEvents (eventsOf g (turnsOf (g .size) m) (fresh lm lw lb lt (replicate pairWords 0)))))
     (renumbered g (byWalk (walkTo g (turnsOf (g .size) m) (fresh lm lw lb lt (replicate pairWords 0)))))
 graph-trip g W T lm lw lb lt room wide m few fine places slots enough entries =
     end-built Holds g W (walkTo g (turnsOf (g .size) m) (fresh lm lw lb lt (replicate pairWords 0))) _
@@ -358,7 +358,7 @@ pub walk-numbered : (g : Graph) → Simple g → ((a : ℕ) → a < g .size → 
     → (lm lw lb lt : ℕ) → Room g lm lb lt → g .size ≤ lw
     → (m : ℕ) → degrees g (g .size) ≤ m
     → walkTo g (turnsOf (g .size) m) (fresh lm lw lb lt (replicate pairWords 0)) .at .refusal ≡ 0
-    → Numbered (eventsOf g (turnsOf (g .size) m) (fresh lm lw lb lt (replicate pairWords 0)))
+    → RingsHaveText (eventsOf g (turnsOf (g .size) m) (fresh lm lw lb lt (replicate pairWords 0)))
 walk-numbered g W T lm lw lb lt room wide m few fine =
     numbered g W T lm lw lb lt room wide m few fine (g .size) (degrees g (g .size)) (omega arith) (omega arith)
     (walked g W T lm lw lb lt room wide m few fine (g .size) (degrees g (g .size)) (omega arith) (omega arith))

@@ -22,16 +22,16 @@ use Rattle.read_line.specs.Events as reader
 use Rattle.writer.specs.Line.{Event, Root, Extend, Join}
 use Rattle.builder_meaning.specs.Sketch.{Sketch, countOf, stepS, runS}
 use Rattle.walk_entry.specs.declared.entry.Way.{Way}
-use Rattle.walk_entry.specs.Graph.{Bond, Graph, kindAt, degreeAt, bondOf, bond}
+use Rattle.walk_entry.specs.Graph.{BondEntry, Graph, kindAt, degreeAt, bondOf, entryTo}
 use Rattle.walk_entry.specs.Ways.{saidAs}
 use Rattle.walk.specs.declared.walker.Walker.{Walker}
-use Rattle.walk.specs.Walk.{Walk, Turn, turn, quiet, passed, ringed, moved, pooled, metAt, tookAt, popsOf, popsThen, leftIn, rootOf, leaveOf, numberedOf, ringOf, enteredOf, enterOf, bondTurn, entryOf, atomOf, turnOf}
+use Rattle.walk.specs.Walk.{Walk, Turn, turn, quiet, rootPassed, ringSaid, withWalker, pooled, metAt, tookAt, popsOf, popsThen, leftIn, rootTurn, leaveOf, numberedOf, ringTurn, enteredOf, enterTurn, bondTurn, entryTurn, atomOf, turnOf}
 use Rattle.walk_laws.specs.Trek.{degrees}
 use Rattle.feature.proofs.Cases.{by-test}
 use Rattle.walk_laws.proofs.Sound.{Sound}
 use Rattle.walk_laws.proofs.Fits.{count-below}
-use Rattle.trip_graph.specs.Opened.{Pair, pair, look, del, numIn, joinIn, Opens, full, number, Serves, Numbered}
-use Rattle.trip_graph.specs.Renumber.{Backed, Simple, toldAs, told}
+use Rattle.trip_graph.specs.Opened.{Pair, ringPair, look, del, numIn, joinIn, Opens, full, number, Serves, RingsHaveText}
+use Rattle.trip_graph.specs.Renumber.{Backed, Simple, toldAs, asReadEvents}
 use Rattle.trip_graph.specs.Marks.{Tetrahedral, backKind}
 use Rattle.trip_graph.proofs.Lists.{memb, by-bool, memb-there}
 use Rattle.trip_graph.proofs.View.{hasT, kindT, NodupB, view, push}
@@ -55,13 +55,13 @@ pub record Inv (H : Pool → List ℕ → List Pair → Type 0) (g : Graph) (w :
   pub fine : w .at .refusal ≡ 0
 
 pub data Result (H : Pool → List ℕ → List Pair → Type 0) (g : Graph) (b : Sketch) (x : Turn) : Type 0 where
-  goes : Inv H g (x .after) (runS b (told (x .said))) → Numbered (x .said) → Result H g b x
+  goes : Inv H g (x .after) (runS b (asReadEvents (x .said))) → RingsHaveText (x .said) → Result H g b x
   stops : x .after .at .refusal ≢ 0 → Result H g b x
 
 -- pops change no numbers
-said-pops : (p : ℕ) (e : Event) → Numbered (e ∷ []) → Numbered (popsThen p e)
+said-pops : (p : ℕ) (e : Event) → RingsHaveText (e ∷ []) → RingsHaveText (popsThen p e)
 unfolding popsOf
-said-pops p e h = by-test (λ (x : List Event). Numbered (x ++ (e ∷ []))) (eqb p 0) (λ q. h) (λ q. h)
+said-pops p e h = by-test (λ (x : List Event). RingsHaveText (x ++ (e ∷ []))) (eqb p 0) (λ q. h) (λ q. h)
 
 by-look {ℓ} : {X : Type ℓ} (q : Option Pair) → (q ≡ none → X) → ((x : Pair) → q ≡ some x → X) → X
 by-look none f g = f refl
@@ -83,7 +83,7 @@ unfolding doneIn
 sta-reverse {g} {w} W S s i hs hi ht h =
     reverse-kind g W s i (bondOf g s i .to) (getD (w .back) (bondOf g s i .to) 0) (getD (w .taken) (bondOf g s i .to) 0) hs hi refl ht (S .takes (bondOf g s i .to)) (S .backs (bondOf g s i .to)) h
 
-none-leads : (x : ℕ) (l : List Bond) → l ≡ [] → hasT x l ≡ false
+none-leads : (x : ℕ) (l : List BondEntry) → l ≡ [] → hasT x l ≡ false
 unfolding hasT
 none-leads x l e = rw e
 
@@ -92,18 +92,18 @@ module _ (H : Pool → List ℕ → List Pair → Type 0) (Q : Serves H) (g : Gr
   abbrev R : Turn → Type 0
   R x = Result H g b x
 
-  abbrev d0 : ℕ → List Bond
+  abbrev d0 : ℕ → List BondEntry
   d0 = doneIn g (w .back) (w .taken)
 
   abbrev κ0 : ℕ → AtomKind
   κ0 = kindBy g (w .back)
 
   still-turn : R (quiet w)
-  unfolding runS told
+  unfolding runS asReadEvents
   still-turn = goes I tt
 
-  skip-turn : R (quiet (moved w (passed (w .at))))
-  unfolding runS told
+  skip-turn : R (quiet (withWalker w (rootPassed (w .at))))
+  unfolding runS asReadEvents
   skip-turn = goes (record {
     order = I .order;
     frame = I .frame;
@@ -116,8 +116,8 @@ module _ (H : Pool → List ℕ → List Pair → Type 0) (Q : Serves H) (g : Gr
   }) tt
 
   new-root : w .at .standing ≡ false → w .at .next < g .size → getD (w .met) (w .at .next) 0 ≡ 0
-      → R (turn (metAt w (passed (w .at)) (w .at .next) 0) (Root (saidAs (kindAt g (w .at .next)) 0) ∷ []))
-  unfolding told toldAs kindBy
+      → R (turn (metAt w (rootPassed (w .at)) (w .at .next) 0) (Root (saidAs (kindAt g (w .at .next)) 0) ∷ []))
+  unfolding asReadEvents toldAs kindBy
   new-root r hi m =
       let i : ℕ = w .at .next in
       let S = I .sta in
@@ -138,25 +138,25 @@ module _ (H : Pool → List ℕ → List Pair → Type 0) (Q : Serves H) (g : Gr
         order = o ++ (i ∷ []);
         frame = i ∷ [];
         opened = P;
-        sta = sta-root S i rm rb hi mi few (S .rest r) (passed (w .at)) refl;
-        pol = subst (λ (d : ℕ → List Bond). Pol (o ++ (i ∷ [])) d P) (sym D) (record { opn = I .pol .opn; good = I .pol .good; froms = froms-snoc o i (I .pol .froms) });
+        sta = sta-root S i rm rb hi mi few (S .rest r) (rootPassed (w .at)) refl;
+        pol = subst (λ (d : ℕ → List BondEntry). Pol (o ++ (i ∷ [])) d P) (sym D) (record { opn = I .pol .opn; good = I .pol .good; froms = froms-snoc o i (I .pol .froms) });
         hold = I .hold;
-        bld = subst (λ (d : ℕ → List Bond). Bld g κ′ (i ∷ []) zero (o ++ (i ∷ [])) d P (runS b (reader.Enter lead.Dot k 0 ∷ []))) (sym D)
+        bld = subst (λ (d : ℕ → List BondEntry). Bld g κ′ (i ∷ []) zero (o ++ (i ∷ [])) d P (runS b (reader.Enter lead.Dot k 0 ∷ []))) (sym D)
             (subst (λ (x : Sketch). Bld g κ′ (i ∷ []) zero (o ++ (i ∷ [])) d0 P x) (sym (run-one b (reader.Enter lead.Dot k 0) (B .fine))) B′);
         fine = I .fine;
       }) tt
 
-  root-turn : w .at .standing ≡ false → R (rootOf g w)
-  unfolding rootOf
+  root-turn : w .at .standing ≡ false → R (rootTurn g w)
+  unfolding rootTurn
   root-turn r =
       by-test R (leb (g .size) (w .at .next)) (λ q. still-turn)
       (λ q. by-test R (eqb (getD (w .met) (w .at .next) 0) 0)
       (λ z. new-root r (leb-false _ _ q) (eqb-true _ _ z)) (λ z. skip-turn))
 
   left-turn : w .at .standing ≡ true → degreeAt g (w .at .here) ≤ getD (w .taken) (w .at .here) 0 → R (leaveOf g w (w .at .here))
-  unfolding leftIn runS told
+  unfolding leftIn runS asReadEvents
   left-turn r h =
-      by-test (λ (z : Walker). R (quiet (moved w z))) (eqb (getD (w .back) (w .at .here) 0) 0)
+      by-test (λ (z : Walker). R (quiet (withWalker w z))) (eqb (getD (w .back) (w .at .here) 0) 0)
       (λ q. goes (record {
         order = I .order;
         frame = [];
@@ -191,7 +191,7 @@ module _ (H : Pool → List ℕ → List Pair → Type 0) (Q : Serves H) (g : Gr
     abbrev i0 : ℕ
     i0 = getD (w .taken) s0 0
 
-    abbrev e0 : Bond
+    abbrev e0 : BondEntry
     e0 = bondOf g s0 i0
 
     abbrev w1 : Walk
@@ -204,7 +204,7 @@ module _ (H : Pool → List ℕ → List Pair → Type 0) (Q : Serves H) (g : Gr
     rt = omega (arith, hs, snd .room .taken)
 
     pass-turn : getD (w .back) s0 0 ≡ i0 + 1 → R (quiet w1)
-    unfolding runS told
+    unfolding runS asReadEvents
     pass-turn q =
         let D = pass-done g (w .back) (w .taken) s0 rt q in
         goes (record {
@@ -212,9 +212,9 @@ module _ (H : Pool → List ℕ → List Pair → Type 0) (Q : Serves H) (g : Gr
           frame = I .frame;
           opened = I .opened;
           sta = sta-pass (I .sta) rt r more q;
-          pol = subst (λ (d : ℕ → List Bond). Pol (I .order) d (I .opened)) (sym D) (I .pol);
+          pol = subst (λ (d : ℕ → List BondEntry). Pol (I .order) d (I .opened)) (sym D) (I .pol);
           hold = I .hold;
-          bld = subst (λ (d : ℕ → List Bond). Bld g κ0 (I .frame) (w .at .pend) (I .order) d (I .opened) b) (sym D) (I .bld);
+          bld = subst (λ (d : ℕ → List BondEntry). Bld g κ0 (I .frame) (w .at .pend) (I .order) d (I .opened) b) (sym D) (I .bld);
           fine = I .fine;
         }) tt
 
@@ -233,17 +233,17 @@ module _ (H : Pool → List ℕ → List Pair → Type 0) (Q : Serves H) (g : Gr
       is-fs = line-head (I .sta .line r) .is
 
       b0 : Sketch
-      b0 = runS b (told (popsOf (w .at .pend)))
+      b0 = runS b (asReadEvents (popsOf (w .at .pend)))
 
       B0 : Bld g κ0 (s0 ∷ fs) zero (I .order) d0 (I .opened) b0
       unfolding b0
       B0 =
-          subst (λ (f : List ℕ). Bld g κ0 f zero (I .order) d0 (I .opened) (runS b (told (popsOf (w .at .pend))))) is-fs
+          subst (λ (f : List ℕ). Bld g κ0 f zero (I .order) d0 (I .opened) (runS b (asReadEvents (popsOf (w .at .pend))))) is-fs
           (bld-pops g κ0 (I .order) d0 (I .opened) (I .frame) (w .at .pend) b (I .bld))
 
-      run-is : (x : Event) → runS b (told (popsThen (w .at .pend) x)) ≡ stepS b0 (toldAs x)
+      run-is : (x : Event) → runS b (asReadEvents (popsThen (w .at .pend) x)) ≡ stepS b0 (toldAs x)
       unfolding b0
-      run-is x = run-pops b (w .at .pend) x ∙ run-one (runS b (told (popsOf (w .at .pend)))) (toldAs x) (unfold b0 in B0 .fine)
+      run-is x = run-pops b (w .at .pend) x ∙ run-one (runS b (asReadEvents (popsOf (w .at .pend)))) (toldAs x) (unfold b0 in B0 .fine)
 
       -- a new atom
       enter-goes : (k : Backed g s0 (e0 .to) e0) → getD (w .met) (e0 .to) 0 ≡ 0 → e0 .to < g .size
@@ -261,8 +261,8 @@ module _ (H : Pool → List ℕ → List Pair → Type 0) (Q : Serves H) (g : Gr
           let rb : t < length (w .back) = omega (arith, snd .room .back) in
           let κ′ : ℕ → AtomKind = kindBy g (set (w .back) t c) in
           let o′ : List ℕ = o ++ (t ∷ []) in
-          let bb : Bond = bond (reverseOf (e0 .kind)) s0 in
-          let d2 : ℕ → List Bond = push t bb (push s0 e0 d0) in
+          let bb : BondEntry = entryTo (reverseOf (e0 .kind)) s0 in
+          let d2 : ℕ → List BondEntry = push t bb (push s0 e0 d0) in
           let S′ = sta-enters S rt r more q t refl ht rm rb mt few k in
           let D = entered-done S rt r more q t refl ht rm rb mt few k in
           let kq : (v : ℕ) → v ≢ t → κ′ v ≡ κ0 v = λ v z. ap (backKind (kindAt g v)) (getD-set-other (w .back) t v c 0 z) in
@@ -270,7 +270,7 @@ module _ (H : Pool → List ℕ → List Pair → Type 0) (Q : Serves H) (g : Gr
           marks-serve .built (kindAt g t) c (T t ht) (λ z. omega arith) ∙ ap (λ (x : ℕ). Turned (backKind (kindAt g t) x)) (sym (getD-set-same (w .back) t c 0 rb)) in
           let u : d0 t ≡ [] = done-new S t mt in
           let room : countOf (map (view κ′ o′ P d2) o′) ≤ degrees g (g .size) =
-          subst (λ (d : ℕ → List Bond). countOf (map (view κ′ o′ P d) o′) ≤ degrees g (g .size)) D (sta-count S′ κ′ P) in
+          subst (λ (d : ℕ → List BondEntry). countOf (map (view κ′ o′ P d) o′) ≤ degrees g (g .size)) D (sta-count S′ κ′ P) in
           let B′ = bld-extend g κ0 o d0 P s0 e0 fs E0 (S .nod) (S .seen) b0 B0 (saidAs (kindAt g t) c) κ′ kq kt mt u
           (shut (I .pol) s0 t (E0 .fresh)) (shut (I .pol) t s0 (none-leads s0 (d0 t) u)) (I .pol .froms)
           (λ v z. S .held v (rw is-fs (memb-there v s0 fs z))) few room in
@@ -279,16 +279,16 @@ module _ (H : Pool → List ℕ → List Pair → Type 0) (Q : Serves H) (g : Gr
             frame = t ∷ I .frame;
             opened = P;
             sta = S′;
-            pol = subst (λ (d : ℕ → List Bond). Pol o′ d P) (sym D) (pol-extend s0 e0 o d0 P (I .pol) (E0 .fresh) (E0 .apart) bb refl u);
+            pol = subst (λ (d : ℕ → List BondEntry). Pol o′ d P) (sym D) (pol-extend s0 e0 o d0 P (I .pol) (E0 .fresh) (E0 .apart) bb refl u);
             hold = I .hold;
             bld = subst (λ (x : Sketch). Bld g κ′ (t ∷ I .frame) zero o′ (doneIn g (set (w .back) t c) (set (w .taken) s0 (i0 + 1))) P x) (sym (run-is _))
-                (subst (λ (d : ℕ → List Bond). Bld g κ′ (t ∷ I .frame) zero o′ d P (stepS b0 (reader.Enter (lead.Bond (e0 .kind)) (saidAs (kindAt g t) c) 0))) (sym D)
+                (subst (λ (d : ℕ → List BondEntry). Bld g κ′ (t ∷ I .frame) zero o′ d P (stepS b0 (reader.Enter (lead.Bond (e0 .kind)) (saidAs (kindAt g t) c) 0))) (sym D)
                 (subst (λ (f : List ℕ). Bld g κ′ (t ∷ f) zero o′ d2 P (stepS b0 (reader.Enter (lead.Bond (e0 .kind)) (saidAs (kindAt g t) c) 0))) (sym is-fs) B′));
             fine = I .fine;
           }) (said-pops (w .at .pend) (Extend (e0 .kind) (saidAs (kindAt g t) c)) tt)
 
-      enter-turn : getD (w .met) (e0 .to) 0 ≡ 0 → e0 .to < g .size → R (enterOf g w1 (e0 .kind) s0 (e0 .to))
-      unfolding enterOf enteredOf
+      enter-turn : getD (w .met) (e0 .to) 0 ≡ 0 → e0 .to < g .size → R (enterTurn g w1 (e0 .kind) s0 (e0 .to))
+      unfolding enterTurn enteredOf
       enter-turn m ht =
           let k = W .backed s0 i0 hs more in
           subst (λ (y : Way). R (enteredOf g w1 (e0 .kind) (e0 .to) y))
@@ -298,7 +298,7 @@ module _ (H : Pool → List ℕ → List Pair → Type 0) (Q : Serves H) (g : Gr
       -- a ring number
       module _ (mt : memb (e0 .to) (I .order) ≡ true) where
         close-goes : (x : Pair) → look (I .opened) (e0 .to) s0 ≡ some x → (p : Pool) (pairs : List ℕ) → x .num ≤ highest → H p pairs (del (e0 .to) s0 (I .opened))
-            → R (turn (moved (pooled w1 pairs) (ringed (w .at) p)) (popsThen (w .at .pend) (Join (e0 .kind) (x .num))))
+            → R (turn (withWalker (pooled w1 pairs) (ringSaid (w .at) p)) (popsThen (w .at .pend) (Join (e0 .kind) (x .num))))
         unfolding toldAs
         close-goes x l p pairs small h =
             let S = I .sta in
@@ -314,24 +314,24 @@ module _ (H : Pool → List ℕ → List Pair → Type 0) (Q : Serves H) (g : Gr
             let P′ : List Pair = del t s0 P in
             let S′ = sta-joins S rt r more q pairs p mt in
             let room : countOf (map (view κ0 o P′ (push s0 e0 d0)) o) ≤ degrees g (g .size) =
-            subst (λ (d : ℕ → List Bond). countOf (map (view κ0 o P′ d) o) ≤ degrees g (g .size)) D1 (sta-count S′ κ0 P′) in
+            subst (λ (d : ℕ → List BondEntry). countOf (map (view κ0 o P′ d) o) ≤ degrees g (g .size)) D1 (sta-count S′ κ0 P′) in
             let B′ = bld-close g κ0 o d0 P s0 e0 fs E0 (S .nod) (S .seen) b0 B0 x mt (I .pol .good) l l′ nt has back room in
             goes (record {
               order = o;
               frame = I .frame;
               opened = P′;
               sta = S′;
-              pol = subst (λ (d : ℕ → List Bond). Pol o d P′) (sym D1) (pol-close s0 e0 o d0 P (I .pol) (E0 .fresh) (E0 .apart) x l);
+              pol = subst (λ (d : ℕ → List BondEntry). Pol o d P′) (sym D1) (pol-close s0 e0 o d0 P (I .pol) (E0 .fresh) (E0 .apart) x l);
               hold = h;
               bld = subst (λ (x : Sketch). Bld g κ0 (I .frame) zero o (doneIn g (w .back) (set (w .taken) s0 (i0 + 1))) P′ x) (sym (run-is _))
-                  (subst (λ (d : ℕ → List Bond). Bld g κ0 (I .frame) zero o d P′ (stepS b0 (reader.Join (e0 .kind) (x .num) 0))) (sym D1)
+                  (subst (λ (d : ℕ → List BondEntry). Bld g κ0 (I .frame) zero o d P′ (stepS b0 (reader.Join (e0 .kind) (x .num) 0))) (sym D1)
                   (subst (λ (f : List ℕ). Bld g κ0 f zero o (push s0 e0 d0) P′ (stepS b0 (reader.Join (e0 .kind) (x .num) 0))) (sym is-fs) B′));
               fine = I .fine;
             }) (said-pops (w .at .pend) (Join (e0 .kind) (x .num)) (small, tt))
 
         open-goes : look (I .opened) (e0 .to) s0 ≡ none → (p : Pool) (pairs : List ℕ) (n : ℕ) → n ≤ highest → numIn n (I .opened) ≡ false
-            → ((j : ℕ) → H p pairs (pair s0 (e0 .to) n j ∷ I .opened))
-            → R (turn (moved (pooled w1 pairs) (ringed (w .at) p)) (popsThen (w .at .pend) (Join (e0 .kind) n)))
+            → ((j : ℕ) → H p pairs (ringPair s0 (e0 .to) n j ∷ I .opened))
+            → R (turn (withWalker (pooled w1 pairs) (ringSaid (w .at) p)) (popsThen (w .at .pend) (Join (e0 .kind) n)))
         unfolding toldAs
         open-goes l p pairs n small new h =
             let S = I .sta in
@@ -339,21 +339,21 @@ module _ (H : Pool → List ℕ → List Pair → Type 0) (Q : Serves H) (g : Gr
             let P : List Pair = I .opened in
             let t : ℕ = e0 .to in
             let j : ℕ = b0 .joins in
-            let P′ : List Pair = pair s0 t n j ∷ P in
+            let P′ : List Pair = ringPair s0 t n j ∷ P in
             let S′ = sta-joins S rt r more q pairs p mt in
             let nj : joinIn j P ≡ false = by-bool (joinIn j P) (λ z. absurd (omega (arith, B0 .joins j z))) (λ z. z) in
             let room : countOf (map (view κ0 o P′ (push s0 e0 d0)) o) ≤ degrees g (g .size) =
-            subst (λ (d : ℕ → List Bond). countOf (map (view κ0 o P′ d) o) ≤ degrees g (g .size)) D1 (sta-count S′ κ0 P′) in
+            subst (λ (d : ℕ → List BondEntry). countOf (map (view κ0 o P′ d) o) ≤ degrees g (g .size)) D1 (sta-count S′ κ0 P′) in
             let B′ = bld-open g κ0 o d0 P s0 e0 fs E0 (S .nod) (S .seen) b0 B0 n new room in
             goes (record {
               order = o;
               frame = I .frame;
               opened = P′;
               sta = S′;
-              pol = subst (λ (d : ℕ → List Bond). Pol o d P′) (sym D1) (pol-open s0 e0 o d0 P (I .pol) (E0 .fresh) (E0 .apart) n j (E0 .ms) l new nj);
+              pol = subst (λ (d : ℕ → List BondEntry). Pol o d P′) (sym D1) (pol-open s0 e0 o d0 P (I .pol) (E0 .fresh) (E0 .apart) n j (E0 .ms) l new nj);
               hold = h j;
               bld = subst (λ (x : Sketch). Bld g κ0 (I .frame) zero o (doneIn g (w .back) (set (w .taken) s0 (i0 + 1))) P′ x) (sym (run-is _))
-                  (subst (λ (d : ℕ → List Bond). Bld g κ0 (I .frame) zero o d P′ (stepS b0 (reader.Join (e0 .kind) n 0))) (sym D1)
+                  (subst (λ (d : ℕ → List BondEntry). Bld g κ0 (I .frame) zero o d P′ (stepS b0 (reader.Join (e0 .kind) n 0))) (sym D1)
                   (subst (λ (f : List ℕ). Bld g κ0 f zero o (push s0 e0 d0) P′ (stepS b0 (reader.Join (e0 .kind) n 0))) (sym is-fs) B′));
               fine = I .fine;
             }) (said-pops (w .at .pend) (Join (e0 .kind) n) (small, tt))
@@ -366,8 +366,8 @@ module _ (H : Pool → List ℕ → List Pair → Type 0) (Q : Serves H) (g : Gr
         opens-turn l (full words e) = subst (λ (h : Hits). Rings h) (sym e) (stops (λ z. omega arith))
         opens-turn l (number p pairs n e small new h) = subst (λ (h : Hits). Rings h) (sym e) (open-goes l p pairs n small new h)
 
-        ring-turn : R (ringOf w1 (e0 .kind) s0 (e0 .to))
-        unfolding ringOf numberedOf
+        ring-turn : R (ringTurn w1 (e0 .kind) s0 (e0 .to))
+        unfolding ringTurn numberedOf
         ring-turn =
             let l′ : look (I .opened) s0 (e0 .to) ≡ none = shut (I .pol) s0 (e0 .to) (E0 .fresh) in
             by-look (look (I .opened) (e0 .to) s0)
@@ -384,8 +384,8 @@ module _ (H : Pool → List ℕ → List Pair → Type 0) (Q : Serves H) (g : Gr
           (λ x. enter-turn (eqb-true _ _ x) (leb-false _ _ z))
           (λ x. ring-turn (is-met (I .sta) (e0 .to) (eqb-false _ _ x)))))
 
-    entry-turn : R (entryOf g w s0 i0)
-    unfolding entryOf
+    entry-turn : R (entryTurn g w s0 i0)
+    unfolding entryTurn
     entry-turn = by-test R (eqb (getD (w .back) s0 0) (i0 + 1)) (λ z. pass-turn (eqb-true _ _ z)) (λ z. bond-turn (eqb-false _ _ z))
 
   atom-turn : w .at .standing ≡ true → R (atomOf g w (w .at .here))

@@ -13,56 +13,56 @@ use Rattle.feature.specs.declared.atom_kind.AtomKind.{AtomKind}
 use Rattle.feature.specs.declared.bond_kind.BondKind.{BondKind}
 use Rattle.feature.specs.declared.bond_kind.BondKind.the-variants.{Elided}
 use Rattle.builder_meaning.specs.Sketch.{Target, To, Open, Edge, Node, edge, node, upd, edgesAt, addEdge, waits, openKind, fillEdges, fill}
-use Rattle.walk_entry.specs.Graph.{Bond, bond}
-use Rattle.trip_graph.specs.Opened.{same, Pair, pair, pairIs, look, del}
+use Rattle.walk_entry.specs.Graph.{BondEntry, entryTo}
+use Rattle.trip_graph.specs.Opened.{sameNumber, Pair, ringPair, pairIs, look, del}
 use Rattle.trip_graph.proofs.Lists.{memb, idx, Nodup, same-refl, same-eq, same-ne, eq-of-same, true≢false, by-eq, by-bool, and-false, and-left, and-right, idx-app, idx-new, map-same, map-upd, map-app, or-true}
 
-unfoldable pub hasT : ℕ → List Bond → Bool
+unfoldable pub hasT : ℕ → List BondEntry → Bool
 hasT x [] = false
-hasT x (e ∷ l) = same x (e .to) || hasT x l
+hasT x (e ∷ l) = sameNumber x (e .to) || hasT x l
 
 unfoldable pub tgt : Option Pair → ℕ → Target
 tgt none i = To i
 tgt (some x) i = Open (x .join)
 
-unfoldable pub encT : (ℕ → Target) → Bond → Edge
+unfoldable pub encT : (ℕ → Target) → BondEntry → Edge
 encT τ e = edge (e .kind) (τ (e .to))
 
 -- where the entry of v towards x points: to the join of an open pair, or to x's place in the order
 unfoldable pub aim : List ℕ → List Pair → ℕ → ℕ → Target
 aim o P v x = tgt (look P v x) (idx x o)
 
-unfoldable pub view : (ℕ → AtomKind) → List ℕ → List Pair → (ℕ → List Bond) → ℕ → Node
+unfoldable pub view : (ℕ → AtomKind) → List ℕ → List Pair → (ℕ → List BondEntry) → ℕ → Node
 view κ o P d v = node (κ v) (map (encT (aim o P v)) (d v))
 
 -- one entry more of s
-unfoldable pub push : ℕ → Bond → (ℕ → List Bond) → ℕ → List Bond
-push s e d v = pick (same v s) (d v ++ (e ∷ [])) (d v)
+unfoldable pub push : ℕ → BondEntry → (ℕ → List BondEntry) → ℕ → List BondEntry
+push s e d v = pick (sameNumber v s) (d v ++ (e ∷ [])) (d v)
 
 -- ---- small laws
-pub enc-same : (τ σ : ℕ → Target) (l : List Bond) → ((x : ℕ) → hasT x l ≡ true → τ x ≡ σ x) → map (encT τ) l ≡ map (encT σ) l
+pub enc-same : (τ σ : ℕ → Target) (l : List BondEntry) → ((x : ℕ) → hasT x l ≡ true → τ x ≡ σ x) → map (encT τ) l ≡ map (encT σ) l
 unfolding hasT encT
 enc-same τ σ [] h = refl
 enc-same τ σ (e ∷ l) h =
-    ap₂ (λ (a : Target) (b : List Edge). edge (e .kind) a ∷ b) (h (e .to) (rw same-refl)) (enc-same τ σ l (λ x k. h x (or-true (same x (e .to)) k)))
+    ap₂ (λ (a : Target) (b : List Edge). edge (e .kind) a ∷ b) (h (e .to) (rw same-refl)) (enc-same τ σ l (λ x k. h x (or-true (sameNumber x (e .to)) k)))
 
-pub push-same : (s : ℕ) (e : Bond) (d : ℕ → List Bond) → push s e d s ≡ d s ++ (e ∷ [])
+pub push-same : (s : ℕ) (e : BondEntry) (d : ℕ → List BondEntry) → push s e d s ≡ d s ++ (e ∷ [])
 unfolding push
 push-same s e d = rw same-refl
 
-pub push-other : (s : ℕ) (e : Bond) (d : ℕ → List Bond) (v : ℕ) → v ≢ s → push s e d v ≡ d v
+pub push-other : (s : ℕ) (e : BondEntry) (d : ℕ → List BondEntry) (v : ℕ) → v ≢ s → push s e d v ≡ d v
 unfolding push
 push-other s e d v h = rw (same-ne v s h)
 
 -- an atom whose entries stay, and whose entries' aims stay, stays
-view-same : (κ κ′ : ℕ → AtomKind) (o o′ : List ℕ) (P P′ : List Pair) (d d′ : ℕ → List Bond) (v : ℕ) → κ′ v ≡ κ v → d′ v ≡ d v
+view-same : (κ κ′ : ℕ → AtomKind) (o o′ : List ℕ) (P P′ : List Pair) (d d′ : ℕ → List BondEntry) (v : ℕ) → κ′ v ≡ κ v → d′ v ≡ d v
     → ((x : ℕ) → hasT x (d v) ≡ true → aim o′ P′ v x ≡ aim o P v x) → view κ′ o′ P′ d′ v ≡ view κ o P d v
 unfolding view
 view-same κ κ′ o o′ P P′ d d′ v kq e h =
     rw e (ap₂ (λ (k : AtomKind) (l : List Edge). node k l) kq (enc-same (aim o′ P′ v) (aim o P v) (d v) h))
 
 -- an atom that gets one entry more, whose other entries' aims stay
-view-add : (κ κ′ : ℕ → AtomKind) (o o′ : List ℕ) (P P′ : List Pair) (d d′ : ℕ → List Bond) (v : ℕ) (e : Bond) (g : Target) → κ′ v ≡ κ v → d′ v ≡ d v ++ (e ∷ [])
+view-add : (κ κ′ : ℕ → AtomKind) (o o′ : List ℕ) (P P′ : List Pair) (d d′ : ℕ → List BondEntry) (v : ℕ) (e : BondEntry) (g : Target) → κ′ v ≡ κ v → d′ v ≡ d v ++ (e ∷ [])
     → ((x : ℕ) → hasT x (d v) ≡ true → aim o′ P′ v x ≡ aim o P v x) → aim o′ P′ v (e .to) ≡ g
     → view κ′ o′ P′ d′ v ≡ addEdge (edge (e .kind) g) (view κ o P d v)
 unfolding view addEdge encT
@@ -75,7 +75,7 @@ pair-from a b x h = rw (same-ne a (x .from) h)
 
 pub pair-onto : (a b : ℕ) (x : Pair) → b ≢ x .onto → pairIs a b x ≡ false
 unfolding pairIs
-pair-onto a b x h = rw (same-ne b (x .onto) h) (and-false (same a (x .from)))
+pair-onto a b x h = rw (same-ne b (x .onto) h) (and-false (sameNumber a (x .from)))
 
 pub pair-this : (a b : ℕ) (x : Pair) → a ≡ x .from → b ≡ x .onto → pairIs a b x ≡ true
 unfolding pairIs
@@ -93,7 +93,7 @@ aim-eq : (o o′ : List ℕ) (P P′ : List Pair) (v x : ℕ) → look P′ v x 
 unfolding aim
 aim-eq o o′ P P′ v x p q = ap₂ (λ (r : Option Pair) (i : ℕ). tgt r i) p q
 
-view-one : (κ : ℕ → AtomKind) (o : List ℕ) (P : List Pair) (d : ℕ → List Bond) (v : ℕ) (e : Bond) (g : Target) → d v ≡ e ∷ [] → aim o P v (e .to) ≡ g
+view-one : (κ : ℕ → AtomKind) (o : List ℕ) (P : List Pair) (d : ℕ → List BondEntry) (v : ℕ) (e : BondEntry) (g : Target) → d v ≡ e ∷ [] → aim o P v (e .to) ≡ g
     → view κ o P d v ≡ node (κ v) (edge (e .kind) g ∷ [])
 unfolding view encT
 view-one κ o P d v e g q h = rw q (ap (λ (t : Target). node (κ v) (edge (e .kind) t ∷ [])) h)
@@ -117,7 +117,7 @@ pair-a a b z h = eq-of-same a (z .from) (and-left _ _ h)
 
 pub pair-b : (a b : ℕ) (z : Pair) → pairIs a b z ≡ true → b ≡ z .onto
 unfolding pairIs
-pair-b a b z h = eq-of-same b (z .onto) (and-right (same a (z .from)) _ h)
+pair-b a b z h = eq-of-same b (z .onto) (and-right (sameNumber a (z .from)) _ h)
 
 pub look-del-from : (P : List Pair) (t s a b : ℕ) → a ≢ t → look (del t s P) a b ≡ look P a b
 look-del-from P t s a b h = look-del P t s a b (λ z q. pair-from a b z (λ p. h (p ∙ sym (pair-a t s z q))))
@@ -126,20 +126,20 @@ pub look-del-onto : (P : List Pair) (t s a b : ℕ) → b ≢ s → look (del t 
 look-del-onto P t s a b h = look-del P t s a b (λ z q. pair-onto a b z (λ p. h (p ∙ sym (pair-b t s z q))))
 
 -- ---- the edge that waits for a join
-pub data NodupB : List Bond → Type 0 where
+pub data NodupB : List BondEntry → Type 0 where
   bnil : NodupB []
-  bcons : {e : Bond} {l : List Bond} → hasT (e .to) l ≡ false → NodupB l → NodupB (e ∷ l)
+  bcons : {e : BondEntry} {l : List BondEntry} → hasT (e .to) l ≡ false → NodupB l → NodupB (e ∷ l)
 
-unfoldable pub kindT : ℕ → List Bond → BondKind
+unfoldable pub kindT : ℕ → List BondEntry → BondKind
 kindT x [] = Elided
-kindT x (e ∷ l) = pick (same x (e .to)) (e .kind) (kindT x l)
+kindT x (e ∷ l) = pick (sameNumber x (e .to)) (e .kind) (kindT x l)
 
 edge-eq : {a b : BondKind} {t u : Target} → a ≡ b → t ≡ u → edge a t ≡ edge b u
 edge-eq p q = λ i. record { kind = p i; target = q i }
 
 module _ (τ τ′ : ℕ → Target) (r : ℕ) (k : BondKind) (s i : ℕ) (here : waits r (τ s) ≡ true) (others : (x : ℕ) → x ≢ s → waits r (τ x) ≡ false)
     (set : τ′ s ≡ To i) (keep : (x : ℕ) → x ≢ s → τ′ x ≡ τ x) where
-  fill-enc : (l : List Bond) → NodupB l → hasT s l ≡ true → kindT s l ≡ k → fillEdges r k i (map (encT τ) l) ≡ map (encT τ′) l
+  fill-enc : (l : List BondEntry) → NodupB l → hasT s l ≡ true → kindT s l ≡ k → fillEdges r k i (map (encT τ) l) ≡ map (encT τ′) l
   unfolding fillEdges encT hasT kindT
   fill-enc [] n h q = refl
   fill-enc (e ∷ l) (bcons f n) h q = by-eq s (e .to)
@@ -152,7 +152,7 @@ module _ (τ τ′ : ℕ → Target) (r : ℕ) (k : BondKind) (s i : ℕ) (here 
       (λ p. rw (others (e .to) (λ w. p (sym w))) (ap₂ (λ (a : Edge) (b : List Edge). a ∷ b) (edge-eq refl (sym (keep (e .to) (λ w. p (sym w)))))
       (fill-enc l n (rw (same-ne s (e .to) p) at h) (rw (same-ne s (e .to) p) at q))))
 
-  kind-enc : (l : List Bond) → hasT s l ≡ true → openKind r (map (encT τ) l) ≡ kindT s l
+  kind-enc : (l : List BondEntry) → hasT s l ≡ true → openKind r (map (encT τ) l) ≡ kindT s l
   unfolding openKind encT hasT kindT
   kind-enc [] h = refl
   kind-enc (e ∷ l) h = by-eq s (e .to)
@@ -160,17 +160,17 @@ module _ (τ τ′ : ℕ → Target) (r : ℕ) (k : BondKind) (s i : ℕ) (here 
       (λ p. rw (same-ne s (e .to) p, others (e .to) (λ w. p (sym w))) (kind-enc l (rw (same-ne s (e .to) p) at h)))
 
 -- ---- the three steps
-module _ (κ : ℕ → AtomKind) (o : List ℕ) (P : List Pair) (d : ℕ → List Bond) (s : ℕ) (e : Bond)
+module _ (κ : ℕ → AtomKind) (o : List ℕ) (P : List Pair) (d : ℕ → List BondEntry) (s : ℕ) (e : BondEntry)
     (nod : Nodup o) (ms : memb s o ≡ true)
     (seen : (v x : ℕ) → hasT x (d v) ≡ true → memb x o ≡ true)
     (fresh : hasT (e .to) (d s) ≡ false) where
   -- opening a pair
   pub view-open : (r j : ℕ)
-      → map (view κ o (pair s (e .to) r j ∷ P) (push s e d)) o
+      → map (view κ o (ringPair s (e .to) r j ∷ P) (push s e d)) o
       ≡ upd (idx s o) (addEdge (edge (e .kind) (Open j))) (map (view κ o P d) o)
   unfolding tgt aim
   view-open r j =
-      let n : Pair = pair s (e .to) r j in
+      let n : Pair = ringPair s (e .to) r j in
       map-upd (view κ o P d) (view κ o (n ∷ P) (push s e d)) _ s o nod ms
       (view-add κ κ o o P (n ∷ P) d (push s e d) s e (Open j) refl (push-same s e d)
       (λ x k. aim-eq o o P (n ∷ P) s x (look-skip n P s x (pair-onto s x n (λ q. true≢false k (rw q fresh)))) refl)
@@ -180,16 +180,16 @@ module _ (κ : ℕ → AtomKind) (o : List ℕ) (P : List Pair) (d : ℕ → Lis
 
   -- a new atom
   pub view-extend : (κ′ : ℕ → AtomKind) → ((v : ℕ) → v ≢ e .to → κ′ v ≡ κ v) → memb (e .to) o ≡ false → d (e .to) ≡ [] → look P s (e .to) ≡ none → look P (e .to) s ≡ none
-      → map (view κ′ (o ++ (e .to ∷ [])) P (push (e .to) (bond (reverseOf (e .kind)) s) (push s e d))) (o ++ (e .to ∷ []))
+      → map (view κ′ (o ++ (e .to ∷ [])) P (push (e .to) (entryTo (reverseOf (e .kind)) s) (push s e d))) (o ++ (e .to ∷ []))
       ≡ upd (idx s o) (addEdge (edge (e .kind) (To (length o)))) (map (view κ o P d) o)
       ++ (node (κ′ (e .to)) (edge (reverseOf (e .kind)) (To (idx s o)) ∷ []) ∷ [])
   unfolding tgt aim
   view-extend κ′ kq mt ut l1 l2 =
       let t : ℕ = e .to in
       let o′ : List ℕ = o ++ (t ∷ []) in
-      let back : Bond = bond (reverseOf (e .kind)) s in
-      let d1 : ℕ → List Bond = push s e d in
-      let d2 : ℕ → List Bond = push t back d1 in
+      let back : BondEntry = entryTo (reverseOf (e .kind)) s in
+      let d1 : ℕ → List BondEntry = push s e d in
+      let d2 : ℕ → List BondEntry = push t back d1 in
       let s≢t : s ≢ t = λ q. true≢false (rw q at ms) mt in
       let old : (v x : ℕ) → hasT x (d v) ≡ true → aim o′ P v x ≡ aim o P v x = λ v x k. aim-eq o o′ P P v x refl (idx-app x o (t ∷ []) (seen v x k)) in
       let here : view κ′ o′ P d2 s ≡ addEdge (edge (e .kind) (To (length o))) (view κ o P d s) =
@@ -197,7 +197,7 @@ module _ (κ : ℕ → AtomKind) (o : List ℕ) (P : List Pair) (d : ℕ → Lis
       let others : (v : ℕ) → v ≢ s → memb v o ≡ true → view κ′ o′ P d2 v ≡ view κ o P d v =
       λ v h m. let vt : v ≢ t = λ q. true≢false (rw q at m) mt in view-same κ κ′ o o′ P P d d2 v (kq v vt) (push-other t back d1 v vt ∙ push-other s e d v h) (old v) in
       let last : view κ′ o′ P d2 t ≡ node (κ′ t) (edge (reverseOf (e .kind)) (To (idx s o)) ∷ []) =
-      view-one κ′ o′ P d2 t back (To (idx s o)) (push-same t back d1 ∙ ap (λ (l : List Bond). l ++ (back ∷ [])) (push-other s e d t (λ q. s≢t (sym q)) ∙ ut)) (rw (l2, idx-app s o (t ∷ []) ms)) in
+      view-one κ′ o′ P d2 t back (To (idx s o)) (push-same t back d1 ∙ ap (λ (l : List BondEntry). l ++ (back ∷ [])) (push-other s e d t (λ q. s≢t (sym q)) ∙ ut)) (rw (l2, idx-app s o (t ∷ []) ms)) in
       map-app (view κ′ o′ P d2) o (t ∷ []) ∙ ap₂ (λ (a : List Node) (b : Node). a ++ (b ∷ [])) (map-upd (view κ o P d) (view κ′ o′ P d2) _ s o nod ms here others) last
 
 edges-map : (t : ℕ) (F : ℕ → Node) (o : List ℕ) → memb t o ≡ true → edgesAt (idx t o) (map F o) ≡ F t .edges
@@ -212,7 +212,7 @@ pub some-inj : {a b : Pair} → some a ≡ some b → a ≡ b
 some-inj h = cc
 
 -- closing the pair that was opened at t, from s
-module _ (κ : ℕ → AtomKind) (o : List ℕ) (P : List Pair) (d : ℕ → List Bond) (s : ℕ) (e : Bond) (r : Pair)
+module _ (κ : ℕ → AtomKind) (o : List ℕ) (P : List Pair) (d : ℕ → List BondEntry) (s : ℕ) (e : BondEntry) (r : Pair)
     (nod : Nodup o) (ms : memb s o ≡ true) (mt : memb (e .to) o ≡ true) (s≢t : s ≢ e .to)
     (open-t : look P (e .to) s ≡ some r) (shut-s : look P s (e .to) ≡ none)
     (one : (x : ℕ) (y : Pair) → look P (e .to) x ≡ some y → y .join ≡ r .join → x ≡ s)
@@ -220,11 +220,11 @@ module _ (κ : ℕ → AtomKind) (o : List ℕ) (P : List Pair) (d : ℕ → Lis
   waits-one : (x : ℕ) (q : Option Pair) (i : ℕ) → look P (e .to) x ≡ q → waits (r .join) (tgt q i) ≡ true → x ≡ s
   unfolding waits tgt
   waits-one x none i l h = absurd (true≢false h refl)
-  waits-one x (some a) i l h = one x a l (eq-of-same (a .join) (r .join) (unfold same in h))
+  waits-one x (some a) i l h = one x a l (eq-of-same (a .join) (r .join) (unfold sameNumber in h))
 
   waits-here : waits (r .join) (aim o P (e .to) s) ≡ true
   unfolding aim tgt waits
-  waits-here = rw open-t (unfold same in same-refl (r .join))
+  waits-here = rw open-t (unfold sameNumber in same-refl (r .join))
 
   waits-others : (x : ℕ) → x ≢ s → waits (r .join) (aim o P (e .to) x) ≡ false
   unfolding aim
@@ -267,7 +267,7 @@ module _ (κ : ℕ → AtomKind) (o : List ℕ) (P : List Pair) (d : ℕ → Lis
       ∙ back
 
 -- a root
-pub view-root : (κ κ′ : ℕ → AtomKind) (o : List ℕ) (P : List Pair) (d : ℕ → List Bond) (i : ℕ) → ((v : ℕ) → v ≢ i → κ′ v ≡ κ v) → memb i o ≡ false
+pub view-root : (κ κ′ : ℕ → AtomKind) (o : List ℕ) (P : List Pair) (d : ℕ → List BondEntry) (i : ℕ) → ((v : ℕ) → v ≢ i → κ′ v ≡ κ v) → memb i o ≡ false
     → ((v x : ℕ) → hasT x (d v) ≡ true → memb x o ≡ true) → d i ≡ []
     → map (view κ′ (o ++ (i ∷ [])) P d) (o ++ (i ∷ [])) ≡ map (view κ o P d) o ++ (node (κ′ i) [] ∷ [])
 unfolding view

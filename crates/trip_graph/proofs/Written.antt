@@ -18,17 +18,17 @@ use Rattle.walk.specs.declared.walker.Walker.{Walker}
 use Rattle.walk.specs.Walk.{unknownTarget, loop}
 use Rattle.table_check.specs.declared.Judged.{Judged}
 use Rattle.table_check.specs.declared.Judged.the-variants.{Bad, Holds}
-use Rattle.table_check.specs.Judge.{degreeOf, bondStands, atomsFrom, bondsFrom, afterAtoms, badRecord}
+use Rattle.table_check.specs.Judge.{degreeOf, bondStands, atomsFrom, firstBadBond, afterAtoms, badRecord}
 use Rattle.write.specs.declared.answer.Written.{Written}
 use Rattle.write.specs.declared.answer.Written.the-variants.{Done, AtomRoom, BondRoom, OutRoom, BadTable}
-use Rattle.write.specs.Write.{zeros, graphOf, walkIn, saidIn, walkOf, saidOf, lineSaid, refusalOf, atomRoom, bondRoom, Left, left, refusing, putLine, concluded, graphWritten, writeOf}
+use Rattle.write.specs.Write.{zeros, graphOf, walkIn, saidIn, walkOf, walkEvents, lineSaid, writeRefusal, atomPlaces, bondSlots, WriteLeft, writeLeaves, lineRefusing, putLine, lineConcluded, graphWritten, writeOf}
 use Rattle.walk_laws.specs.Trek.{Room, degrees}
 use Rattle.feature.proofs.Cases.{by-test}
 use Rattle.walk_laws.proofs.Judged.{judged-degrees}
-use Rattle.trip_graph.specs.Renumber.{Simple, Known, told, unplaced, Numbering, Built}
+use Rattle.trip_graph.specs.Renumber.{Simple, Known, asReadEvents, placeless, Numbering, Built}
 use Rattle.trip_graph.specs.Renumbered.{byWalk, renumbered}
 use Rattle.trip_graph.specs.Marks.{Tetrahedral}
-use Rattle.trip_graph.specs.Opened.{Numbered}
+use Rattle.trip_graph.specs.Opened.{RingsHaveText}
 use Rattle.trip_graph.proofs.Trip.{graph-trip, walk-numbers, walk-numbered, walk-known, renumbered-count}
 use Rattle.trip_graph.proofs.Places.{places-free}
 
@@ -43,7 +43,7 @@ module _ (atoms bonds : List ℕ) (n m : ℕ) (few : n ≤ atomLimit) (good : ba
   entries = judged-degrees n m atoms bonds _ good
 
   pub table-trip : (places slots : ℕ) → n ≤ places → m ≤ slots
-      → Built (runS (startS places slots) (told (saidOf atoms n bonds m))) (renumbered (graphOf n atoms bonds) (byWalk (walkOf atoms n bonds m)))
+      → Built (runS (startS places slots) (asReadEvents (walkEvents atoms n bonds m))) (renumbered (graphOf n atoms bonds) (byWalk (walkOf atoms n bonds m)))
   unfolding walkIn saidIn
   table-trip places slots hp hs =
       graph-trip (graphOf n atoms bonds) W T atomLimit atomLimit atomLimit atomLimit table-room few m (omega (arith, entries)) fine places slots hp (omega (arith, entries))
@@ -56,7 +56,7 @@ module _ (atoms bonds : List ℕ) (n m : ℕ) (few : n ≤ atomLimit) (good : ba
   unfolding walkIn
   table-known = walk-known (graphOf n atoms bonds) W T atomLimit atomLimit atomLimit atomLimit table-room few m (omega (arith, entries)) fine
 
-  pub table-numbered : Numbered (saidOf atoms n bonds m)
+  pub table-numbered : RingsHaveText (walkEvents atoms n bonds m)
   unfolding walkIn saidIn
   table-numbered = walk-numbered (graphOf n atoms bonds) W T atomLimit atomLimit atomLimit atomLimit table-room few m (omega (arith, entries)) fine
 
@@ -66,17 +66,17 @@ module _ (atoms bonds : List ℕ) (n m : ℕ) (few : n ≤ atomLimit) (good : ba
       renumbered-count (graphOf n atoms bonds) W T atomLimit atomLimit atomLimit atomLimit table-room few m (omega (arith, entries)) fine ∙ entries
 
   -- the same for events of a reader, which say where they stood in a text
-  pub placed-trip : (places slots : ℕ) → n ≤ places → m ≤ slots → (es : List reader.Event) → map unplaced es ≡ told (saidOf atoms n bonds m)
+  pub placed-trip : (places slots : ℕ) → n ≤ places → m ≤ slots → (es : List reader.ReadEvent) → map placeless es ≡ asReadEvents (walkEvents atoms n bonds m)
       → Built (runS (startS places slots) es) (renumbered (graphOf n atoms bonds) (byWalk (walkOf atoms n bonds m)))
   placed-trip places slots hp hs es e =
       let b = table-trip places slots hp hs in
-      let same : runS (startS places slots) es ≡ runS (startS places slots) (map unplaced es) =
-      places-free (startS places slots) es (ap (λ (x : List reader.Event). runS (startS places slots) x .refusal) e ∙ b .refusal) in
+      let same : runS (startS places slots) es ≡ runS (startS places slots) (map placeless es) =
+      places-free (startS places slots) es (ap (λ (x : List reader.ReadEvent). runS (startS places slots) x .refusal) e ∙ b .refusal) in
       subst (λ (d : Sketch). Built d (renumbered (graphOf n atoms bonds) (byWalk (walkOf atoms n bonds m)))) (sym (same ∙ ap (runS (startS places slots)) e)) b
 
 -- ---- what a write that is done says
-bonds-most : (bonds : List ℕ) (held k e : ℕ) → bondsFrom bonds held k e ≤ e + k
-unfolding bondsFrom
+bonds-most : (bonds : List ℕ) (held k e : ℕ) → firstBadBond bonds held k e ≤ e + k
+unfolding firstBadBond
 bonds-most bonds held zero e = omega arith
 bonds-most bonds held (suc k) e =
     by-test (λ (x : ℕ). x ≤ e + suc k) (leb held e) (λ q. omega arith)
@@ -105,23 +105,23 @@ bad-most atoms bonds n m =
     let z : 0 + n ≡ n = omega arith in
     after-most (atomsFrom atoms m n 0 0) bonds n m (rw z at (atoms-most atoms m n 0 0))
 
-few-atoms : (atoms : List ℕ) (n : ℕ) → ltb (atomRoom atoms) n ≡ false → n ≤ atomLimit
-unfolding atomRoom lesserOf
+few-atoms : (atoms : List ℕ) (n : ℕ) → ltb (atomPlaces atoms) n ≡ false → n ≤ atomLimit
+unfolding atomPlaces lesserOf
 few-atoms atoms n =
     by-test (λ (x : ℕ). ltb x n ≡ false → n ≤ atomLimit) (ltb (length atoms / atomWords) atomLimit)
     (λ q h. omega (arith, ltb-false (length atoms / atomWords) n h, ltb-true (length atoms / atomWords) atomLimit q))
     (λ q h. ltb-false atomLimit n h)
 
-few-bonds : (bonds : List ℕ) (m : ℕ) → ltb (bondRoom bonds) m ≡ false → m ≤ bondLimit
-unfolding bondRoom lesserOf
+few-bonds : (bonds : List ℕ) (m : ℕ) → ltb (bondSlots bonds) m ≡ false → m ≤ bondLimit
+unfolding bondSlots lesserOf
 few-bonds bonds m =
     by-test (λ (x : ℕ). ltb x m ≡ false → m ≤ bondLimit) (ltb (length bonds / bondWords) bondLimit)
     (λ q h. omega (arith, ltb-false (length bonds / bondWords) m h, ltb-true (length bonds / bondWords) bondLimit q))
     (λ q h. ltb-false bondLimit m h)
 
 -- a refused walk is not done
-never-done : (z : Walker) (len : ℕ) → refusalOf z ≡ Done len → ⊥
-unfolding refusalOf
+never-done : (z : Walker) (len : ℕ) → writeRefusal z ≡ Done len → ⊥
+unfolding writeRefusal
 never-done z len =
     by-test N (eqb (z .refusal) unknownTarget) (λ q e. let y : _≡_ {A = ℕ} 0 1 = cc in omega arith)
     (λ q. by-test N (eqb (z .refusal) loop) (λ q e. let y : _≡_ {A = ℕ} 0 1 = cc in omega arith)
@@ -140,35 +140,35 @@ pub record WasDone (room : ℕ) (atoms : List ℕ) (n : ℕ) (bonds : List ℕ) 
   pub most : m ≤ bondLimit
   pub good : badRecord atoms n bonds m ≡ n + m
   pub fine : walkOf atoms n bonds m .at .refusal ≡ 0
-  pub length-is : len ≡ length (lineSaid (saidOf atoms n bonds m))
-  pub fits : length (lineSaid (saidOf atoms n bonds m)) ≤ room
-  pub line : out ≡ lineSaid (saidOf atoms n bonds m) ++ zeros (room - length (lineSaid (saidOf atoms n bonds m)))
+  pub length-is : len ≡ length (lineSaid (walkEvents atoms n bonds m))
+  pub fits : length (lineSaid (walkEvents atoms n bonds m)) ≤ room
+  pub line : out ≡ lineSaid (walkEvents atoms n bonds m) ++ zeros (room - length (lineSaid (walkEvents atoms n bonds m)))
 
-pub was-done : (room : ℕ) (atoms : List ℕ) (n : ℕ) (bonds : List ℕ) (m len : ℕ) (out : List ℕ) → writeOf room atoms n bonds m ≡ left (Done len) out
+pub was-done : (room : ℕ) (atoms : List ℕ) (n : ℕ) (bonds : List ℕ) (m len : ℕ) (out : List ℕ) → writeOf room atoms n bonds m ≡ writeLeaves (Done len) out
     → WasDone room atoms n bonds m len out
-unfolding writeOf graphWritten concluded putLine
+unfolding writeOf graphWritten lineConcluded putLine
 was-done room atoms n bonds m len out =
     let D : Type 0 = WasDone room atoms n bonds m len out in
-    let L : List ℕ = lineSaid (saidOf atoms n bonds m) in
-    by-test (λ (x : Left). x ≡ left (Done len) out → D) (ltb (atomRoom atoms) n) (λ q e. absurd (refusal-no (AtomRoom n) (λ z. let y : _≡_ {A = ℕ} 0 1 = cc in omega arith) e))
-    (λ q1. by-test (λ (x : Left). x ≡ left (Done len) out → D) (ltb (bondRoom bonds) m) (λ q e. absurd (refusal-no (BondRoom m) (λ z. let y : _≡_ {A = ℕ} 0 1 = cc in omega arith) e))
-    (λ q2. by-test (λ (x : Left). x ≡ left (Done len) out → D) (ltb (badRecord atoms n bonds m) (n + m))
+    let L : List ℕ = lineSaid (walkEvents atoms n bonds m) in
+    by-test (λ (x : WriteLeft). x ≡ writeLeaves (Done len) out → D) (ltb (atomPlaces atoms) n) (λ q e. absurd (refusal-no (AtomRoom n) (λ z. let y : _≡_ {A = ℕ} 0 1 = cc in omega arith) e))
+    (λ q1. by-test (λ (x : WriteLeft). x ≡ writeLeaves (Done len) out → D) (ltb (bondSlots bonds) m) (λ q e. absurd (refusal-no (BondRoom m) (λ z. let y : _≡_ {A = ℕ} 0 1 = cc in omega arith) e))
+    (λ q2. by-test (λ (x : WriteLeft). x ≡ writeLeaves (Done len) out → D) (ltb (badRecord atoms n bonds m) (n + m))
     (λ q e. absurd (refusal-no (BadTable (badRecord atoms n bonds m)) (λ z. let y : _≡_ {A = ℕ} 0 1 = cc in omega arith) e))
-    (λ q3. by-test (λ (x : Left). x ≡ left (Done len) out → D) (eqb (walkOf atoms n bonds m .at .refusal) 0)
-    (λ q4. by-test (λ (x : Left). x ≡ left (Done len) out → D) (ltb room (length L)) (λ q e. absurd (refusal-no (OutRoom (length L)) (λ z. let y : _≡_ {A = ℕ} 0 1 = cc in omega arith) e))
+    (λ q3. by-test (λ (x : WriteLeft). x ≡ writeLeaves (Done len) out → D) (eqb (walkOf atoms n bonds m .at .refusal) 0)
+    (λ q4. by-test (λ (x : WriteLeft). x ≡ writeLeaves (Done len) out → D) (ltb room (length L)) (λ q e. absurd (refusal-no (OutRoom (length L)) (λ z. let y : _≡_ {A = ℕ} 0 1 = cc in omega arith) e))
     (λ q5 e. record {
       few = few-atoms atoms n q1;
       most = few-bonds bonds m q2;
       good = omega (arith, bad-most atoms bonds n m, ltb-false (badRecord atoms n bonds m) (n + m) q3);
       fine = eqb-true _ 0 q4;
-      length-is = done-length (ap (λ (x : Left). x .answer) e);
+      length-is = done-length (ap (λ (x : WriteLeft). x .answer) e);
       fits = ltb-false room (length L) q5;
-      line = sym (ap (λ (x : Left). x .out) e);
+      line = sym (ap (λ (x : WriteLeft). x .out) e);
     }))
-    (λ q e. absurd (never-done (walkOf atoms n bonds m .at) len (ap (λ (x : Left). x .answer) e))))))
+    (λ q e. absurd (never-done (walkOf atoms n bonds m .at) len (ap (λ (x : WriteLeft). x .answer) e))))))
   where
-    refusal-no : (r : Written) → (r ≡ Done len → ⊥) → refusing room r ≡ left (Done len) out → ⊥
-    refusal-no r h e = h (ap (λ (x : Left). x .answer) e)
+    refusal-no : (r : Written) → (r ≡ Done len → ⊥) → lineRefusing room r ≡ writeLeaves (Done len) out → ⊥
+    refusal-no r h e = h (ap (λ (x : WriteLeft). x .answer) e)
 
     done-length : {a b : ℕ} → Done a ≡ Done b → b ≡ a
     done-length e = cc
@@ -178,8 +178,8 @@ was-done room atoms n bonds m len out =
 -- each event at any place, has its builder build the graph renumbered in walk order.
 pub written-trip : (room : ℕ) (atoms : List ℕ) (n : ℕ) (bonds : List ℕ) (m len : ℕ) (out : List ℕ)
     → Simple (graphOf n atoms bonds) → ((a : ℕ) → a < n → Tetrahedral (kindAt (graphOf n atoms bonds) a))
-    → writeOf room atoms n bonds m ≡ left (Done len) out
-    → (places slots : ℕ) → n ≤ places → m ≤ slots → (es : List reader.Event) → map unplaced es ≡ told (saidOf atoms n bonds m)
+    → writeOf room atoms n bonds m ≡ writeLeaves (Done len) out
+    → (places slots : ℕ) → n ≤ places → m ≤ slots → (es : List reader.ReadEvent) → map placeless es ≡ asReadEvents (walkEvents atoms n bonds m)
     → Built (runS (startS places slots) es) (renumbered (graphOf n atoms bonds) (byWalk (walkOf atoms n bonds m))) × Numbering (graphOf n atoms bonds) (byWalk (walkOf atoms n bonds m))
 written-trip room atoms n bonds m len out W T e places slots hp hs es h =
     let d = was-done room atoms n bonds m len out e in

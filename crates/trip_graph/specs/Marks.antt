@@ -6,7 +6,7 @@ use mathlib.Core.Logic.{_≢_}
 use mathlib.Core.Bool.{Bool, true, false}
 use lib.Dec.{eqb}
 use Rattle.feature.specs.Pick.{pick, both, neither}
-use Rattle.feature.specs.Kinds.{noHydrogens, th1, th2, marked, inRange, invertOf}
+use Rattle.feature.specs.Kinds.{noHydrogens, th1, th2, withConfiguration, inRange, invertOf}
 use Rattle.feature.specs.declared.atom_kind.AtomKind.{AtomKind}
 use Rattle.feature.specs.declared.atom_kind.AtomKind.the-variants.{Star, Aliphatic, Aromatic, Bracket}
 use Rattle.feature.specs.declared.atom_kind.Inverted.the-variants.{Turned}
@@ -35,7 +35,7 @@ unfoldable pub toggled : AtomKind → AtomKind
 toggled Star = Star
 toggled (Aliphatic n) = Aliphatic n
 toggled (Aromatic n) = Aromatic n
-toggled (Bracket b) = Bracket (marked b (otherMark (b .configuration)))
+toggled (Bracket b) = Bracket (withConfiguration b (otherMark (b .configuration)))
 
 -- whether the parent's entry stood at an odd index: b is its place from 1, and 0 for a root
 unfoldable pub oddIndex : ℕ → Bool

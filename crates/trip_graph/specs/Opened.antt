@@ -15,8 +15,8 @@ use Rattle.join_pool.specs.Pairs.{highest, hits, hitOf, emptyOf}
 use Rattle.writer.specs.Line.{Event, Root, Extend, Join, Pop}
 use Rattle.write.specs.Write.{pairWords}
 
-unfoldable pub same : ℕ → ℕ → Bool
-same a b = eqb a b
+unfoldable pub sameNumber : ℕ → ℕ → Bool
+sameNumber a b = eqb a b
 
 -- a pair opened at one atom towards another: its number, and the join that opened it
 pub record Pair : Type 0 where
@@ -25,11 +25,11 @@ pub record Pair : Type 0 where
   pub num : ℕ
   pub join : ℕ
 
-abbrev pub pair : ℕ → ℕ → ℕ → ℕ → Pair
-pair a b n j = record { from = a; onto = b; num = n; join = j }
+abbrev pub ringPair : ℕ → ℕ → ℕ → ℕ → Pair
+ringPair a b n j = record { from = a; onto = b; num = n; join = j }
 
 unfoldable pub pairIs : ℕ → ℕ → Pair → Bool
-pairIs a b x = same a (x .from) && same b (x .onto)
+pairIs a b x = sameNumber a (x .from) && sameNumber b (x .onto)
 
 -- the pair opened at a towards b
 unfoldable pub look : List Pair → ℕ → ℕ → Option Pair
@@ -44,11 +44,11 @@ del a b (x ∷ P) = pick (pairIs a b x) (del a b P) (x ∷ del a b P)
 -- whether a number is open, and whether a join waits
 unfoldable pub numIn : ℕ → List Pair → Bool
 numIn r [] = false
-numIn r (x ∷ P) = same r (x .num) || numIn r P
+numIn r (x ∷ P) = sameNumber r (x .num) || numIn r P
 
 unfoldable pub joinIn : ℕ → List Pair → Bool
 joinIn r [] = false
-joinIn r (x ∷ P) = same r (x .join) || joinIn r P
+joinIn r (x ∷ P) = sameNumber r (x .join) || joinIn r P
 
 -- numbers, pairs and joins are distinct
 pub data Distinct : List Pair → Type 0 where
@@ -68,7 +68,7 @@ pub record Closes (H : Pool → List ℕ → List Pair → Type 0) (p : Pool) (p
 pub data Opens (H : Pool → List ℕ → List Pair → Type 0) (p : Pool) (pairs : List ℕ) (P : List Pair) (s t : ℕ) : Type 0 where
   full : (words : List ℕ) → hitOf p pairs s t ≡ hits Full words → Opens H p pairs P s t
   number : (after : Pool) (words : List ℕ) (n : ℕ) → hitOf p pairs s t ≡ hits (Number after n) words → n ≤ highest → numIn n P ≡ false
-      → ((j : ℕ) → H after words (pair s t n j ∷ P)) → Opens H p pairs P s t
+      → ((j : ℕ) → H after words (ringPair s t n j ∷ P)) → Opens H p pairs P s t
 
 pub record Serves (H : Pool → List ℕ → List Pair → Type 0) : Type 0 where
   pub start : H emptyOf (replicate pairWords 0) []
@@ -78,9 +78,9 @@ pub record Serves (H : Pool → List ℕ → List Pair → Type 0) : Type 0 wher
       → look P t s ≡ none → look P s t ≡ none → Opens H p pairs P s t
 
 -- so every ring number that is said has a text
-abbrev pub Numbered : List Event → Type 0
-Numbered [] = Unit {0}
-Numbered (Root k ∷ es) = Numbered es
-Numbered (Extend b k ∷ es) = Numbered es
-Numbered (Join b r ∷ es) = (r ≤ highest) × Numbered es
-Numbered (Pop d ∷ es) = Numbered es
+abbrev pub RingsHaveText : List Event → Type 0
+RingsHaveText [] = Unit {0}
+RingsHaveText (Root k ∷ es) = RingsHaveText es
+RingsHaveText (Extend b k ∷ es) = RingsHaveText es
+RingsHaveText (Join b r ∷ es) = (r ≤ highest) × RingsHaveText es
+RingsHaveText (Pop d ∷ es) = RingsHaveText es

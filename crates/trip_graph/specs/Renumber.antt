@@ -10,14 +10,14 @@ use Rattle.read_line.specs.declared.lead.Lead.the-variants as lead
 use Rattle.read_line.specs.Events as reader
 use Rattle.writer.specs.Line as writer
 use Rattle.builder.specs.declared.build.Built.the-variants.{Done}
-use Rattle.builder_meaning.specs.Sketch.{Node, None, Sketch, numberOf, countOf, finishS}
-use Rattle.walk_entry.specs.Graph.{Bond, Graph, kindAt, degreeAt, bondOf, bond}
+use Rattle.builder_meaning.specs.Sketch.{Node, None, Sketch, nextNumber, countOf, finishS}
+use Rattle.walk_entry.specs.Graph.{BondEntry, Graph, kindAt, degreeAt, bondOf, entryTo}
 use Rattle.trip_graph.specs.Marks.{backKind}
 use Rattle.trip_graph.specs.Renumbered.{Numbers, entriesOf, renumbered}
 
 -- ---- what is asked of a graph
 -- an entry of t that leads back to a, and is the reverse of the entry e
-pub record Backed (g : Graph) (a t : ℕ) (e : Bond) : Type 0 where
+pub record Backed (g : Graph) (a t : ℕ) (e : BondEntry) : Type 0 where
   pub place : ℕ
   pub within : place < degreeAt g t
   pub leads : bondOf g t place .to ≡ a
@@ -35,22 +35,22 @@ abbrev pub Known : Graph → Type 0
 Known g = (a i : ℕ) → a < g .size → i < degreeAt g a → bondOf g a i .to < g .size
 
 -- ---- a walk's events as a reader says them
-unfoldable pub toldAs : writer.Event → reader.Event
+unfoldable pub toldAs : writer.Event → reader.ReadEvent
 toldAs (writer.Root k) = reader.Enter lead.Dot k 0
 toldAs (writer.Extend b k) = reader.Enter (lead.Bond b) k 0
 toldAs (writer.Join b n) = reader.Join b n 0
 toldAs (writer.Pop d) = reader.Pop d
 
-unfoldable pub told : List writer.Event → List reader.Event
-told es = map toldAs es
+unfoldable pub asReadEvents : List writer.Event → List reader.ReadEvent
+asReadEvents es = map toldAs es
 
 -- a reader's event with its place in the text forgotten
-unfoldable pub unplaced : reader.Event → reader.Event
-unplaced (reader.Enter l k place) = reader.Enter l k 0
-unplaced (reader.Join b n place) = reader.Join b n 0
-unplaced (reader.Pop n) = reader.Pop n
-unplaced (reader.Miss m) = reader.Miss m
-unplaced (reader.Nest place) = reader.Nest place
+unfoldable pub placeless : reader.ReadEvent → reader.ReadEvent
+placeless (reader.Enter l k place) = reader.Enter l k 0
+placeless (reader.Join b n place) = reader.Join b n 0
+placeless (reader.Pop n) = reader.Pop n
+placeless (reader.Miss m) = reader.Miss m
+placeless (reader.Nest place) = reader.Nest place
 
 -- ---- what is left
 -- the numbers of a walk renumber the atoms: each atom has one, the atom of each number has that number, and a parent's entry is one
@@ -72,8 +72,8 @@ pub record Built (d : Sketch) (ns : List Node) : Type 0 where
   pub says : finishS d ≡ Done
 
 -- an entry with its target by its number
-unfoldable pub numberedAs : (ℕ → ℕ) → Bond → Bond
-numberedAs number e = bond (e .kind) (number (e .to))
+unfoldable pub numberedAs : (ℕ → ℕ) → BondEntry → BondEntry
+numberedAs number e = entryTo (e .kind) (number (e .to))
 
 -- the graph h looks like g renumbered: the atom v of h is the atom that has the number v
 pub record Renumbers (g h : Graph) (p : Numbers) : Type 0 where
@@ -81,11 +81,11 @@ pub record Renumbers (g h : Graph) (p : Numbers) : Type 0 where
   pub kind : (v : ℕ) → v < g .size → kindAt h v ≡ backKind (kindAt g (p .atom v)) (p .parent (p .atom v))
   pub degree : (v : ℕ) → v < g .size → degreeAt h v ≡ degreeAt g (p .atom v)
   pub entry : (v i : ℕ) → v < g .size → i < degreeAt g (p .atom v)
-      → bondOf h v i ≡ numberedAs (p .number) (getD (entriesOf g (p .atom v) (p .parent (p .atom v))) i (bond Elided 0))
+      → bondOf h v i ≡ numberedAs (p .number) (getD (entriesOf g (p .atom v) (p .parent (p .atom v))) i (entryTo Elided 0))
 
 -- What a builder d made of n atoms and m entries is the graph g renumbered: the builder is done, it made the renumbered atoms, and it
 -- counted the atoms and entries.
 pub record ComesBack (g : Graph) (p : Numbers) (d : Sketch) (n m : ℕ) : Type 0 where
   pub built : Built d (renumbered g p)
-  pub atoms : numberOf d ≡ n
+  pub atoms : nextNumber d ≡ n
   pub entries : countOf (d .nodes) ≡ m

@@ -7,7 +7,7 @@ use lib.ListN.{getD}
 use lib.Dec.{eqb}
 use Rattle.feature.specs.Pick.{pick}
 use Rattle.builder_meaning.specs.Sketch.{To, Edge, Node, edge, node}
-use Rattle.walk_entry.specs.Graph.{Bond, Graph, kindAt, degreeAt, bondOf}
+use Rattle.walk_entry.specs.Graph.{BondEntry, Graph, kindAt, degreeAt, bondOf}
 use Rattle.walk.specs.Walk.{Walk}
 use Rattle.trip_graph.specs.Marks.{backKind}
 
@@ -24,24 +24,24 @@ byWalk w =
 
 -- ---- the entries of an atom
 -- the first n entries of the atom a in order, but for the one at place b, from 1
-unfoldable pub othersOf : Graph → ℕ → ℕ → ℕ → List Bond
+unfoldable pub othersOf : Graph → ℕ → ℕ → ℕ → List BondEntry
 othersOf g a b zero = []
 othersOf g a b (suc n) = othersOf g a b n ++ pick (eqb b (suc n)) [] (bondOf g a n ∷ [])
 
 -- the parent's entry, at place b from 1, and none for a root
-unfoldable pub parentEntry : Graph → ℕ → ℕ → List Bond
+unfoldable pub parentEntry : Graph → ℕ → ℕ → List BondEntry
 parentEntry g a b = pick (eqb b 0) [] (bondOf g a (b - 1) ∷ [])
 
 -- with the parent's entry moved to the front: all that stand before the place n, and so all of them
-unfoldable pub doneOf : Graph → ℕ → ℕ → ℕ → List Bond
+unfoldable pub doneOf : Graph → ℕ → ℕ → ℕ → List BondEntry
 doneOf g a b n = parentEntry g a b ++ othersOf g a b n
 
-abbrev pub entriesOf : Graph → ℕ → ℕ → List Bond
+abbrev pub entriesOf : Graph → ℕ → ℕ → List BondEntry
 entriesOf g a b = doneOf g a b (degreeAt g a)
 
 -- ---- the graph
 -- an entry, its target by its number
-unfoldable pub edgeOf : (ℕ → ℕ) → Bond → Edge
+unfoldable pub edgeOf : (ℕ → ℕ) → BondEntry → Edge
 edgeOf number e = edge (e .kind) (To (number (e .to)))
 
 unfoldable pub nodeOf : Graph → Numbers → ℕ → Node

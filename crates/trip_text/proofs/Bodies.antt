@@ -18,7 +18,7 @@ use Rattle.survive.specs.Survive.{survives, canFollow}
 use Rattle.survive.proofs.ReadBack.{read-back-at}
 use Rattle.survive.proofs.Shift.{front}
 use Rattle.read_line.specs.declared.lead.Lead.the-variants.{Dot, Bond}
-use Rattle.read_line.specs.Events.{Event, Enter, Join, Pop, Nest}
+use Rattle.read_line.specs.Events.{ReadEvent, Enter, Join, Pop, Nest}
 use Rattle.read_line.specs.Parse.{Rest, bodyOf, bodyAt, ledAt, foundP, atomP, ringP, unionBy, unionP, unitBy, unitP, lineP, closeP, branchP, bodies, endP}
 use Rattle.trip_text.proofs.Stands.{Stands, after, next, apart, first}
 use Rattle.trip_text.proofs.Heads.{atom-plain, rnum-plain}
@@ -65,7 +65,7 @@ module _ (f : ℕ) (s : List ℕ) (room at n : ℕ) (K : Rest) (q : List ℕ) wh
   branch-read h = simp (first h)
 
   -- what ends a branch
-  pub close-read : (next : ℕ → List Event) → Stands s at (byte ")" ∷ q) → bodies (suc f) s room at n (closeP s next) ≡ Pop n ∷ next (at + 1)
+  pub close-read : (next : ℕ → List ReadEvent) → Stands s at (byte ")" ∷ q) → bodies (suc f) s room at n (closeP s next) ≡ Pop n ∷ next (at + 1)
   unfolding bodies bodyAt bodyOf closeP
   close-read next h = simp (first h)
 

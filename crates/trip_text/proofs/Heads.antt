@@ -10,14 +10,14 @@ use borrow.Author.Tests.{eqb-true}
 use Rattle.feature.specs.Pick.{both, either, neither}
 use Rattle.feature.specs.Text.{byte}
 use Rattle.feature.specs.Names.{names}
-use Rattle.feature.specs.Kinds.{aliphatics, aromatics}
+use Rattle.feature.specs.Kinds.{aliphaticCount, aromaticCount}
 use Rattle.feature.proofs.Ranges.{good}
 use Rattle.feature.specs.declared.atom_kind.AtomKind.{AtomKind}
 use Rattle.feature.specs.declared.atom_kind.AtomKind.the-variants.{Star, Aliphatic, Aromatic, Bracket}
 use Rattle.feature.specs.declared.bond_kind.BondKind.{BondKind}
 use Rattle.feature.specs.declared.bond_kind.BondKind.the-variants as kind
-use Rattle.spell.specs.Spell.{nameText, organic, bracketText, kindText, atomText, bondText, digits, rnumText}
-use Rattle.read_token.specs.Scan.{bondOf, markWidth}
+use Rattle.spell.specs.Spell.{nameText, organicSymbols, bracketText, kindText, atomText, bondText, digits, rnumText}
+use Rattle.read_token.specs.Scan.{signKind, markWidth}
 use Rattle.survive.specs.Survive.{survives, canFollow}
 use Rattle.survive.proofs.Checked.{below, both-true}
 use Rattle.survive.proofs.ReadBack.{survives-ranged, text-of}
@@ -28,7 +28,7 @@ unfoldable pub plain : ℕ → Bool
 plain x =
     both (ltb x 128)
     (both (eqb (bodyOf x) (byte "2"))
-    (both (eqb (markWidth (bondOf x)) 0)
+    (both (eqb (markWidth (signKind x)) 0)
     (both (neither (eqb x (byte ".")))
     (neither (either (eqb x (byte "l")) (eqb x (byte "r")))))))
 
@@ -58,12 +58,12 @@ of-test (x ∷ xs) h = record { head = x; tail = xs; is = refl; ok = true-of (pl
 
 -- ---- atoms
 kind-plain : (k : AtomKind) → survives k ≡ true → Plain (kindText k)
-unfolding kindText bracketText organic nameText names plain bodyOf bondOf markWidth
+unfolding kindText bracketText organicSymbols nameText names plain bodyOf signKind markWidth
 kind-plain Star e = of-test (kindText Star) tt
 kind-plain (Aliphatic n) e =
-    of-test (kindText (Aliphatic n)) (below (λ n. plainText (kindText (Aliphatic n))) aliphatics tt n (good (Aliphatic n) (survives-ranged (Aliphatic n) e)))
+    of-test (kindText (Aliphatic n)) (below (λ n. plainText (kindText (Aliphatic n))) aliphaticCount tt n (good (Aliphatic n) (survives-ranged (Aliphatic n) e)))
 kind-plain (Aromatic n) e =
-    of-test (kindText (Aromatic n)) (below (λ n. plainText (kindText (Aromatic n))) aromatics tt n (good (Aromatic n) (survives-ranged (Aromatic n) e)))
+    of-test (kindText (Aromatic n)) (below (λ n. plainText (kindText (Aromatic n))) aromaticCount tt n (good (Aromatic n) (survives-ranged (Aromatic n) e)))
 kind-plain (Bracket b) e = record { head = byte "["; tail = _; is = refl; ok = refl }
 
 pub atom-plain : (k : AtomKind) → survives k ≡ true → Plain (atomText k)
@@ -71,7 +71,7 @@ atom-plain k e = rw (text-of k (survives-ranged k e)) (kind-plain k e)
 
 -- ---- ring numbers
 pub rnum-plain : (n : ℕ) → n ≤ 99 → Plain (rnumText n)
-unfolding rnumText digits plain bodyOf bondOf markWidth
+unfolding rnumText digits plain bodyOf signKind markWidth
 rnum-plain n h = of-test (rnumText n) (below (λ n. plainText (rnumText n)) 100 tt n (omega arith))
 
 -- ---- what such a byte is
@@ -93,7 +93,7 @@ not-true false e = refl
 pub record Facts (x : ℕ) : Type 0 where
   pub ascii : ltb x 128 ≡ true
   pub body : bodyOf x ≡ byte "2"
-  pub bond : bondOf x ≡ kind.Elided
+  pub bond : signKind x ≡ kind.Elided
   pub dot : eqb x (byte ".") ≡ false
   pub second : neither (either (eqb x (byte "l")) (eqb x (byte "r"))) ≡ true
 
@@ -102,12 +102,12 @@ unfolding plain
 facts x e =
     let a = both-true (ltb x 128) _ e in
     let b = both-true (eqb (bodyOf x) (byte "2")) _ (a .1) in
-    let c = both-true (eqb (markWidth (bondOf x)) 0) _ (b .1) in
+    let c = both-true (eqb (markWidth (signKind x)) 0) _ (b .1) in
     let d = both-true (neither (eqb x (byte "."))) _ (c .1) in
     record {
       ascii = a .0;
       body = eqb-true (bodyOf x) (byte "2") (b .0);
-      bond = no-width (bondOf x) (eqb-true (markWidth (bondOf x)) 0 (c .0));
+      bond = no-width (signKind x) (eqb-true (markWidth (signKind x)) 0 (c .0));
       dot = not-true (eqb x (byte ".")) (d .0);
       second = d .1;
     }

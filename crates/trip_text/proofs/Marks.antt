@@ -13,7 +13,7 @@ use Rattle.feature.specs.declared.bond_kind.BondKind.the-variants as kind
 use Rattle.spell.specs.Spell.{bondText, digits, rnumText}
 use Rattle.read_token.specs.declared.scanner.Found.the-variants.{Nothing}
 use Rattle.read_token.specs.declared.read_rnum.Ring.the-variants.{Number}
-use Rattle.read_token.specs.Scan.{peekAt, digitOf, digitAt, bondOf, markWidth, bondAt, percentAt, rnumAt, aromaticOf, aliphaticOf, organicAt, bracketAt, starAt, orElse, otherAt, atomAt}
+use Rattle.read_token.specs.Scan.{peekAt, digitOf, digitAt, signKind, markWidth, bondAt, percentAt, rnumAt, aromaticOf, aliphaticOf, organicAt, bracketAt, starAt, orElse, otherAt, atomAt}
 use Rattle.read_line.specs.declared.lead.Lead.the-variants.{Bond}
 use Rattle.read_line.specs.Parse.{bodyOf, bodyAt, ledAt}
 use Rattle.trip_text.proofs.Stands.{Stands, next, first}
@@ -34,7 +34,7 @@ module _ (s : List ℕ) (at : ℕ) where
     next = rw (z, f .dot, f .bond) refl;
   }
 
-  mark-leads : (b : BondKind) (x : ℕ) → peekAt s at ≡ x → bodyOf x ≡ byte "2" → ltb x 128 ≡ true → eqb x (byte ".") ≡ false → bondOf x ≡ b
+  mark-leads : (b : BondKind) (x : ℕ) → peekAt s at ≡ x → bodyOf x ≡ byte "2" → ltb x 128 ≡ true → eqb x (byte ".") ≡ false → signKind x ≡ b
       → markWidth b ≡ length (bondText b) → Leads s at b
   unfolding bodyAt ledAt bondAt
   mark-leads b x z f a d g w = record {
@@ -45,7 +45,7 @@ module _ (s : List ℕ) (at : ℕ) where
 
 -- so each bond does, in front of a text whose first byte is plain
 pub leads : (b : BondKind) {s : List ℕ} {at : ℕ} (t q : List ℕ) → Plain t → Stands s at ((bondText b ++ t) ++ q) → Leads s at b
-unfolding bondText bodyOf bondOf markWidth
+unfolding bondText bodyOf signKind markWidth
 leads kind.Elided {s} {at} t q p h =
     let g : Stands s at (p .head ∷ (p .tail ++ q)) = rw (p .is) at h in
     plain-leads s at (p .head) (first g) (facts (p .head) (p .ok))

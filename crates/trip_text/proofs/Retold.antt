@@ -15,7 +15,7 @@ use Rattle.read_line.specs.Events as reader
 use Rattle.read_line.specs.Parse.{bodies, endP, parse}
 use Rattle.writer.specs.Line.{Event, Root, Extend, Join, Pop, lineOf, dotText, addPiece, writeEvent, writeEvents}
 use Rattle.walk_laws.specs.Trek.{AllAccepted}
-use Rattle.trip_text.specs.Retell.{placeless, unplaced, nests, Says, all, cut, retoldOne, retold, depthsOne, depths, depth, Told, Spelled}
+use Rattle.trip_text.specs.Retell.{placeless, unplaced, hasNest, SaysWithin, all, cut, retoldOne, retold, depthsOne, depths, depth, Sayable, Spellable}
 use Rattle.trip_text.proofs.Passes.{passes}
 use Rattle.trip_text.proofs.Stands.{Stands, whole, after}
 use Rattle.trip_text.proofs.Bodies.{end-read}
@@ -23,12 +23,12 @@ use Rattle.trip_text.proofs.Sense.{Then, goes, stops, then-same, then-a
 use Rattle.trip_text.proofs.Held.{begun, added, held-all, held-line}
 
 -- a line that is read from its start on as these events says them and nothing more
-then-nothing : {w room : ℕ} (D x : List reader.Event) → Then w room D x [] → Says w room D x
+then-nothing : {w room : ℕ} (D x : List reader.ReadEvent) → Then w room D x [] → SaysWithin w room D x
 unfolding unplaced
 then-nothing D x (goes g e) = all g (rw append-nil at e)
 then-nothing D x (stops A B g d e) = cut A B g d e
 
-said : {c w : ℕ} (s : List ℕ) (D : List reader.Event) → Sense start c w s D → Says w branchLimit D (parse s)
+said : {c w : ℕ} (s : List ℕ) (D : List reader.ReadEvent) → Sense start c w s D → SaysWithin w branchLimit D (parse s)
 unfolding parse met canFollow
 said {c} {w} s D a =
     let h : Stands s 0 (s ++ []) = rw append-nil (whole s) in
@@ -44,8 +44,8 @@ said {c} {w} s D a =
 -- Events, at least one, that a line can say in their order, whose atoms survive and whose ring numbers have a text, all taken
 -- by a writer that held no piece: their line is read as these events, in this order and with nothing else, places aside; or
 -- as those before a branch too many, and then that branch.
-pub retold-line : (most : ℕ) (es : List Event) → 0 < length es → Told 0 es → Spelled es → AllAccepted most es []
-    → Says (depth es) branchLimit (retold es) (parse (lineOf (writeEvents most es [])))
+pub retold-line : (most : ℕ) (es : List Event) → 0 < length es → Sayable 0 es → Spellable es → AllAccepted most es []
+    → SaysWithin (depth es) branchLimit (retold es) (parse (lineOf (writeEvents most es [])))
 unfolding writeEvents writeEvent retold retoldOne dotText depth depths depthsOne
 retold-line most [] l t s a = absurd (omega arith)
 retold-line most (Root k ∷ es) l t s a =
@@ -57,8 +57,8 @@ retold-line most (Join b n ∷ es) l t s a = absurd (omega arith)
 retold-line most (Pop d ∷ es) l t s a = absurd (omega arith)
 
 -- ---- whether there is a branch too many
-nests-placeless : (x : List reader.Event) → nests (unplaced x) ≡ nests x
-unfolding nests unplaced placeless
+nests-placeless : (x : List reader.ReadEvent) → hasNest (unplaced x) ≡ hasNest x
+unfolding hasNest unplaced placeless
 nests-placeless [] = refl
 nests-placeless (reader.Enter l k p ∷ x) = nests-placeless x
 nests-placeless (reader.Join b n p ∷ x) = nests-placeless x
@@ -67,8 +67,8 @@ nests-placeless (reader.Miss m ∷ x) = nests-placeless x
 nests-placeless (reader.Nest p ∷ x) = refl
 
 -- with one at its end
-nests-last : (A : List reader.Event) → nests (A ++ (reader.Nest 0 ∷ [])) ≡ true
-unfolding nests
+nests-last : (A : List reader.ReadEvent) → hasNest (A ++ (reader.Nest 0 ∷ [])) ≡ true
+unfolding hasNest
 nests-last [] = refl
 nests-last (reader.Enter l k p ∷ x) = nests-last x
 nests-last (reader.Join b n p ∷ x) = nests-last x
@@ -77,8 +77,8 @@ nests-last (reader.Miss m ∷ x) = nests-last x
 nests-last (reader.Nest p ∷ x) = refl
 
 -- a writer tells of none
-nests-retold : (es : List Event) → nests (retold es) ≡ false
-unfolding nests retold retoldOne
+nests-retold : (es : List Event) → hasNest (retold es) ≡ false
+unfolding hasNest retold retoldOne
 nests-retold [] = refl
 nests-retold (Root k ∷ es) = nests-retold es
 nests-retold (Extend b k ∷ es) = nests-retold es
@@ -86,32 +86,32 @@ nests-retold (Join b n ∷ es) = nests-retold es
 nests-retold (Pop d ∷ es) = nests-retold es
 
 -- if none is met, all is said
-says-flat : {w room : ℕ} (D x : List reader.Event) → Says w room D x → nests x ≡ false → unplaced x ≡ D
+says-flat : {w room : ℕ} (D x : List reader.ReadEvent) → SaysWithin w room D x → hasNest x ≡ false → unplaced x ≡ D
 says-flat D x (all g e) h = e
 says-flat D x (cut A B g d e) h =
-    absurd (let y : nests x ≡ true = sym (nests-placeless x) ∙ ap nests e ∙ nests-last A in let z : _≡_ {A = ℕ} 0 1 = cc in omega arith)
+    absurd (let y : hasNest x ≡ true = sym (nests-placeless x) ∙ ap hasNest e ∙ nests-last A in let z : _≡_ {A = ℕ} 0 1 = cc in omega arith)
 
 -- The same in one equation: where no branch too many is met, what is read is what was told.
-pub retold-flat : (most : ℕ) (k : AtomKind) (es : List Event) → Told 0 (Root k ∷ es) → Spelled (Root k ∷ es) → AllAccepted most (Root k ∷ es) []
-    → nests (parse (lineOf (writeEvents most (Root k ∷ es) []))) ≡ false
+pub retold-flat : (most : ℕ) (k : AtomKind) (es : List Event) → Sayable 0 (Root k ∷ es) → Spellable (Root k ∷ es) → AllAccepted most (Root k ∷ es) []
+    → hasNest (parse (lineOf (writeEvents most (Root k ∷ es) []))) ≡ false
     → unplaced (parse (lineOf (writeEvents most (Root k ∷ es) []))) ≡ retold (Root k ∷ es)
 retold-flat most k es t s a h = says-flat _ _ (retold-line most (Root k ∷ es) (omega arith) t s a) h
 
 -- if there is room for them all, all is said, and none is met
-says-all : {w room : ℕ} (D x : List reader.Event) → Says w room D x → w ≤ room → unplaced x ≡ D
+says-all : {w room : ℕ} (D x : List reader.ReadEvent) → SaysWithin w room D x → w ≤ room → unplaced x ≡ D
 says-all D x (all g e) h = e
 says-all D x (cut A B g d e) h = absurd (omega arith)
 
 -- And with no word on what the reader says: where at most 128 branches are open at once, what is read is what was told.
-pub retold-shallow : (most : ℕ) (es : List Event) → 0 < length es → Told 0 es → Spelled es → AllAccepted most es [] → depth es ≤ branchLimit
+pub retold-shallow : (most : ℕ) (es : List Event) → 0 < length es → Sayable 0 es → Spellable es → AllAccepted most es [] → depth es ≤ branchLimit
     → unplaced (parse (lineOf (writeEvents most es []))) ≡ retold es
 retold-shallow most es l t s a h = says-all _ _ (retold-line most es l t s a) h
 
 -- A branch too many is met exactly where more are open at once.
-says-nests : {w room : ℕ} (D x : List reader.Event) → nests D ≡ false → Says w room D x → nests x ≡ ltb room w
-says-nests {w} {room} D x f (all g e) = sym (nests-placeless x) ∙ ap nests e ∙ f ∙ sym (le-ltb room w g)
-says-nests {w} {room} D x f (cut A B g d e) = sym (nests-placeless x) ∙ ap nests e ∙ nests-last A ∙ sym (lt-ltb room w g)
+says-nests : {w room : ℕ} (D x : List reader.ReadEvent) → hasNest D ≡ false → SaysWithin w room D x → hasNest x ≡ ltb room w
+says-nests {w} {room} D x f (all g e) = sym (nests-placeless x) ∙ ap hasNest e ∙ f ∙ sym (le-ltb room w g)
+says-nests {w} {room} D x f (cut A B g d e) = sym (nests-placeless x) ∙ ap hasNest e ∙ nests-last A ∙ sym (lt-ltb room w g)
 
-pub retold-nests : (most : ℕ) (es : List Event) → 0 < length es → Told 0 es → Spelled es → AllAccepted most es []
-    → nests (parse (lineOf (writeEvents most es []))) ≡ ltb branchLimit (depth es)
+pub retold-nests : (most : ℕ) (es : List Event) → 0 < length es → Sayable 0 es → Spellable es → AllAccepted most es []
+    → hasNest (parse (lineOf (writeEvents most es []))) ≡ ltb branchLimit (depth es)
 retold-nests most es l t s a = says-nests (retold es) _ (nests-retold es) (retold-line most es l t s a)

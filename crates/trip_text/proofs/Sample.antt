@@ -8,14 +8,14 @@ use Rattle.feature.specs.Names.{names}
 use Rattle.feature.specs.Kinds.{inRange}
 use Rattle.feature.specs.declared.atom_kind.AtomKind.the-variants.{Star, Aliphatic, Aromatic}
 use Rattle.feature.specs.declared.bond_kind.BondKind.the-variants.{Elided, Single, Double, Up}
-use Rattle.spell.specs.Spell.{nameText, organic, kindText, atomText, bondText, digits, rnumText}
+use Rattle.spell.specs.Spell.{nameText, organicSymbols, kindText, atomText, bondText, digits, rnumText}
 use Rattle.survive.specs.Survive.{survives}
 use Rattle.survive.proofs.ReadBack.{alone}
 use Rattle.read_line.specs.Parse.{parse, lineP, atomP, foundP, bodies, bodyAt, bodyOf, unitP, unitBy, unionP, unionBy, ringP, ledAt, closeP, branchP, endP}
-use Rattle.read_token.specs.Scan.{peekAt, digitOf, digitAt, bondOf, markWidth, bondAt, percentAt, rnumAt, aromaticOf, aliphaticOf, optionalAt, organicAt, bracketAt, starAt, orElse, otherAt, atomAt}
+use Rattle.read_token.specs.Scan.{peekAt, digitOf, digitAt, signKind, markWidth, bondAt, percentAt, rnumAt, aromaticOf, aliphaticOf, optionalAt, organicAt, bracketAt, starAt, orElse, otherAt, atomAt}
 use Rattle.writer.specs.Line.{Event, Root, Extend, Join, Pop, lineOf, dotText, addPiece, onLast, wrapped, popPieces, writeEvent, writeEvents}
 use Rattle.walk_laws.specs.Trek.{AllAccepted}
-use Rattle.trip_text.specs.Retell.{placeless, unplaced, retoldOne, retold, greatest, deepened, depthsOne, depths, depth, Told, Spelled}
+use Rattle.trip_text.specs.Retell.{placeless, unplaced, retoldOne, retold, greatest, deepened, depthsOne, depths, depth, Sayable, Spellable}
 use Rattle.trip_text.proofs.Retold.{retold-shallow}
 
 -- a chain with a ring number, a branch in a branch, a ring number of two digits, and a second root
@@ -25,14 +25,14 @@ sample =
     ∷ Pop 1 ∷ Extend Elided Star ∷ Join Elided 12 ∷ Root (Aliphatic 7) ∷ []
 
 sample-line : lineOf (writeEvents 8 sample []) ≡ bytes "CN=1(-c(/Br)7)*%12.Cl"
-unfolding lineOf writeEvents writeEvent addPiece dotText onLast wrapped popPieces atomText kindText nameText organic names bondText rnumText digits inRange
+unfolding lineOf writeEvents writeEvent addPiece dotText onLast wrapped popPieces atomText kindText nameText organicSymbols names bondText rnumText digits inRange
 sample-line = refl
 
-sample-told : Told 0 sample
+sample-told : Sayable 0 sample
 sample-told =
     (lit≤ tt, (lit≤ tt, (lit≤ tt, (lit≤ tt, (lit≤ tt, lit≤ tt, (lit≤ tt, (lit≤ tt, lit≤ tt, (lit≤ tt, (lit≤ tt, tt)))))))))
 
-sample-spelled : Spelled sample
+sample-spelled : Spellable sample
 unfolding survives inRange
 sample-spelled =
     (alone (Aliphatic 1) refl, (alone (Aliphatic 2) refl, (lit≤ tt, (alone (Aromatic 1) refl, (alone (Aliphatic 8) refl, (lit≤ tt, (alone Star refl, (lit≤ tt, (alone (Aliphatic 7) refl, tt)))))))))
@@ -54,5 +54,5 @@ sample-read =
 
 -- computed, with no law
 sample-computed : unplaced (parse (bytes "CN=1(-c(/Br)7)*%12.Cl")) ≡ retold sample
-unfolding parse lineP atomP foundP bodies bodyAt bodyOf unitP unitBy unionP unionBy ringP ledAt closeP branchP endP peekAt digitOf digitAt bondOf markWidth bondAt percentAt rnumAt aromaticOf aliphaticOf optionalAt organicAt bracketAt starAt orElse otherAt atomAt unplaced placeless retold retoldOne
+unfolding parse lineP atomP foundP bodies bodyAt bodyOf unitP unitBy unionP unionBy ringP ledAt closeP branchP endP peekAt digitOf digitAt signKind markWidth bondAt percentAt rnumAt aromaticOf aliphaticOf optionalAt organicAt bracketAt starAt orElse otherAt atomAt unplaced placeless retold retoldOne
 sample-computed = refl

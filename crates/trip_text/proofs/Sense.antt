@@ -14,7 +14,7 @@ use Rattle.feature.specs.declared.bond_kind.BondKind.{BondKind}
 use Rattle.spell.specs.Spell.{atomText, bondText, rnumText}
 use Rattle.survive.specs.Survive.{survives, canFollow}
 use Rattle.read_line.specs.declared.lead.Lead.the-variants.{Dot, Bond}
-use Rattle.read_line.specs.Events.{Event, Enter, Join, Pop, Nest}
+use Rattle.read_line.specs.Events.{ReadEvent, Enter, Join, Pop, Nest}
 use Rattle.read_line.specs.Parse.{Rest, ledAt, lineP, closeP, bodies}
 use Rattle.writer.specs.Line.{wrapped}
 use Rattle.trip_text.specs.Retell.{placeless, unplaced}
@@ -25,33 +25,33 @@ use Rattle.trip_text.proofs.Bodies.{extend-read, join-read, split-read,
 -- ---- what is said first and what is said then
 -- x says E, places aside, and then what y says, if there is room for the w branches that are open at once; and else as much of
 -- E as comes before a branch too many, and then that branch
-pub data Then : ℕ → ℕ → List Event → List Event → List Event → Type 0 where
-  goes : {w room : ℕ} {E x y : List Event} → w ≤ room → unplaced x ≡ E ++ unplaced y → Then w room E x y
-  stops : {w room : ℕ} {E x y : List Event} (A B : List Event) → room < w → E ≡ A ++ B → unplaced x ≡ A ++ (Nest 0 ∷ []) → Then w room E x y
+pub data Then : ℕ → ℕ → List ReadEvent → List ReadEvent → List ReadEvent → Type 0 where
+  goes : {w room : ℕ} {E x y : List ReadEvent} → w ≤ room → unplaced x ≡ E ++ unplaced y → Then w room E x y
+  stops : {w room : ℕ} {E x y : List ReadEvent} (A B : List ReadEvent) → room < w → E ≡ A ++ B → unplaced x ≡ A ++ (Nest 0 ∷ []) → Then w room E x y
 
-pub then-same : {room : ℕ} (x y : List Event) → x ≡ y → Then 0 room [] x y
+pub then-same : {room : ℕ} (x y : List ReadEvent) → x ≡ y → Then 0 room [] x y
 then-same {room} x y e = let k : 0 ≤ room = omega arith in goes k (ap unplaced e)
 
-pub then-app : {w v room : ℕ} {E F x y z : List Event} → Then w room E x y → Then v room F y z → Then (max w v) room (E ++ F) x z
+pub then-app : {w v room : ℕ} {E F x y z : List ReadEvent} → Then w room E x y → Then v room F y z → Then (max w v) room (E ++ F) x z
 then-app {w} {v} {room} {E} {F} {z = z} (goes g s) (goes h t) =
     let k : max w v ≤ room = omega arith in
-    goes k (s ∙ ap (λ (l : List Event). E ++ l) t ∙ sym (append-assoc E F (unplaced z)))
+    goes k (s ∙ ap (λ (l : List ReadEvent). E ++ l) t ∙ sym (append-assoc E F (unplaced z)))
 then-app {w} {v} {room} {E} {F} (goes g s) (stops A B h e t) =
     let k : room < max w v = omega arith in
     stops (E ++ A) B k
-    (ap (λ (l : List Event). E ++ l) e ∙ sym (append-assoc E A B))
-    (s ∙ ap (λ (l : List Event). E ++ l) t ∙ sym (append-assoc E A (Nest 0 ∷ [])))
+    (ap (λ (l : List ReadEvent). E ++ l) e ∙ sym (append-assoc E A B))
+    (s ∙ ap (λ (l : List ReadEvent). E ++ l) t ∙ sym (append-assoc E A (Nest 0 ∷ [])))
 then-app {w} {v} {room} {F = F} (stops A B g e s) t =
     let k : room < max w v = omega arith in
-    stops A (B ++ F) k (ap (λ (l : List Event). l ++ F) e ∙ append-assoc A B F) s
+    stops A (B ++ F) k (ap (λ (l : List ReadEvent). l ++ F) e ∙ append-assoc A B F) s
 
 -- one event
-then-one : {room : ℕ} (e : Event) (x y : List Event) → x ≡ e ∷ y → Then 0 room (placeless e ∷ []) x y
+then-one : {room : ℕ} (e : ReadEvent) (x y : List ReadEvent) → x ≡ e ∷ y → Then 0 room (placeless e ∷ []) x y
 unfolding unplaced
 then-one {room} e x y p = let k : 0 ≤ room = omega arith in goes k (ap unplaced p)
 
 -- in brackets there is one branch more open, and room for one less
-then-inner : (w room : ℕ) {E x y : List Event} → 0 < room → Then (max w 0) (room - 1) E x y → Then (w + 1) room E x y
+then-inner : (w room : ℕ) {E x y : List ReadEvent} → 0 < room → Then (max w 0) (room - 1) E x y → Then (w + 1) room E x y
 then-inner w room h (goes g e) = let k : w + 1 ≤ room = omega arith in goes k e
 then-inner w room h (stops A B g d e) = let k : room < w + 1 = omega arith in stops A B k d e
 
@@ -63,7 +63,7 @@ pub data Mode : Type 0 where
   start : Mode
 
 -- what is said there with so much fuel, with so many atoms on this level before
-unfoldable pub met : Mode → ℕ → List ℕ → ℕ → ℕ → ℕ → Rest → List Event
+unfoldable pub met : Mode → ℕ → List ℕ → ℕ → ℕ → ℕ → Rest → List ReadEvent
 met body f s room at n K = bodies f s room at n K
 met opened f s room at n K = lineP (bodies f s room) s (ledAt s at .next) (ledAt s at .lead) K
 met start f s room at n K = lineP (bodies f s room) s at Dot K
@@ -79,18 +79,18 @@ abbrev pub Fuelled : List ℕ → ℕ → ℕ → Type 0
 Fuelled s at f = length s < at + f
 
 -- the text p was read, as the events E, with c atoms and w branches open at once
-pub record Done (m : Mode) (c w : ℕ) (p : List ℕ) (E : List Event) (f : ℕ) (s : List ℕ) (room at n : ℕ) (K : Rest) : Type 0 where
+pub record Done (m : Mode) (c w : ℕ) (p : List ℕ) (E : List ReadEvent) (f : ℕ) (s : List ℕ) (room at n : ℕ) (K : Rest) : Type 0 where
   pub fuel : ℕ
   pub enough : Fuelled s (at + length p) fuel
   pub says : Then w room E (met m f s room at n K) (bodies fuel s room (at + length p) (base m n + c) K)
 
-pub record Sense (m : Mode) (c w : ℕ) (p : List ℕ) (E : List Event) : Type 0 where
+pub record Sense (m : Mode) (c w : ℕ) (p : List ℕ) (E : List ReadEvent) : Type 0 where
   pub reads : (f : ℕ) (s : List ℕ) (room at n : ℕ) (K : Rest) (q : List ℕ) → Stands s at (p ++ q) → canFollow q ≡ true → Fuelled s at f
       → Done m c w p E f s room at n K
   pub follows : (q : List ℕ) → canFollow q ≡ true → canFollow (p ++ q) ≡ true
 
 -- two texts in a row
-pub sense-app : {m : Mode} {c d w v : ℕ} {p q : List ℕ} {E F : List Event} → Sense m c w p E → Sense body d v q F → Sense m (c + d) (max w v) (p ++ q) (E ++ F)
+pub sense-app : {m : Mode} {c d w v : ℕ} {p q : List ℕ} {E F : List ReadEvent} → Sense m c w p E → Sense body d v q F → Sense m (c + d) (max w v) (p ++ q) (E ++ F)
 unfolding met base
 sense-app {m} {c} {d} {w} {v} {p} {q} {E} {F} a b =
     record {
@@ -114,7 +114,7 @@ sense-app {m} {c} {d} {w} {v} {p} {q} {E} {F} a b =
 
 -- ---- a body, an atom or a branch's first atom that says one event
 -- one event was said, and the fuel after it is at hand
-one-done : (m : Mode) (c : ℕ) (p : List ℕ) (e : Event) (f g : ℕ) (s : List ℕ) (room at n : ℕ) (K : Rest) (to k : ℕ)
+one-done : (m : Mode) (c : ℕ) (p : List ℕ) (e : ReadEvent) (f g : ℕ) (s : List ℕ) (room at n : ℕ) (K : Rest) (to k : ℕ)
     → met m f s room at n K ≡ e ∷ bodies g s room to k K
     → to ≡ at + length p → k ≡ base m n + c → Fuelled s to g
     → Done m c 0 p (placeless e ∷ []) f s room at n K
@@ -200,11 +200,11 @@ positive zero h = absurd (h refl)
 positive (suc n) h = omega arith
 
 -- one too many says so
-then-nest : (w at : ℕ) (E x y : List Event) → x ≡ Nest at ∷ [] → Then (w + 1) 0 E x y
+then-nest : (w at : ℕ) (E x y : List ReadEvent) → x ≡ Nest at ∷ [] → Then (w + 1) 0 E x y
 unfolding unplaced placeless
 then-nest w at E x y e = let k : 0 < w + 1 = omega arith in stops [] E k refl (ap unplaced e)
 
-pub sense-branch : {c w : ℕ} {p : List ℕ} {E : List Event} → Sense opened c w p E → Sense body 0 (w + 1) (wrapped p) (E ++ (Pop c ∷ []))
+pub sense-branch : {c w : ℕ} {p : List ℕ} {E : List ReadEvent} → Sense opened c w p E → Sense body 0 (w + 1) (wrapped p) (E ++ (Pop c ∷ []))
 unfolding met base placeless canFollow wrapped
 sense-branch {c} {w} {p} {E} a = record { reads = go; follows = λ q k. refl }
   where
@@ -212,7 +212,7 @@ sense-branch {c} {w} {p} {E} a = record { reads = go; follows = λ q k. refl }
     inner : (f : ℕ) (s : List ℕ) (room at n : ℕ) (K : Rest) (r : List ℕ) → Stands s (at + 1) (p ++ (byte ")" ∷ r)) → Fuelled s at (suc f)
         → Then (max w 0) (room - 1) (E ++ (Pop c ∷ [])) (met opened f s (room - 1) (at + 1) 0 (closeP s (λ at′. bodies f s room at′ n K))) (bodies f s room (at + 1 + length p + 1) n K)
     inner f s room at n K r h g =
-        let k : ℕ → List Event = λ at′. bodies f s room at′ n K in
+        let k : ℕ → List ReadEvent = λ at′. bodies f s room at′ n K in
         let x = a .reads f s (room - 1) (at + 1) 0 (closeP s k) (byte ")" ∷ r) h refl (omega arith) in
         let h2 = after p (byte ")" ∷ r) h in
         then-app (x .says) (closing (x .fuel) h2 (x .enough))

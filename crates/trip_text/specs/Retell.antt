@@ -11,60 +11,60 @@ use Rattle.writer.specs.Line.{Event, Root, Extend, Join, Pop}
 
 -- ---- the reader's events
 -- an event with the place in it forgotten
-unfoldable pub placeless : reader.Event → reader.Event
+unfoldable pub placeless : reader.ReadEvent → reader.ReadEvent
 placeless (reader.Enter l k p) = reader.Enter l k 0
 placeless (reader.Join b n p) = reader.Join b n 0
 placeless (reader.Pop n) = reader.Pop n
 placeless (reader.Miss m) = reader.Miss m
 placeless (reader.Nest p) = reader.Nest 0
 
-unfoldable pub unplaced : List reader.Event → List reader.Event
+unfoldable pub unplaced : List reader.ReadEvent → List reader.ReadEvent
 unplaced [] = []
 unplaced (e ∷ es) = placeless e ∷ unplaced es
 
 -- whether a branch too many is among the events
-unfoldable pub nests : List reader.Event → Bool
-nests [] = false
-nests (reader.Enter l k p ∷ es) = nests es
-nests (reader.Join b n p ∷ es) = nests es
-nests (reader.Pop n ∷ es) = nests es
-nests (reader.Miss m ∷ es) = nests es
-nests (reader.Nest p ∷ es) = true
+unfoldable pub hasNest : List reader.ReadEvent → Bool
+hasNest [] = false
+hasNest (reader.Enter l k p ∷ es) = hasNest es
+hasNest (reader.Join b n p ∷ es) = hasNest es
+hasNest (reader.Pop n ∷ es) = hasNest es
+hasNest (reader.Miss m ∷ es) = hasNest es
+hasNest (reader.Nest p ∷ es) = true
 
 -- What is said with room for so many open branches, where w are open at once: D, places aside, if there is room for them, and
 -- else as much of D as comes before a branch too many, then that branch and nothing more.
-pub data Says : ℕ → ℕ → List reader.Event → List reader.Event → Type 0 where
-  all : {w room : ℕ} {D x : List reader.Event} → w ≤ room → unplaced x ≡ D → Says w room D x
-  cut : {w room : ℕ} {D x : List reader.Event} (A B : List reader.Event) → room < w → D ≡ A ++ B → unplaced x ≡ A ++ (reader.Nest 0 ∷ []) → Says w room D x
+pub data SaysWithin : ℕ → ℕ → List reader.ReadEvent → List reader.ReadEvent → Type 0 where
+  all : {w room : ℕ} {D x : List reader.ReadEvent} → w ≤ room → unplaced x ≡ D → SaysWithin w room D x
+  cut : {w room : ℕ} {D x : List reader.ReadEvent} (A B : List reader.ReadEvent) → room < w → D ≡ A ++ B → unplaced x ≡ A ++ (reader.Nest 0 ∷ []) → SaysWithin w room D x
 
 -- what the reader should say of what the writer was told
-unfoldable pub retoldOne : Event → reader.Event
+unfoldable pub retoldOne : Event → reader.ReadEvent
 retoldOne (Root k) = reader.Enter Dot k 0
 retoldOne (Extend b k) = reader.Enter (Bond b) k 0
 retoldOne (Join b n) = reader.Join b n 0
 retoldOne (Pop d) = reader.Pop d
 
-unfoldable pub retold : List Event → List reader.Event
+unfoldable pub retold : List Event → List reader.ReadEvent
 retold [] = []
 retold (e ∷ es) = retoldOne e ∷ retold es
 
 -- ---- the writer's events
 -- Told in an order that a line can say, with so many pieces since the last root: an atom or a ring number needs one to stand
 -- on, and a branch leaves at least one, takes at least one and takes no root.
-abbrev pub Told : ℕ → List Event → Type 0
-Told n [] = Unit {0}
-Told n (Root k ∷ es) = Told 1 es
-Told n (Extend b k ∷ es) = (1 ≤ n) × Told (n + 1) es
-Told n (Join b r ∷ es) = (1 ≤ n) × Told n es
-Told n (Pop d ∷ es) = (1 ≤ d) × (d < n) × Told (n - d) es
+abbrev pub Sayable : ℕ → List Event → Type 0
+Sayable n [] = Unit {0}
+Sayable n (Root k ∷ es) = Sayable 1 es
+Sayable n (Extend b k ∷ es) = (1 ≤ n) × Sayable (n + 1) es
+Sayable n (Join b r ∷ es) = (1 ≤ n) × Sayable n es
+Sayable n (Pop d ∷ es) = (1 ≤ d) × (d < n) × Sayable (n - d) es
 
 -- Each atom's text, read alone, is the atom, and each ring number has a text.
-abbrev pub Spelled : List Event → Type 0
-Spelled [] = Unit {0}
-Spelled (Root k ∷ es) = Survives k × Spelled es
-Spelled (Extend b k ∷ es) = Survives k × Spelled es
-Spelled (Join b r ∷ es) = (r ≤ 99) × Spelled es
-Spelled (Pop d ∷ es) = Spelled es
+abbrev pub Spellable : List Event → Type 0
+Spellable [] = Unit {0}
+Spellable (Root k ∷ es) = Survives k × Spellable es
+Spellable (Extend b k ∷ es) = Survives k × Spellable es
+Spellable (Join b r ∷ es) = (r ≤ 99) × Spellable es
+Spellable (Pop d ∷ es) = Spellable es
 
 -- ---- how many branches are open at once
 -- the most of some numbers, 0 if there are none

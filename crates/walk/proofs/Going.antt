@@ -10,7 +10,7 @@ use Rattle.writer.specs.Tables.{Spoken, spoken, writer, sayAll}
 use Rattle.walk_entry.specs.Graph.{Graph}
 use Rattle.walk.specs.declared.walker.Walker.{Walker}
 use Rattle.join_pool.specs.declared.Pool.{Pool}
-use Rattle.walk.specs.Walk.{Walk, walk, startOf, Turn, turnOf, stepOf, walkTo, eventsOf, turnsOf, Did, Near, Grows}
+use Rattle.walk.specs.Walk.{Walk, walk, freshWalker, Turn, turnOf, stepOf, walkTo, eventsOf, turnsOf, Did, TurnNear, TurnGrows}
 use Rattle.walk.proofs.Moves.{say-append}
 
 -- all of a walk is t turns from w₀ on, told to s₀; n of them are left from w on, told to s
@@ -78,14 +78,14 @@ module _ (g : Graph) (w v : Walk) (s r : Spoken) (sound : w .at .refusal ≡ 0) 
       say-next n ∙ ap (λ (k : ℕ). sayAll r (eventsOf g k v)) e
 
 -- ---- the loop
-pub going-start : (g : Graph) (t n : ℕ) (p : Pool) (z : Walker) (met walked back taken pairs out starts : List ℕ) → n ≡ t → z ≡ startOf p → Going g t (walk z met walked back taken pairs) (spoken (writer 0 0) out starts) n (walk z met walked back taken pairs) (spoken (writer 0 0) out starts)
+pub going-start : (g : Graph) (t n : ℕ) (p : Pool) (z : Walker) (met walked back taken pairs out starts : List ℕ) → n ≡ t → z ≡ freshWalker p → Going g t (walk z met walked back taken pairs) (spoken (writer 0 0) out starts) n (walk z met walked back taken pairs) (spoken (writer 0 0) out starts)
 going-start g t n p z met walked back taken pairs out starts e f =
     subst
     (λ (x : Walker). Going g t (walk x met walked back taken pairs) (spoken (writer 0 0) out starts) n (walk x met walked back taken pairs) (spoken (writer 0 0) out starts))
     (sym f)
     (record {
-      walks = ap (λ (k : ℕ). walkTo g k (walk (startOf p) met walked back taken pairs)) e;
-      says = ap (λ (k : ℕ). sayAll (spoken (writer 0 0) out starts) (eventsOf g k (walk (startOf p) met walked back taken pairs))) e;
+      walks = ap (λ (k : ℕ). walkTo g k (walk (freshWalker p) met walked back taken pairs)) e;
+      says = ap (λ (k : ℕ). sayAll (spoken (writer 0 0) out starts) (eventsOf g k (walk (freshWalker p) met walked back taken pairs))) e;
       sound = refl;
       next = omega (arith, e);
       pend = omega (arith, e);
@@ -95,13 +95,13 @@ going-start g t n p z met walked back taken pairs out starts e f =
     })
 
 -- what a walk from z comes to, where z is the start with the pool p
-pub from-start : (g : Graph) (t : ℕ) (p : Pool) (z : Walker) (met walked back taken pairs : List ℕ) (s : Spoken) (v : Walk) (r : Spoken) → z ≡ startOf p
+pub from-start : (g : Graph) (t : ℕ) (p : Pool) (z : Walker) (met walked back taken pairs : List ℕ) (s : Spoken) (v : Walk) (r : Spoken) → z ≡ freshWalker p
     → (v ≡ walkTo g t (walk z met walked back taken pairs)) × (r ≡ sayAll s (eventsOf g t (walk z met walked back taken pairs)))
-    → (v ≡ walkTo g t (walk (startOf p) met walked back taken pairs)) × (r ≡ sayAll s (eventsOf g t (walk (startOf p) met walked back taken pairs)))
+    → (v ≡ walkTo g t (walk (freshWalker p) met walked back taken pairs)) × (r ≡ sayAll s (eventsOf g t (walk (freshWalker p) met walked back taken pairs)))
 from-start g t p z met walked back taken pairs s v r f =
     subst (λ (x : Walker). (v ≡ walkTo g t (walk x met walked back taken pairs)) × (r ≡ sayAll s (eventsOf g t (walk x met walked back taken pairs)))) f
 
-pub going-near : {g : Graph} {t : ℕ} {w₀ : Walk} {s₀ : Spoken} {n : ℕ} {w : Walk} {s : Spoken} → t < 1000000 → Going g t w₀ s₀ n w s → Near (w .at) (s .at)
+pub going-near : {g : Graph} {t : ℕ} {w₀ : Walk} {s₀ : Spoken} {n : ℕ} {w : Walk} {s : Spoken} → t < 1000000 → Going g t w₀ s₀ n w s → TurnNear (w .at) (s .at)
 going-near h i =
     record {
       next = omega (arith, h, i .next);
@@ -111,7 +111,7 @@ going-near h i =
       len = omega (arith, h, i .len);
     }
 
-pub going-on : {g : Graph} {t : ℕ} {w₀ : Walk} {s₀ : Spoken} (n : ℕ) {w v : Walk} {s r : Spoken} → Going g t w₀ s₀ n w s → 0 < n → Did (turnOf g w) v s r → Grows (w .at) (v .at) (s .at) (r .at) → v .at .refusal ≡ 0 → Going g t w₀ s₀ (n - 1) v r
+pub going-on : {g : Graph} {t : ℕ} {w₀ : Walk} {s₀ : Spoken} (n : ℕ) {w v : Walk} {s r : Spoken} → Going g t w₀ s₀ n w s → 0 < n → Did (turnOf g w) v s r → TurnGrows (w .at) (v .at) (s .at) (r .at) → v .at .refusal ≡ 0 → Going g t w₀ s₀ (n - 1) v r
 going-on {g} {t} {w₀} {s₀} n {w} {v} {s} {r} i h d o e =
     record {
       walks = sym (walk-less g w v s r (i .sound) d n h) ∙ i .walks;

@@ -23,7 +23,7 @@ use Rattle.join_pool.proofs.Pool as T
 use Rattle.join_pool.proofs.Pool.Laws as T′
 use Rattle.walk_entry.specs.Graph.{graph}
 use Rattle.writer.specs.Tables.{spoken, sayAll, writer}
-use Rattle.walk.specs.Walk.{walk, startOf, walkTo, eventsOf, turnsOf}
+use Rattle.walk.specs.Walk.{walk, freshWalker, walkTo, eventsOf, turnsOf}
 use Rattle.walk.specs.declared.turn.Turned.{Turned}
 use Rattle.walk.specs.declared.walker.Walker.{Walker}
 use Rattle.walk.specs.Walk.{walker}
@@ -31,8 +31,8 @@ use Rattle.walk.proofs.walker.Walker.Laws as Z′
 
 abbrev pub Whole : Pool → ℕ → ℕ → List ℕ → List ℕ → List ℕ → List ℕ → List ℕ → List ℕ → List ℕ → List ℕ → List ℕ → List ℕ → List ℕ → List ℕ → List ℕ → List ℕ → List ℕ → List ℕ → List ℕ → Turned → Type 0
 Whole p size entries atoms bonds first met walked back taken pairs starts out met′ walked′ back′ taken′ pairs′ starts′ out′ r =
-    (walk (r .walker) met′ walked′ back′ taken′ pairs′ ≡ walkTo (graph size atoms bonds first) (turnsOf size entries) (walk (startOf p) met walked back taken pairs))
-    × (spoken (r .line) out′ starts′ ≡ sayAll (spoken (writer 0 0) out starts) (eventsOf (graph size atoms bonds first) (turnsOf size entries) (walk (startOf p) met walked back taken pairs)))
+    (walk (r .walker) met′ walked′ back′ taken′ pairs′ ≡ walkTo (graph size atoms bonds first) (turnsOf size entries) (walk (freshWalker p) met walked back taken pairs))
+    × (spoken (r .line) out′ starts′ ≡ sayAll (spoken (writer 0 0) out starts) (eventsOf (graph size atoms bonds first) (turnsOf size entries) (walk (freshWalker p) met walked back taken pairs)))
 
 -- the machine value of a pool
 abbrev pub mach : Pool → Val

@@ -16,11 +16,11 @@ use Rattle.join_pool.specs.declared.Pool.{Pool}
 use Rattle.join_pool.specs.declared.Given.{Given}
 use Rattle.join_pool.specs.declared.Given.the-variants.{Number, Full}
 use Rattle.join_pool.specs.Pairs.{hitOf, emptyOf}
-use Rattle.join_pool.specs.declared.lent.Stroke.{Stroke}
+use Rattle.join_pool.specs.declared.lent.PoolAnswer.{PoolAnswer}
 use Rattle.writer.specs.Line.{Event, Root, Extend, Join, Pop}
 use Rattle.walk_entry.specs.declared.entry.Way.{Way}
 use Rattle.walk_entry.specs.declared.entry.Way.the-variants.{Enters, Refuses}
-use Rattle.walk_entry.specs.Graph.{Bond, Graph, kindAt, degreeAt, bondIn, bondOf}
+use Rattle.walk_entry.specs.Graph.{BondEntry, Graph, kindAt, degreeAt, bondIn, bondOf}
 use Rattle.walk_entry.specs.Ways.{saidAs, wayOf}
 use Rattle.walk.specs.declared.walker.Walker.{Walker}
 use Rattle.walk.specs.declared.walker.Numbered.{Numbered}
@@ -58,20 +58,20 @@ walker next standing here pend count pool refusal first second =
     record { next = next; standing = standing; here = here; pend = pend; count = count; pool = pool; refusal = refusal; first = first; second = second }
 
 -- nothing met
-abbrev pub startOf : Pool → Walker
-startOf p = walker 0 false 0 0 0 p 0 0 0
+abbrev pub freshWalker : Pool → Walker
+freshWalker p = walker 0 false 0 0 0 p 0 0 0
 
 -- and nothing handed out: a walk first empties its pool
 abbrev pub startWalker : Walker
-startWalker = startOf emptyOf
+startWalker = freshWalker emptyOf
 
 -- ---- what changes
 abbrev pub refusedAs : Walker → ℕ → ℕ → ℕ → Walker
 refusedAs z r a b = walker (z .next) (z .standing) (z .here) (z .pend) (z .count) (z .pool) r a b
 
 -- the next root passed over
-abbrev pub passed : Walker → Walker
-passed z =
+abbrev pub rootPassed : Walker → Walker
+rootPassed z =
     walker (z .next + 1) (z .standing) (z .here) (z .pend) (z .count) (z .pool) (z .refusal) (z .first) (z .second)
 
 -- the atom a met and standing, so all pops were said
@@ -87,16 +87,16 @@ abbrev pub atEnd : Walker → Walker
 atEnd z = walker (z .next) false (z .here) 0 (z .count) (z .pool) (z .refusal) (z .first) (z .second)
 
 -- a ring number said, so all pops were
-abbrev pub ringed : Walker → Pool → Walker
-ringed z p = walker (z .next) (z .standing) (z .here) 0 (z .count) p (z .refusal) (z .first) (z .second)
+abbrev pub ringSaid : Walker → Pool → Walker
+ringSaid z p = walker (z .next) (z .standing) (z .here) 0 (z .count) p (z .refusal) (z .first) (z .second)
 
 -- with what its pool was told, and the pool after it
-abbrev pub numberedIn : Walker → Stroke → Numbered
+abbrev pub numberedIn : Walker → PoolAnswer → Numbered
 numberedIn z k =
     record { walker = walker (z .next) (z .standing) (z .here) (z .pend) (z .count) (k .pool) (z .refusal) (z .first) (z .second); told = k .told }
 
-abbrev pub moved : Walk → Walker → Walk
-moved w z = walk z (w .met) (w .walked) (w .back) (w .taken) (w .pairs)
+abbrev pub withWalker : Walk → Walker → Walk
+withWalker w z = walk z (w .met) (w .walked) (w .back) (w .taken) (w .pairs)
 
 -- atom a met, its entry back at place b
 abbrev pub metAt : Walk → Walker → ℕ → ℕ → Walk
@@ -126,8 +126,8 @@ turn w es = record { after = w; said = es }
 abbrev pub quiet : Walk → Turn
 quiet w = turn w []
 
-abbrev pub refuse : Walk → ℕ → ℕ → ℕ → Turn
-refuse w r a b = quiet (moved w (refusedAs (w .at) r a b))
+abbrev pub refuseTurn : Walk → ℕ → ℕ → ℕ → Turn
+refuseTurn w r a b = quiet (withWalker w (refusedAs (w .at) r a b))
 
 -- the atoms left since the last event popped, then an event
 unfoldable pub popsOf : ℕ → List Event
@@ -137,12 +137,12 @@ abbrev pub popsThen : ℕ → Event → List Event
 popsThen n e = popsOf n ++ (e ∷ [])
 
 -- the next root
-unfoldable pub rootOf : Graph → Walk → Turn
-rootOf g w =
+unfoldable pub rootTurn : Graph → Walk → Turn
+rootTurn g w =
     pick (leb (g .size) (w .at .next)) (quiet w)
     (pick (eqb (getD (w .met) (w .at .next) 0) 0)
-    (turn (metAt w (passed (w .at)) (w .at .next) 0) (Root (saidAs (kindAt g (w .at .next)) 0) ∷ []))
-    (quiet (moved w (passed (w .at)))))
+    (turn (metAt w (rootPassed (w .at)) (w .at .next) 0) (Root (saidAs (kindAt g (w .at .next)) 0) ∷ []))
+    (quiet (withWalker w (rootPassed (w .at)))))
 
 -- the atom a that stands has no entry left: back to the one that it was reached from
 unfoldable pub leftIn : List ℕ → List ℕ → List ℕ → Walker → ℕ → Walker
@@ -150,46 +150,46 @@ leftIn bonds first back z a =
     pick (eqb (getD back a 0) 0) (atEnd z) (backAt z (bondIn bonds first a (getD back a 0 - 1) .to))
 
 abbrev pub leaveOf : Graph → Walk → ℕ → Turn
-leaveOf g w a = quiet (moved w (leftIn (g .bonds) (g .first) (w .back) (w .at) a))
+leaveOf g w a = quiet (withWalker w (leftIn (g .bonds) (g .first) (w .back) (w .at) a))
 
 -- a bond of kind k from s to an atom t met before
 unfoldable pub numberedOf : Walk → BondKind → ℕ → ℕ → Given → List ℕ → Turn
-numberedOf w k s t Full pairs = refuse (pooled w pairs) ringNumbers s t
+numberedOf w k s t Full pairs = refuseTurn (pooled w pairs) ringNumbers s t
 numberedOf w k s t (Number p n) pairs =
-    turn (moved (pooled w pairs) (ringed (w .at) p)) (popsThen (w .at .pend) (Join k n))
+    turn (withWalker (pooled w pairs) (ringSaid (w .at) p)) (popsThen (w .at .pend) (Join k n))
 
-unfoldable pub ringOf : Walk → BondKind → ℕ → ℕ → Turn
-ringOf w k s t =
+unfoldable pub ringTurn : Walk → BondKind → ℕ → ℕ → Turn
+ringTurn w k s t =
     numberedOf w k s t (hitOf (w .at .pool) (w .pairs) s t .answer) (hitOf (w .at .pool) (w .pairs) s t .left)
 
 unfoldable pub enteredOf : Graph → Walk → BondKind → ℕ → Way → Turn
-enteredOf g w k t (Refuses r a b) = refuse w r a b
+enteredOf g w k t (Refuses r a b) = refuseTurn w r a b
 enteredOf g w k t (Enters b) =
     turn (metAt w (w .at) t b) (popsThen (w .at .pend) (Extend k (saidAs (kindAt g t) b)))
 
 -- a bond to a new atom t
-unfoldable pub enterOf : Graph → Walk → BondKind → ℕ → ℕ → Turn
-enterOf g w k s t = enteredOf g w k t (wayOf g k s t)
+unfoldable pub enterTurn : Graph → Walk → BondKind → ℕ → ℕ → Turn
+enterTurn g w k s t = enteredOf g w k t (wayOf g k s t)
 
 -- a bond of the atom s
-unfoldable pub bondTurn : Graph → Walk → ℕ → Bond → Turn
+unfoldable pub bondTurn : Graph → Walk → ℕ → BondEntry → Turn
 bondTurn g w s b =
-    pick (leb (g .size) (b .to)) (refuse w unknownTarget s (b .to))
-    (pick (eqb (b .to) s) (refuse w loop s 0)
-    (pick (eqb (getD (w .met) (b .to) 0) 0) (enterOf g w (b .kind) s (b .to)) (ringOf w (b .kind) s (b .to))))
+    pick (leb (g .size) (b .to)) (refuseTurn w unknownTarget s (b .to))
+    (pick (eqb (b .to) s) (refuseTurn w loop s 0)
+    (pick (eqb (getD (w .met) (b .to) 0) 0) (enterTurn g w (b .kind) s (b .to)) (ringTurn w (b .kind) s (b .to))))
 
 -- the entry i of the atom a, but for the one by which a was reached
-unfoldable pub entryOf : Graph → Walk → ℕ → ℕ → Turn
-entryOf g w a i =
+unfoldable pub entryTurn : Graph → Walk → ℕ → ℕ → Turn
+entryTurn g w a i =
     pick (eqb (getD (w .back) a 0) (i + 1)) (quiet (tookAt w a i)) (bondTurn g (tookAt w a i) a (bondOf g a i))
 
 -- the atom a that stands
 unfoldable pub atomOf : Graph → Walk → ℕ → Turn
 atomOf g w a =
-    pick (leb (degreeAt g a) (getD (w .taken) a 0)) (leaveOf g w a) (entryOf g w a (getD (w .taken) a 0))
+    pick (leb (degreeAt g a) (getD (w .taken) a 0)) (leaveOf g w a) (entryTurn g w a (getD (w .taken) a 0))
 
 unfoldable pub turnOf : Graph → Walk → Turn
-turnOf g w = pick (w .at .standing) (atomOf g w (w .at .here)) (rootOf g w)
+turnOf g w = pick (w .at .standing) (atomOf g w (w .at .here)) (rootTurn g w)
 
 -- ---- turns
 -- a refused walk stays as it is
@@ -218,7 +218,7 @@ pub record Did (x : Turn) (w : Walk) (s n : Spoken) : Type 0 where
 abbrev pub far : ℕ
 far = 2 ^ 31
 
-pub record Near (z : Walker) (line : Writer) : Type 0 where
+pub record TurnNear (z : Walker) (line : Writer) : Type 0 where
   pub next : z .next < far
   pub pend : z .pend < far
   pub count : z .count < far
@@ -226,12 +226,12 @@ pub record Near (z : Walker) (line : Writer) : Type 0 where
   pub len : line .len + 100 < far
 
 -- a turn goes on by at most so much
-pub record Onward (y z : Walker) : Type 0 where
+pub record TurnOnward (y z : Walker) : Type 0 where
   pub next : z .next ≤ y .next + 1
   pub pend : z .pend ≤ y .pend + 1
   pub count : z .count ≤ y .count + 1
 
-pub record Grows (y z : Walker) (line said : Writer) : Type 0 where
-  pub onward : Onward y z
+pub record TurnGrows (y z : Walker) (line said : Writer) : Type 0 where
+  pub onward : TurnOnward y z
   pub pieces : said .pieces ≤ line .pieces + 2
   pub len : said .len ≤ line .len + 50

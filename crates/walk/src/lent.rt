@@ -35,7 +35,7 @@ pub fn walk_in(
 {
     let empty = Pool::empty();
     *pool = empty;
-    let t = turns::walk_afresh(
+    let t = turns::walk_cleared(
         *pool,
         size,
         entries,

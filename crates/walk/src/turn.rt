@@ -5,9 +5,9 @@ ghost use mathlib.Core.List.{List};
 ghost use Prim.Native.Nat.{ℕ, _+_, _<_};
 ghost use lib.ListN.{set};
 ghost use Rattle.writer.specs.Tables.{spoken, sayAll};
-ghost use Rattle.walk_entry.specs.Graph.{graph, bond};
+ghost use Rattle.walk_entry.specs.Graph.{graph, entryTo};
 ghost use Rattle.writer.specs.Tables as writer;
-ghost use Rattle.walk.specs.Walk.{walk, standingAt, popsOf, rootOf, leftIn, ringOf, enterOf, bondTurn, atomOf, turnOf, Did, far, Near, Onward, Grows};
+ghost use Rattle.walk.specs.Walk.{walk, standingAt, popsOf, rootTurn, leftIn, ringTurn, enterTurn, bondTurn, atomOf, turnOf, Did, far, TurnNear, TurnOnward, TurnGrows};
 use crate::walker::LOOP;
 use crate::walker::RING_NUMBERS;
 use crate::walker::UNKNOWN_TARGET;
@@ -38,9 +38,9 @@ pub struct Turned {
 
 // The atoms left since the last event, if any, popped.
 fn say_pops(out: &mut [u8], starts: &mut [u32], line: Writer, pend: usize) -> Writer
-    requires { ⌜ writer.Near line ⌝ }
+    requires { ⌜ writer.LineNear line ⌝ }
     ensures { λ r. ⌜ spoken r (now (out .exit)) (now (starts .exit)) ≡ sayAll (spoken line (now (out .entry)) (now (starts .entry))) (popsOf pend) ⌝ }
-    ensures { λ r. ⌜ writer.Grows line r ⌝ }
+    ensures { λ r. ⌜ writer.LineGrows line r ⌝ }
 {
     if pend == 0 {
         return line;
@@ -72,9 +72,9 @@ fn try_root(
     z: Walker,
     line: Writer,
 ) -> Turned
-    requires { ⌜ Near z line ⌝ }
-    ensures { λ r. ⌜ ((bonds first taken pairs : List ℕ) → Did (rootOf (graph size (now (atoms .entry)) bonds first) (walk z (now (met .entry)) (now (walked .entry)) (now (back .entry)) taken pairs)) (walk (r .walker) (now (met .exit)) (now (walked .exit)) (now (back .exit)) taken pairs) (spoken line (now (out .entry)) (now (starts .entry))) (spoken (r .line) (now (out .exit)) (now (starts .exit)))) ⌝ }
-    ensures { λ r. ⌜ Grows z (r .walker) line (r .line) ⌝ }
+    requires { ⌜ TurnNear z line ⌝ }
+    ensures { λ r. ⌜ ((bonds first taken pairs : List ℕ) → Did (rootTurn (graph size (now (atoms .entry)) bonds first) (walk z (now (met .entry)) (now (walked .entry)) (now (back .entry)) taken pairs)) (walk (r .walker) (now (met .exit)) (now (walked .exit)) (now (back .exit)) taken pairs) (spoken line (now (out .entry)) (now (starts .entry))) (spoken (r .line) (now (out .exit)) (now (starts .exit)))) ⌝ }
+    ensures { λ r. ⌜ TurnGrows z (r .walker) line (r .line) ⌝ }
 {
     let a = z.next;
     if size <= a as usize {
@@ -99,7 +99,7 @@ fn try_root(
 fn leave(bonds: &[u32], first: &[u32], back: &[u32], z: Walker, a: u32) -> Walker
     requires { ⌜ z .pend < far ⌝ }
     ensures { λ r. ⌜ r ≡ leftIn (now (bonds .entry)) (now (first .entry)) (now (back .entry)) z a ⌝ }
-    ensures { λ r. ⌜ Onward z r ⌝ }
+    ensures { λ r. ⌜ TurnOnward z r ⌝ }
 {
     let b = look(back, a as usize);
     if b == 0 {
@@ -119,9 +119,9 @@ fn ring(
     s: u32,
     t: u32,
 ) -> Turned
-    requires { ⌜ Near z line ⌝ }
-    ensures { λ r. ⌜ ((met walked back taken : List ℕ) → Did (ringOf (walk z met walked back taken (now (pairs .entry))) k s t) (walk (r .walker) met walked back taken (now (pairs .exit))) (spoken line (now (out .entry)) (now (starts .entry))) (spoken (r .line) (now (out .exit)) (now (starts .exit)))) ⌝ }
-    ensures { λ r. ⌜ Grows z (r .walker) line (r .line) ⌝ }
+    requires { ⌜ TurnNear z line ⌝ }
+    ensures { λ r. ⌜ ((met walked back taken : List ℕ) → Did (ringTurn (walk z met walked back taken (now (pairs .entry))) k s t) (walk (r .walker) met walked back taken (now (pairs .exit))) (spoken line (now (out .entry)) (now (starts .entry))) (spoken (r .line) (now (out .exit)) (now (starts .exit)))) ⌝ }
+    ensures { λ r. ⌜ TurnGrows z (r .walker) line (r .line) ⌝ }
 {
     let g = z.number(pairs, s, t);
     let told = g.told;
@@ -158,9 +158,9 @@ fn enter(
     s: u32,
     t: u32,
 ) -> Turned
-    requires { ⌜ Near z line ⌝ }
-    ensures { λ r. ⌜ ((n : ℕ) (taken pairs : List ℕ) → Did (enterOf (graph n (now (atoms .entry)) (now (bonds .entry)) (now (first .entry))) (walk z (now (met .entry)) (now (walked .entry)) (now (back .entry)) taken pairs) k s t) (walk (r .walker) (now (met .exit)) (now (walked .exit)) (now (back .exit)) taken pairs) (spoken line (now (out .entry)) (now (starts .entry))) (spoken (r .line) (now (out .exit)) (now (starts .exit)))) ⌝ }
-    ensures { λ r. ⌜ Grows z (r .walker) line (r .line) ⌝ }
+    requires { ⌜ TurnNear z line ⌝ }
+    ensures { λ r. ⌜ ((n : ℕ) (taken pairs : List ℕ) → Did (enterTurn (graph n (now (atoms .entry)) (now (bonds .entry)) (now (first .entry))) (walk z (now (met .entry)) (now (walked .entry)) (now (back .entry)) taken pairs) k s t) (walk (r .walker) (now (met .exit)) (now (walked .exit)) (now (back .exit)) taken pairs) (spoken line (now (out .entry)) (now (starts .entry))) (spoken (r .line) (now (out .exit)) (now (starts .exit)))) ⌝ }
+    ensures { λ r. ⌜ TurnGrows z (r .walker) line (r .line) ⌝ }
 {
     match find_way(atoms, bonds, first, k, s, t) {
         Way::Refuses(number, a, b) => Turned {
@@ -197,9 +197,9 @@ fn take_bond(
     k: BondKind,
     t: u32,
 ) -> Turned
-    requires { ⌜ Near z line ⌝ }
-    ensures { λ r. ⌜ ((taken : List ℕ) → Did (bondTurn (graph size (now (atoms .entry)) (now (bonds .entry)) (now (first .entry))) (walk z (now (met .entry)) (now (walked .entry)) (now (back .entry)) taken (now (pairs .entry))) s (bond k t)) (walk (r .walker) (now (met .exit)) (now (walked .exit)) (now (back .exit)) taken (now (pairs .exit))) (spoken line (now (out .entry)) (now (starts .entry))) (spoken (r .line) (now (out .exit)) (now (starts .exit)))) ⌝ }
-    ensures { λ r. ⌜ Grows z (r .walker) line (r .line) ⌝ }
+    requires { ⌜ TurnNear z line ⌝ }
+    ensures { λ r. ⌜ ((taken : List ℕ) → Did (bondTurn (graph size (now (atoms .entry)) (now (bonds .entry)) (now (first .entry))) (walk z (now (met .entry)) (now (walked .entry)) (now (back .entry)) taken (now (pairs .entry))) s (entryTo k t)) (walk (r .walker) (now (met .exit)) (now (walked .exit)) (now (back .exit)) taken (now (pairs .exit))) (spoken line (now (out .entry)) (now (starts .entry))) (spoken (r .line) (now (out .exit)) (now (starts .exit)))) ⌝ }
+    ensures { λ r. ⌜ TurnGrows z (r .walker) line (r .line) ⌝ }
 {
     if size <= t as usize {
         return Turned {
@@ -249,9 +249,9 @@ fn take_atom(
     z: Walker,
     line: Writer,
 ) -> Turned
-    requires { ⌜ Near z line ⌝ }
+    requires { ⌜ TurnNear z line ⌝ }
     ensures { λ r. ⌜ Did (atomOf (graph size (now (atoms .entry)) (now (bonds .entry)) (now (first .entry))) (walk z (now (met .entry)) (now (walked .entry)) (now (back .entry)) (now (taken .entry)) (now (pairs .entry))) (z .here)) (walk (r .walker) (now (met .exit)) (now (walked .exit)) (now (back .exit)) (now (taken .exit)) (now (pairs .exit))) (spoken line (now (out .entry)) (now (starts .entry))) (spoken (r .line) (now (out .exit)) (now (starts .exit))) ⌝ }
-    ensures { λ r. ⌜ Grows z (r .walker) line (r .line) ⌝ }
+    ensures { λ r. ⌜ TurnGrows z (r .walker) line (r .line) ⌝ }
 {
     let a = z.here;
     let at = a as usize;
@@ -303,9 +303,9 @@ pub fn turn(
     z: Walker,
     line: Writer,
 ) -> Turned
-    requires { ⌜ Near z line ⌝ }
+    requires { ⌜ TurnNear z line ⌝ }
     ensures { λ r. ⌜ Did (turnOf (graph size (now (atoms .entry)) (now (bonds .entry)) (now (first .entry))) (walk z (now (met .entry)) (now (walked .entry)) (now (back .entry)) (now (taken .entry)) (now (pairs .entry)))) (walk (r .walker) (now (met .exit)) (now (walked .exit)) (now (back .exit)) (now (taken .exit)) (now (pairs .exit))) (spoken line (now (out .entry)) (now (starts .entry))) (spoken (r .line) (now (out .exit)) (now (starts .exit))) ⌝ }
-    ensures { λ r. ⌜ Grows z (r .walker) line (r .line) ⌝ }
+    ensures { λ r. ⌜ TurnGrows z (r .walker) line (r .line) ⌝ }
 {
     if z.standing {
         return take_atom(

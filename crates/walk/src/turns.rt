@@ -4,7 +4,7 @@ ghost use Prim.Native.Nat.{_<_};
 ghost use lib.ListN.{length, replicate};
 ghost use Rattle.writer.specs.Tables.{spoken, sayAll, writer};
 ghost use Rattle.walk_entry.specs.Graph.{graph};
-ghost use Rattle.walk.specs.Walk.{walk, startOf, walkTo, eventsOf, turnsOf};
+ghost use Rattle.walk.specs.Walk.{walk, freshWalker, walkTo, eventsOf, turnsOf};
 use crate::turn::Turned;
 use crate::turn::turn;
 use crate::walker::Walker;
@@ -29,8 +29,8 @@ pub fn walk(
     out: &mut [u8],
 ) -> Turned
     requires { ⌜ turnsOf size entries < 1000000 ⌝ }
-    ensures { λ r. ⌜ (walk (r .walker) (now (met .exit)) (now (walked .exit)) (now (back .exit)) (now (taken .exit)) (now (pairs .exit)) ≡ walkTo (graph size (now (atoms .entry)) (now (bonds .entry)) (now (first .entry))) (turnsOf size entries) (walk (startOf pool) (now (met .entry)) (now (walked .entry)) (now (back .entry)) (now (taken .entry)) (now (pairs .entry)))) ×
-        (spoken (r .line) (now (out .exit)) (now (starts .exit)) ≡ sayAll (spoken (writer 0 0) (now (out .entry)) (now (starts .entry))) (eventsOf (graph size (now (atoms .entry)) (now (bonds .entry)) (now (first .entry))) (turnsOf size entries) (walk (startOf pool) (now (met .entry)) (now (walked .entry)) (now (back .entry)) (now (taken .entry)) (now (pairs .entry))))) ⌝ }
+    ensures { λ r. ⌜ (walk (r .walker) (now (met .exit)) (now (walked .exit)) (now (back .exit)) (now (taken .exit)) (now (pairs .exit)) ≡ walkTo (graph size (now (atoms .entry)) (now (bonds .entry)) (now (first .entry))) (turnsOf size entries) (walk (freshWalker pool) (now (met .entry)) (now (walked .entry)) (now (back .entry)) (now (taken .entry)) (now (pairs .entry)))) ×
+        (spoken (r .line) (now (out .exit)) (now (starts .exit)) ≡ sayAll (spoken (writer 0 0) (now (out .entry)) (now (starts .entry))) (eventsOf (graph size (now (atoms .entry)) (now (bonds .entry)) (now (first .entry))) (turnsOf size entries) (walk (freshWalker pool) (now (met .entry)) (now (walked .entry)) (now (back .entry)) (now (taken .entry)) (now (pairs .entry))))) ⌝ }
 {
     let mut z = Walker::start(pool);
     let mut line = Writer { pieces: 0, len: 0 };
@@ -62,7 +62,7 @@ pub fn walk(
 }
 
 // The same, but that no number is open at first, whatever the words held.
-pub fn walk_afresh(
+pub fn walk_cleared(
     pool: Pool,
     size: usize,
     entries: usize,
@@ -78,8 +78,8 @@ pub fn walk_afresh(
     out: &mut [u8],
 ) -> Turned
     requires { ⌜ turnsOf size entries < 1000000 ⌝ }
-    ensures { λ r. ⌜ (walk (r .walker) (now (met .exit)) (now (walked .exit)) (now (back .exit)) (now (taken .exit)) (now (pairs .exit)) ≡ walkTo (graph size (now (atoms .entry)) (now (bonds .entry)) (now (first .entry))) (turnsOf size entries) (walk (startOf pool) (now (met .entry)) (now (walked .entry)) (now (back .entry)) (now (taken .entry)) (replicate (length (now (pairs .entry))) 0))) ×
-        (spoken (r .line) (now (out .exit)) (now (starts .exit)) ≡ sayAll (spoken (writer 0 0) (now (out .entry)) (now (starts .entry))) (eventsOf (graph size (now (atoms .entry)) (now (bonds .entry)) (now (first .entry))) (turnsOf size entries) (walk (startOf pool) (now (met .entry)) (now (walked .entry)) (now (back .entry)) (now (taken .entry)) (replicate (length (now (pairs .entry))) 0)))) ⌝ }
+    ensures { λ r. ⌜ (walk (r .walker) (now (met .exit)) (now (walked .exit)) (now (back .exit)) (now (taken .exit)) (now (pairs .exit)) ≡ walkTo (graph size (now (atoms .entry)) (now (bonds .entry)) (now (first .entry))) (turnsOf size entries) (walk (freshWalker pool) (now (met .entry)) (now (walked .entry)) (now (back .entry)) (now (taken .entry)) (replicate (length (now (pairs .entry))) 0))) ×
+        (spoken (r .line) (now (out .exit)) (now (starts .exit)) ≡ sayAll (spoken (writer 0 0) (now (out .entry)) (now (starts .entry))) (eventsOf (graph size (now (atoms .entry)) (now (bonds .entry)) (now (first .entry))) (turnsOf size entries) (walk (freshWalker pool) (now (met .entry)) (now (walked .entry)) (now (back .entry)) (now (taken .entry)) (replicate (length (now (pairs .entry))) 0)))) ⌝ }
 {
     clear(pairs);
     walk(

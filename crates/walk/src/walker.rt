@@ -2,8 +2,8 @@
 ghost use mathlib.Core.Path.{_≡_};
 ghost use Prim.Native.Nat.{_<_};
 ghost use Rattle.join_pool.specs.Pairs.{hitOf};
-ghost use Rattle.join_pool.specs.Strokes.{strokeOf};
-ghost use Rattle.walk.specs.Walk.{numberedIn, startOf, refusedAs, passed, standingAt, backAt, atEnd, ringed, far};
+ghost use Rattle.join_pool.specs.Strokes.{answerApart};
+ghost use Rattle.walk.specs.Walk.{numberedIn, freshWalker, refusedAs, rootPassed, standingAt, backAt, atEnd, ringSaid, far};
 use join_pool::Pool;
 use join_pool::lent;
 use join_pool::lent::Told;
@@ -41,7 +41,7 @@ pub struct Numbered {
 impl Walker {
     // Nothing met.
     pub fn start(pool: Pool) -> Walker
-        ensures { λ r. ⌜ r ≡ startOf pool ⌝ }
+        ensures { λ r. ⌜ r ≡ freshWalker pool ⌝ }
     {
         Walker {
             next: 0,
@@ -68,7 +68,7 @@ impl Walker {
     // The next root passed over.
     pub fn pass(mut self) -> Walker
         requires { ⌜ self .next < far ⌝ }
-        ensures { λ r. ⌜ r ≡ passed self ⌝ }
+        ensures { λ r. ⌜ r ≡ rootPassed self ⌝ }
     {
         self.next = self.next + 1;
         self
@@ -108,7 +108,7 @@ impl Walker {
 
     // A ring number asked for: the pool is lent and changed in its own place.
     pub fn number(mut self, pairs: &mut [u32], s: u32, t: u32) -> Numbered
-        ensures { λ r. ⌜ (r ≡ numberedIn self (strokeOf (self .pool) (hitOf (self .pool) (now (pairs .entry)) s t .answer))) × (now (pairs .exit) ≡ hitOf (self .pool) (now (pairs .entry)) s t .left) ⌝ }
+        ensures { λ r. ⌜ (r ≡ numberedIn self (answerApart (self .pool) (hitOf (self .pool) (now (pairs .entry)) s t .answer))) × (now (pairs .exit) ≡ hitOf (self .pool) (now (pairs .entry)) s t .left) ⌝ }
     {
         let told = lent::hit(&mut self.pool, pairs, s, t);
         Numbered { walker: self, told }
@@ -116,7 +116,7 @@ impl Walker {
 
     // It was handed out: the atoms left before were popped.
     pub fn ring(mut self) -> Walker
-        ensures { λ r. ⌜ r ≡ ringed self (self .pool) ⌝ }
+        ensures { λ r. ⌜ r ≡ ringSaid self (self .pool) ⌝ }
     {
         self.pend = 0;
         self

@@ -6,7 +6,7 @@ use lib.ListN.{getD}
 use Rattle.feature.specs.Bonds.{kindOf, sureKind}
 use Rattle.feature.specs.declared.bond_kind.BondKind.{BondKind}
 use Rattle.packing.specs.Words.{bondWords}
-use Rattle.walk_entry.specs.Graph.{bond, bondIn}
+use Rattle.walk_entry.specs.Graph.{entryTo, bondIn}
 
 module _ (bonds first : List ℕ) (a i e : ℕ) (there : e ≡ (getD first a 0 + i) * bondWords) where
   pub kind-told : (code : ℕ) (k : BondKind) → code ≡ getD bonds e 0 → k ≡ sureKind (kindOf code) → k ≡ bondIn bonds first a i .kind
@@ -17,6 +17,6 @@ module _ (bonds first : List ℕ) (a i e : ℕ) (there : e ≡ (getD first a 0 +
   unfolding bondIn
   target-told t h = simp (← there) h
 
-  pub entry-told : (code : ℕ) (k : BondKind) (t : ℕ) → code ≡ getD bonds e 0 → k ≡ sureKind (kindOf code) → t ≡ getD bonds (e + 1) 0 → bond k t ≡ bondIn bonds first a i
+  pub entry-told : (code : ℕ) (k : BondKind) (t : ℕ) → code ≡ getD bonds e 0 → k ≡ sureKind (kindOf code) → t ≡ getD bonds (e + 1) 0 → entryTo k t ≡ bondIn bonds first a i
   entry-told code k t told g h =
-      ap (λ (x : BondKind). bond x t) (kind-told code k told g) ∙ ap (bond (bondIn bonds first a i .kind)) (target-told t h)
+      ap (λ (x : BondKind). entryTo x t) (kind-told code k told g) ∙ ap (entryTo (bondIn bonds first a i .kind)) (target-told t h)

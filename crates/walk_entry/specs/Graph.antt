@@ -12,7 +12,7 @@ use Rattle.packing.specs.declared.Loaded.the-variants as loaded
 use Rattle.packing.specs.Words.{atomWords, bondWords, loadAt}
 
 -- a bond entry: its kind and its target
-pub record Bond : Type 0 where
+pub record BondEntry : Type 0 where
   pub kind : BondKind
   pub to : ℕ
 
@@ -26,16 +26,16 @@ pub record Graph : Type 0 where
 abbrev pub graph : ℕ → List ℕ → List ℕ → List ℕ → Graph
 graph n atoms bonds first = record { size = n; atoms = atoms; bonds = bonds; first = first }
 
-abbrev pub bond : BondKind → ℕ → Bond
-bond k t = record { kind = k; to = t }
+abbrev pub entryTo : BondKind → ℕ → BondEntry
+entryTo k t = record { kind = k; to = t }
 
 unfoldable pub kindOr : Loaded → AtomKind
 kindOr (loaded.Held k) = k
 kindOr loaded.Bad = Star
 
 -- the entry whose first word stands at a place
-abbrev pub entryAt : List ℕ → ℕ → Bond
-entryAt bonds e = bond (sureKind (kindOf (getD bonds e 0))) (getD bonds (e + 1) 0)
+abbrev pub entryAt : List ℕ → ℕ → BondEntry
+entryAt bonds e = entryTo (sureKind (kindOf (getD bonds e 0))) (getD bonds (e + 1) 0)
 
 -- the kind of atom a
 unfoldable pub kindIn : List ℕ → ℕ → AtomKind
@@ -52,8 +52,8 @@ abbrev pub degreeAt : Graph → ℕ → ℕ
 degreeAt g a = degreeIn (g .atoms) a
 
 -- the entry i of atom a
-unfoldable pub bondIn : List ℕ → List ℕ → ℕ → ℕ → Bond
+unfoldable pub bondIn : List ℕ → List ℕ → ℕ → ℕ → BondEntry
 bondIn bonds first a i = entryAt bonds ((getD first a 0 + i) * bondWords)
 
-abbrev pub bondOf : Graph → ℕ → ℕ → Bond
+abbrev pub bondOf : Graph → ℕ → ℕ → BondEntry
 bondOf g a i = bondIn (g .bonds) (g .first) a i

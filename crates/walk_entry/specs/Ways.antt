@@ -7,7 +7,7 @@ use mathlib.Core.Bool.{Bool, true, false}
 use lib.Dec.{eqb}
 use Rattle.feature.specs.Pick.{pick, both}
 use Rattle.feature.specs.Kinds.{invertOf}
-use Rattle.feature.specs.Bonds.{same, reverseOf}
+use Rattle.feature.specs.Bonds.{sameKind, reverseOf}
 use Rattle.feature.specs.declared.atom_kind.AtomKind.{AtomKind}
 use Rattle.feature.specs.declared.atom_kind.Inverted.{Inverted}
 use Rattle.feature.specs.declared.atom_kind.Inverted.the-variants as inverted
@@ -68,7 +68,7 @@ judgedBack g k s t Fixed = Refuses inversion t 0
 judgedBack g k s t Twice = Refuses duplicateBond s t
 judgedBack g k s t (Found b) =
     pick (eqb b 0) (Refuses halfBond s t)
-    (pick (same (bondOf g t (b - 1) .kind) (reverseOf k)) (Enters b) (Refuses incompatibleBond t s))
+    (pick (sameKind (bondOf g t (b - 1) .kind) (reverseOf k)) (Enters b) (Refuses incompatibleBond t s))
 
 unfoldable pub wayOf : Graph → BondKind → ℕ → ℕ → Way
 wayOf g k s t = judgedBack g k s t (scanOf g t s)

@@ -4,7 +4,7 @@ ghost use mathlib.Core.Path.{_≡_};
 ghost use Prim.Native.Nat.{_+_, _*_, _^_, _<_};
 ghost use lib.ListN.{getD};
 ghost use Rattle.packing.specs.Words.{bondWords};
-ghost use Rattle.feature.specs.Bonds.{same};
+ghost use Rattle.feature.specs.Bonds.{sameKind};
 ghost use Rattle.walk_entry.specs.Graph.{kindIn, degreeIn, bondIn};
 use feature::atom_kind::AtomKind;
 use feature::bond_kind::BondKind;
@@ -54,7 +54,7 @@ pub fn target_at(bonds: &[u32], first: &[u32], a: u32, i: u32) -> u32
 }
 
 pub fn same_kind(j: BondKind, k: BondKind) -> bool
-    ensures { λ r. ⌜ r ≡ same j k ⌝ }
+    ensures { λ r. ⌜ r ≡ sameKind j k ⌝ }
 {
     code(j) == code(k)
 }

@@ -10,7 +10,7 @@ use lib.ListN.{getD}
 use lib.Dec.{leb, eqb}
 use borrow.Author.Tests.{eqb-false, le-leb}
 use Rattle.walk_entry.specs.Graph.{Graph}
-use Rattle.walk.specs.Walk.{Walk, Turn, rootOf, turnOf, stepOf, walkTo, turnsOf}
+use Rattle.walk.specs.Walk.{Walk, Turn, rootTurn, turnOf, stepOf, walkTo, turnsOf}
 use Rattle.walk_laws.specs.Trek.{Room, fresh, degrees, Finished}
 use Rattle.feature.proofs.Cases.{by-test}
 use Rattle.walk_laws.proofs.Moves.{Move, still, skip, root, ends, leaves, takes, refuses, joins, enters, turn-moves}
@@ -29,7 +29,7 @@ stays g zero w e = refl
 stays g (suc t) w e = ap (λ (v : Walk). walkTo g t v) e ∙ stays g t w e
 
 done-stays : (g : Graph) (w : Walk) → w .at .standing ≡ false → g .size ≤ w .at .next → stepOf g w .after ≡ w
-unfolding stepOf turnOf rootOf
+unfolding stepOf turnOf rootTurn
 done-stays g w r h =
     by-test (λ (x : Turn). x .after ≡ w) (eqb (w .at .refusal) 0)
     (λ q. by-test (λ (x : Turn). x .after ≡ w) (w .at .standing) (λ z. absurd (no (sym r ∙ z)))

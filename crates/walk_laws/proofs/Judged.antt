@@ -9,7 +9,7 @@ use borrow.Author.Tests.{ltb-false, leb-false}
 use Rattle.table_check.specs.declared.Judged.{Judged}
 use Rattle.table_check.specs.declared.Judged.the-variants.{Bad, Holds}
 use Rattle.packing.specs.Words.{isAtom}
-use Rattle.table_check.specs.Judge.{degreeOf, bondStands, atomsFrom, bondsFrom, afterAtoms, badRecord}
+use Rattle.table_check.specs.Judge.{degreeOf, bondStands, atomsFrom, firstBadBond, afterAtoms, badRecord}
 use Rattle.walk_entry.specs.Graph.{Graph, graph, degreeIn}
 use Rattle.walk_laws.specs.Trek.{degrees}
 use Rattle.feature.proofs.Cases.{by-test}
@@ -35,8 +35,8 @@ atoms-say g m (suc k) a held e h =
     (λ y. bad))
 
 -- no entry is bad only where each is held
-bonds-held : (bonds : List ℕ) (held k e : ℕ) → e ≤ held → bondsFrom bonds held k e ≡ e + k → e + k ≤ held
-unfolding bondsFrom
+bonds-held : (bonds : List ℕ) (held k e : ℕ) → e ≤ held → firstBadBond bonds held k e ≡ e + k → e + k ≤ held
+unfolding firstBadBond
 bonds-held bonds held zero e h = λ q. omega arith
 bonds-held bonds held (suc k) e h =
     by-test (λ (x : ℕ). x ≡ e + suc k → e + suc k ≤ held) (leb held e) (λ q z. omega arith)

@@ -18,11 +18,11 @@ use Rattle.walk_entry.specs.declared.entry.Back.{Back}
 use Rattle.walk_entry.specs.declared.entry.Back.the-variants.{Found, Twice, Fixed}
 use Rattle.walk_entry.specs.declared.entry.Way.{Way}
 use Rattle.walk_entry.specs.declared.entry.Way.the-variants.{Enters, Refuses}
-use Rattle.walk_entry.specs.Graph.{Bond, Graph, entryAt, bondIn, bondOf, kindAt, degreeAt}
+use Rattle.walk_entry.specs.Graph.{BondEntry, Graph, entryAt, bondIn, bondOf, kindAt, degreeAt}
 use Rattle.packing.specs.Words.{bondWords}
 use Rattle.walk_entry.specs.Ways.{saidAs, scanIn, scanOf, judgedBack, wayOf}
 use Rattle.walk.specs.declared.walker.Walker.{Walker}
-use Rattle.walk.specs.Walk.{Walk, Turn, turn, quiet, passed, moved, metAt, tookAt, popsThen, leftIn, rootOf, leaveOf, numberedOf, ringOf, enteredOf, enterOf, bondTurn, entryOf, atomOf, turnOf, stepOf, walkTo, eventsOf}
+use Rattle.walk.specs.Walk.{Walk, Turn, turn, quiet, rootPassed, withWalker, metAt, tookAt, popsThen, leftIn, rootTurn, leaveOf, numberedOf, ringTurn, enteredOf, enterTurn, bondTurn, entryTurn, atomOf, turnOf, stepOf, walkTo, eventsOf}
 use Rattle.walk_laws.specs.Trek.{Room, fresh, Accepts, AllAccepted}
 use Rattle.walk_laws.specs.Longer.{longer, longerGraph, longerWalk, Alike, Lengths, leastWalk, AnyLength, ExactWalk}
 use Rattle.feature.proofs.Cases.{by-test}
@@ -116,12 +116,12 @@ module _ (g : Graph) (lf lm lw lb lt : ℕ) where
     entry-met z a b e l m =
         met-long w z a b (omega (arith, f .room .met)) (omega (arith, e, f .walked, f .more a l m)) (omega (arith, f .room .back))
 
-    root-long : Later (rootOf wide (long w)) (rootOf g w)
-    unfolding rootOf
+    root-long : Later (rootTurn wide (long w)) (rootTurn g w)
+    unfolding rootTurn
     root-long =
         chosen _ _ refl (λ q. record { is = refl })
         (λ q. chosen _ _ (ap (λ (x : ℕ). eqb x 0) (getD-longer lm (w .met) (w .at .next)))
-        (λ z. record { is = ap (λ (v : Walk). turn v (Root (saidAs (kindAt g (w .at .next)) 0) ∷ [])) (entry-met (passed (w .at)) (w .at .next) 0 refl (leb-false _ _ q) (eqb-true _ _ z)) })
+        (λ z. record { is = ap (λ (v : Walk). turn v (Root (saidAs (kindAt g (w .at .next)) 0) ∷ [])) (entry-met (rootPassed (w .at)) (w .at .next) 0 refl (leb-false _ _ q) (eqb-true _ _ z)) })
         (λ z. record { is = refl }))
 
     left-long : (a : ℕ) → leftIn (g .bonds) (longer lf (g .first)) (longer lb (w .back)) (w .at) a ≡ leftIn (g .bonds) (g .first) (w .back) (w .at) a
@@ -129,15 +129,15 @@ module _ (g : Graph) (lf lm lw lb lt : ℕ) where
     left-long a = rw (getD-longer lb (w .back) a, bond-longer lf (g .bonds) (g .first) a (getD (w .back) a 0 - 1)) refl
 
     leave-long : (a : ℕ) → Later (leaveOf wide (long w) a) (leaveOf g w a)
-    leave-long a = record { is = ap (λ (z : Walker). quiet (moved (long w) z)) (left-long a) }
+    leave-long a = record { is = ap (λ (z : Walker). quiet (withWalker (long w) z)) (left-long a) }
 
     given-long : (k : BondKind) (s t : ℕ) (x : Given) (pairs : List ℕ) → Later (numberedOf (long w) k s t x pairs) (numberedOf w k s t x pairs)
     unfolding numberedOf
     given-long k s t Full pairs = record { is = refl }
     given-long k s t (Number p n) pairs = record { is = refl }
 
-    ring-long : (k : BondKind) (s t : ℕ) → Later (ringOf (long w) k s t) (ringOf w k s t)
-    unfolding ringOf
+    ring-long : (k : BondKind) (s t : ℕ) → Later (ringTurn (long w) k s t) (ringTurn w k s t)
+    unfolding ringTurn
     ring-long k s t =
         given-long k s t (hitOf (w .at .pool) (w .pairs) s t .answer) (hitOf (w .at .pool) (w .pairs) s t .left)
 
@@ -147,11 +147,11 @@ module _ (g : Graph) (lf lm lw lb lt : ℕ) where
     way-long k t h m (Enters b) =
         record { is = ap (λ (v : Walk). turn v (popsThen (w .at .pend) (Extend k (saidAs (kindAt g t) b)))) (entry-met (w .at) t b refl h m) }
 
-    enter-long : (k : BondKind) (s t : ℕ) → t < g .size → getD (w .met) t 0 ≡ 0 → Later (enterOf wide (long w) k s t) (enterOf g w k s t)
-    unfolding enterOf
+    enter-long : (k : BondKind) (s t : ℕ) → t < g .size → getD (w .met) t 0 ≡ 0 → Later (enterTurn wide (long w) k s t) (enterTurn g w k s t)
+    unfolding enterTurn
     enter-long k s t h m = rw (way-longer lf g k s t) (way-long k t h m (wayOf g k s t))
 
-    bond-long : (s : ℕ) (b : Bond) → Later (bondTurn wide (long w) s b) (bondTurn g w s b)
+    bond-long : (s : ℕ) (b : BondEntry) → Later (bondTurn wide (long w) s b) (bondTurn g w s b)
     unfolding bondTurn
     bond-long s b =
         chosen (leb (g .size) (b .to)) (leb (g .size) (b .to)) refl (λ q. record { is = refl })
@@ -171,8 +171,8 @@ module _ (g : Graph) (lf lm lw lb lt : ℕ) where
       }
 
   module _ (w : Walk) (f : Enough g w) where
-    entry-long : (a i : ℕ) → a < g .size → Later (entryOf wide (long w) a i) (entryOf g w a i)
-    unfolding entryOf
+    entry-long : (a i : ℕ) → a < g .size → Later (entryTurn wide (long w) a i) (entryTurn g w a i)
+    unfolding entryTurn
     entry-long a i h =
         let t : tookAt (long w) a i ≡ long (tookAt w a i) = took-long w a i (omega (arith, f .room .taken)) in
         chosen _ _ (ap (λ (x : ℕ). eqb x (i + 1)) (getD-longer lb (w .back) a))

@@ -10,7 +10,7 @@ use lib.Dec.{leb, eqb}
 use borrow.Author.Tests.{eqb-true, eqb-false, leb-true, leb-false}
 use Rattle.feature.proofs.Cases.{by-test}
 use Rattle.feature.specs.Pick.{both}
-use Rattle.feature.specs.Bonds.{same, reverseOf}
+use Rattle.feature.specs.Bonds.{sameKind, reverseOf}
 use Rattle.feature.specs.declared.atom_kind.AtomKind.{AtomKind}
 use Rattle.feature.specs.declared.bond_kind.BondKind.{BondKind}
 use Rattle.join_pool.specs.declared.Pool.{Pool}
@@ -21,10 +21,10 @@ use Rattle.walk_entry.specs.declared.entry.Back.{Back}
 use Rattle.walk_entry.specs.declared.entry.Back.the-variants.{Found, Twice, Fixed}
 use Rattle.walk_entry.specs.declared.entry.Way.{Way}
 use Rattle.walk_entry.specs.declared.entry.Way.the-variants.{Enters, Refuses}
-use Rattle.walk_entry.specs.Graph.{Bond, Graph, degreeAt, bondIn, bondOf}
+use Rattle.walk_entry.specs.Graph.{BondEntry, Graph, degreeAt, bondIn, bondOf}
 use Rattle.walk_entry.specs.Ways.{even, scanIn, scanOf, judgedBack, wayOf}
 use Rattle.walk.specs.declared.walker.Walker.{Walker}
-use Rattle.walk.specs.Walk.{Walk, Turn, turn, quiet, refuse, passed, backAt, atEnd, ringed, moved, pooled, metAt, tookAt, popsThen, leftIn, rootOf, leaveOf, numberedOf, ringOf, enteredOf, enterOf, bondTurn, entryOf, atomOf, turnOf}
+use Rattle.walk.specs.Walk.{Walk, Turn, turn, quiet, refuseTurn, rootPassed, backAt, atEnd, ringSaid, withWalker, pooled, metAt, tookAt, popsThen, leftIn, rootTurn, leaveOf, numberedOf, ringTurn, enteredOf, enterTurn, bondTurn, entryTurn, atomOf, turnOf}
 
 -- how many entries of the standing atom were taken
 abbrev pub takenOf : Walk → ℕ
@@ -42,17 +42,17 @@ parentOf g back a = bondIn (g .bonds) (g .first) a (getD back a 0 - 1) .to
 -- stands: d before the turn, and the last number after it. The tables do not hold that number: the turns keep it.
 pub data Move (g : Graph) (w : Walk) (d : ℕ) : Turn → ℕ → Type 0 where
   still : w .at .standing ≡ false → g .size ≤ w .at .next → Move g w d (quiet w) d
-  skip : w .at .standing ≡ false → w .at .next < g .size → getD (w .met) (w .at .next) 0 ≢ 0 → Move g w d (quiet (moved w (passed (w .at)))) d
+  skip : w .at .standing ≡ false → w .at .next < g .size → getD (w .met) (w .at .next) 0 ≢ 0 → Move g w d (quiet (withWalker w (rootPassed (w .at)))) d
   root : w .at .standing ≡ false → w .at .next < g .size → getD (w .met) (w .at .next) 0 ≡ 0 → (k : AtomKind)
-      → Move g w d (turn (metAt w (passed (w .at)) (w .at .next) 0) (Root k ∷ [])) 1
-  ends : w .at .standing ≡ true → getD (w .back) (w .at .here) 0 ≡ 0 → Move g w d (quiet (moved w (atEnd (w .at)))) 0
+      → Move g w d (turn (metAt w (rootPassed (w .at)) (w .at .next) 0) (Root k ∷ [])) 1
+  ends : w .at .standing ≡ true → getD (w .back) (w .at .here) 0 ≡ 0 → Move g w d (quiet (withWalker w (atEnd (w .at)))) 0
   leaves : w .at .standing ≡ true → getD (w .back) (w .at .here) 0 ≢ 0
-      → Move g w d (quiet (moved w (backAt (w .at) (parentOf g (w .back) (w .at .here))))) (d - 1)
+      → Move g w d (quiet (withWalker w (backAt (w .at) (parentOf g (w .back) (w .at .here))))) (d - 1)
   takes : w .at .standing ≡ true → takenOf w < degreeAt g (w .at .here) → Move g w d (quiet (tookOne w)) d
   refuses : w .at .standing ≡ true → takenOf w < degreeAt g (w .at .here) → (pairs : List ℕ) (r a b : ℕ)
-      → Move g w d (refuse (pooled (tookOne w) pairs) r a b) d
+      → Move g w d (refuseTurn (pooled (tookOne w) pairs) r a b) d
   joins : w .at .standing ≡ true → takenOf w < degreeAt g (w .at .here) → (pairs : List ℕ) (p : Pool) (k : BondKind) (n : ℕ)
-      → Move g w d (turn (moved (pooled (tookOne w) pairs) (ringed (w .at) p)) (popsThen (w .at .pend) (Join k n))) d
+      → Move g w d (turn (withWalker (pooled (tookOne w) pairs) (ringSaid (w .at) p)) (popsThen (w .at .pend) (Join k n))) d
   enters : w .at .standing ≡ true → takenOf w < degreeAt g (w .at .here) → (t b : ℕ) → t < g .size → getD (w .met) t 0 ≡ 0
       → b ≢ 0 → bondOf g t (b - 1) .to ≡ w .at .here → (e : BondKind) (k : AtomKind)
       → Move g w d (turn (metAt (tookOne w) (w .at) t b) (popsThen (w .at .pend) (Extend e k))) (suc d)
@@ -86,7 +86,7 @@ judged-back g k s t Fixed h = tt
 judged-back g k s t Twice h = tt
 judged-back g k s t (Found b) h =
     by-test (EntersBy g s t) (eqb b 0) (λ q. tt)
-    (λ q. by-test (EntersBy g s t) (same (bondOf g t (b - 1) .kind) (reverseOf k))
+    (λ q. by-test (EntersBy g s t) (sameKind (bondOf g t (b - 1) .kind) (reverseOf k))
     (λ z. (eqb-false _ _ q, h (eqb-false _ _ q))) (λ z. tt))
 
 pub way-back : (g : Graph) (k : BondKind) (s t : ℕ) → EntersBy g s t (wayOf g k s t)
@@ -98,8 +98,8 @@ module _ (g : Graph) (w : Walk) (d : ℕ) where
   abbrev Moves : Turn → Type 0
   Moves x = (n : ℕ) × Move g w d x n
 
-  root-moves : w .at .standing ≡ false → Moves (rootOf g w)
-  unfolding rootOf
+  root-moves : w .at .standing ≡ false → Moves (rootTurn g w)
+  unfolding rootTurn
   root-moves s =
       by-test Moves (leb (g .size) (w .at .next)) (λ q. (d, still s (leb-true _ _ q)))
       (λ q. by-test Moves (eqb (getD (w .met) (w .at .next) 0) 0)
@@ -109,7 +109,7 @@ module _ (g : Graph) (w : Walk) (d : ℕ) where
   left-moves : w .at .standing ≡ true → Moves (leaveOf g w (w .at .here))
   unfolding leftIn
   left-moves s =
-      by-test (λ (z : Walker). Moves (quiet (moved w z))) (eqb (getD (w .back) (w .at .here) 0) 0)
+      by-test (λ (z : Walker). Moves (quiet (withWalker w z))) (eqb (getD (w .back) (w .at .here) 0) 0)
       (λ q. (0, ends s (eqb-true _ _ q))) (λ q. (d - 1, leaves s (eqb-false _ _ q)))
 
   module _ (s : w .at .standing ≡ true) (more : takenOf w < degreeAt g (w .at .here)) where
@@ -123,8 +123,8 @@ module _ (g : Graph) (w : Walk) (d : ℕ) where
     way-moves k t h m (Refuses r a b) e = (d, refuses s more (w .pairs) r a b)
     way-moves k t h m (Enters b) e = (suc d, enters s more t b h m (e .0) (e .1) k _)
 
-    bond-moves : (b : Bond) → Moves (bondTurn g (tookOne w) (w .at .here) b)
-    unfolding bondTurn enterOf ringOf
+    bond-moves : (b : BondEntry) → Moves (bondTurn g (tookOne w) (w .at .here) b)
+    unfolding bondTurn enterTurn ringTurn
     bond-moves b =
         by-test Moves (leb (g .size) (b .to)) (λ q. (d, refuses s more (w .pairs) _ _ _))
         (λ q. by-test Moves (eqb (b .to) (w .at .here)) (λ z. (d, refuses s more (w .pairs) _ _ _))
@@ -132,8 +132,8 @@ module _ (g : Graph) (w : Walk) (d : ℕ) where
         (λ y. way-moves (b .kind) (b .to) (leb-false _ _ q) (eqb-true _ _ y) _ (way-back g (b .kind) (w .at .here) (b .to)))
         (λ y. given-moves (b .kind) (b .to) _ _)))
 
-    entry-moves : Moves (entryOf g w (w .at .here) (takenOf w))
-    unfolding entryOf
+    entry-moves : Moves (entryTurn g w (w .at .here) (takenOf w))
+    unfolding entryTurn
     entry-moves =
         by-test Moves (eqb (getD (w .back) (w .at .here) 0) (takenOf w + 1)) (λ q. (d, takes s more)) (λ q. bond-moves _)
 

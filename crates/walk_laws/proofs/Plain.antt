@@ -12,25 +12,25 @@ use lib.Dec.{ltb, leb, eqb}
 use borrow.Author.Tests.{eqb-true, eqb-false, leb-true, leb-false, ne-eqb, eq-eqb}
 use Rattle.feature.proofs.Cases.{by-test}
 use Rattle.feature.specs.Pick.{pick}
-use Rattle.feature.specs.Bonds.{same, reverseOf}
+use Rattle.feature.specs.Bonds.{sameKind, reverseOf}
 use Rattle.feature.specs.declared.bond_kind.BondKind.{BondKind}
 use Rattle.join_pool.specs.declared.Pool.{Pool}
 use Rattle.join_pool.specs.declared.Given.{Given}
 use Rattle.join_pool.specs.declared.Given.the-variants.{Number, Full}
-use Rattle.join_pool.specs.Pairs.{Hits, highest, nextOf, openOf, closeOf, calledOf, pairOf, hitOf}
+use Rattle.join_pool.specs.Pairs.{Hits, highest, nextOf, openOf, closeOf, openOrClose, hitPair, hitOf}
 use Rattle.writer.specs.Line.{Event, Root, Extend, Join}
 use Rattle.walk_entry.specs.declared.entry.Back.{Back}
 use Rattle.walk_entry.specs.declared.entry.Back.the-variants.{Found, Twice, Fixed}
 use Rattle.walk_entry.specs.declared.entry.Way.{Way}
 use Rattle.walk_entry.specs.declared.entry.Way.the-variants.{Enters, Refuses}
-use Rattle.walk_entry.specs.Graph.{Bond, Graph, kindAt, degreeAt, bondIn, bondOf}
+use Rattle.walk_entry.specs.Graph.{BondEntry, Graph, kindAt, degreeAt, bondIn, bondOf}
 use Rattle.walk_entry.specs.Ways.{saidAs, judgedBack, scanOf, wayOf}
 use Rattle.walk.specs.declared.walker.Walker.{Walker}
-use Rattle.walk.specs.Walk.{Walk, Turn, turn, quiet, refuse, passed, backAt, atEnd, moved, metAt, tookAt, pooled, popsThen, leftIn, rootOf, leaveOf, numberedOf, ringOf, enteredOf, enterOf, bondTurn, entryOf, atomOf, turnOf, stepOf, walkTo, eventsOf, turnsOf, unknownTarget, loop, ringNumbers}
+use Rattle.walk.specs.Walk.{Walk, Turn, turn, quiet, refuseTurn, rootPassed, backAt, atEnd, withWalker, metAt, tookAt, pooled, popsThen, leftIn, rootTurn, leaveOf, numberedOf, ringTurn, enteredOf, enterTurn, bondTurn, entryTurn, atomOf, turnOf, stepOf, walkTo, eventsOf, turnsOf, unknownTarget, loop, ringNumbers}
 use Rattle.walk_laws.specs.Trek.{fresh, degrees, Finished}
 use Rattle.walk_laws.specs.Longer.{leastWalk, leastSaid}
 use Rattle.walk_laws.specs.Plain.{Trail, Outcome, Goes, Refused, Visit, andThen, numberFrom, numberIn, meets, leaves, joins, rings, enters, follows, entriesFrom, visitOf, rootsFrom, startTrail, plainWalk}
-use Rattle.walk_laws.specs.OneWalk.{trailOf, refusalIn, Tables, OneWalk}
+use Rattle.walk_laws.specs.OneWalk.{trailOf, refusalIn, HoldTrail, OneWalk}
 use Rattle.walk_laws.proofs.Moves.{EntersBy, way-back}
 use Rattle.walk_laws.proofs.Sums.{by-eq, unmet, unmet-set, unmet-all, zeros-at}
 use Rattle.walk_laws.proofs.Sound.{no}
@@ -65,7 +65,7 @@ judged-nonzero g k s t Fixed = omega arith
 judged-nonzero g k s t Twice = omega arith
 judged-nonzero g k s t (Found b) =
     by-test Nonzero (eqb b 0) (λ q. omega arith)
-    (λ q. by-test Nonzero (same (bondOf g t (b - 1) .kind) (reverseOf k)) (λ z. tt) (λ z. omega arith))
+    (λ q. by-test Nonzero (sameKind (bondOf g t (b - 1) .kind) (reverseOf k)) (λ z. tt) (λ z. omega arith))
 
 way-nonzero : (g : Graph) (k : BondKind) (s t : ℕ) → Nonzero (wayOf g k s t)
 unfolding wayOf
@@ -82,15 +82,15 @@ isFull (Number q m) = 1
 given≢full : (p : Pool) (n : ℕ) → Number p n ≡ Full → ⊥
 given≢full p n e = let z : _≡_ {A = ℕ} 1 0 = ap isFull e in omega (arith, z)
 
-pair-keeps : (p : Pool) (pairs : List ℕ) (lo hi r : ℕ) → Keeps pairs (calledOf p pairs lo hi r)
-unfolding calledOf openOf closeOf
+pair-keeps : (p : Pool) (pairs : List ℕ) (lo hi r : ℕ) → Keeps pairs (openOrClose p pairs lo hi r)
+unfolding openOrClose openOf closeOf
 pair-keeps p pairs lo hi r =
     by-test (Keeps pairs) (eqb r 0)
     (λ q. by-test (Keeps pairs) (ltb highest (nextOf p)) (λ z. record { full = λ e. refl }) (λ z. record { full = λ e. absurd (given≢full _ _ e) }))
     (λ q. record { full = λ e. absurd (given≢full _ _ e) })
 
 hit-keeps : (p : Pool) (pairs : List ℕ) (a b : ℕ) → Keeps pairs (hitOf p pairs a b)
-unfolding hitOf pairOf
+unfolding hitOf hitPair
 hit-keeps p pairs a b = by-test (Keeps pairs) (ltb a b) (λ q. pair-keeps p pairs a b _) (λ q. pair-keeps p pairs b a _)
 
 -- ---- the atoms that stand: each with the place of its entry back, and how many of its entries were taken; the last one first
@@ -185,12 +185,12 @@ module _ (g : Graph) where
     room : Roomy w
     deep : length fs ≤ w .at .count
     counted : w .at .count + unmet (g .size) (w .met) ≡ g .size
-    tables : Tables w s
+    tables : HoldTrail w s
 
   -- A turn to x agrees with a plain walk that comes to p: it goes on from there, or both are refused.
   data Step (s : Trail) (x : Turn) (p : Outcome) : Type 0 where
     on : (fs : List Frame) (z : Trail) → Shows (x .after) fs z → z .said ≡ s .said ++ x .said → whole (x .after .at .next) fs (Goes z) ≡ p → Step s x p
-    off : (r a b : ℕ) → r ≢ 0 → x .after .at .refusal ≡ r → x .after .at .first ≡ a → x .after .at .second ≡ b → x .said ≡ [] → Tables (x .after) s
+    off : (r a b : ℕ) → r ≢ 0 → x .after .at .refusal ≡ r → x .after .at .first ≡ a → x .after .at .second ≡ b → x .said ≡ [] → HoldTrail (x .after) s
         → p ≡ Refused r a b s → Step s x p
 
   -- two choices by one test
@@ -235,12 +235,12 @@ module _ (g : Graph) where
       rw z refl
 
   -- ---- an atom met
-  module _ (w : Walk) (s : Trail) (tb : Tables w s) (rm : Roomy w) (counted : w .at .count + unmet (g .size) (w .met) ≡ g .size)
+  module _ (w : Walk) (s : Trail) (tb : HoldTrail w s) (rm : Roomy w) (counted : w .at .count + unmet (g .size) (w .met) ≡ g .size)
       (z : Walker) (ec : z .count ≡ w .at .count) (ep : z .pool ≡ w .at .pool) (t b : ℕ) (es : List Event) (l : t < g .size) (m : getD (w .met) t 0 ≡ 0) where
     fewer : w .at .count < g .size
     fewer = omega (arith, counted, unmet-set (g .size) (w .met) t 1 l (rm .met) m (omega arith))
 
-    met-tables : Tables (metAt w z t b) (meets s t b es)
+    met-tables : HoldTrail (metAt w z t b) (meets s t b es)
     met-tables =
         let q : z .count + 1 ≡ suc (z .count) = omega arith in
         record {
@@ -296,11 +296,11 @@ module _ (g : Graph) where
   said-none l = sym (append-nil l)
 
   -- tables as they were, under another walker of the same count and pool
-  moved-tables : (w : Walk) (s : Trail) → Tables w s → (z : Walker) → z .count ≡ w .at .count → z .pool ≡ w .at .pool → Tables (moved w z) s
+  moved-tables : (w : Walk) (s : Trail) → HoldTrail w s → (z : Walker) → z .count ≡ w .at .count → z .pool ≡ w .at .pool → HoldTrail (withWalker w z) s
   moved-tables w s t z ec ep =
       record { count = ec ∙ t .count; walked = ap (λ (n : ℕ). take n (w .walked)) ec ∙ t .walked; met = t .met; back = t .back; pool = ep ∙ t .pool; pairs = t .pairs }
 
-  moved-room : (w : Walk) (z : Walker) → Roomy w → Roomy (moved w z)
+  moved-room : (w : Walk) (z : Walker) → Roomy w → Roomy (withWalker w z)
   moved-room w z r = record { met = r .met; walked = r .walked; back = r .back; taken = r .taken }
 
   module _ (w : Walk) (s : Trail) (h : Shows w [] s) where
@@ -308,15 +308,15 @@ module _ (g : Graph) where
     rootSaid = Root (saidAs (kindAt g (w .at .next)) 0) ∷ []
 
     root-met : w .at .next < g .size → getD (w .met) (w .at .next) 0 ≡ 0
-        → Step s (turn (metAt w (passed (w .at)) (w .at .next) 0) rootSaid) (whole (w .at .next + 1) [] (visitOf g (g .size) (w .at .next) 0 (meets s (w .at .next) 0 rootSaid)))
+        → Step s (turn (metAt w (rootPassed (w .at)) (w .at .next) 0) rootSaid) (whole (w .at .next + 1) [] (visitOf g (g .size) (w .at .next) 0 (meets s (w .at .next) 0 rootSaid)))
     unfolding whole climb andThen
     root-met l m =
         on (frame (w .at .next) 0 0 ∷ []) (meets s (w .at .next) 0 rootSaid)
-        (met-shows w s (h .tables) (h .room) (h .counted) (passed (w .at)) refl refl (w .at .next) 0 rootSaid l m (h .going) (h .first) (h .second) [] none refl (omega arith) (h .unused))
+        (met-shows w s (h .tables) (h .room) (h .counted) (rootPassed (w .at)) refl refl (w .at .next) 0 rootSaid l m (h .going) (h .first) (h .second) [] none refl (omega arith) (h .unused))
         refl
         (ap (λ (p : Outcome). andThen p (roots (w .at .next + 1))) (sym (visit-is (g .size) 0 (w .at .next) 0 (meets s (w .at .next) 0 rootSaid) (omega arith))))
 
-    root-passed : Step s (quiet (moved w (passed (w .at)))) (whole (w .at .next + 1) [] (Goes s))
+    root-passed : Step s (quiet (withWalker w (rootPassed (w .at)))) (whole (w .at .next + 1) [] (Goes s))
     root-passed =
         on [] s
         (record {
@@ -326,15 +326,15 @@ module _ (g : Graph) where
           stands = h .stands;
           held = h .held;
           unused = h .unused;
-          room = moved-room w (passed (w .at)) (h .room);
+          room = moved-room w (rootPassed (w .at)) (h .room);
           deep = h .deep;
           counted = h .counted;
-          tables = moved-tables w s (h .tables) (passed (w .at)) refl refl;
+          tables = moved-tables w s (h .tables) (rootPassed (w .at)) refl refl;
         })
         (said-none _) refl
 
-    root-step : Step s (rootOf g w) (whole (w .at .next) [] (Goes s))
-    unfolding rootOf
+    root-step : Step s (rootTurn g w) (whole (w .at .next) [] (Goes s))
+    unfolding rootTurn
     root-step =
         by-test (λ (x : Turn). Step s x (whole (w .at .next) [] (Goes s))) (leb (g .size) (w .at .next)) (λ q. on [] s h (said-none _) refl)
         (λ q. subst (Step s _) (sym (roots-one (w .at .next) s (leb-false _ _ q)))
@@ -360,7 +360,7 @@ module _ (g : Graph) where
     -- ---- it has no entry left
     module _ (none-left : degreeAt g (f .atom) ≤ f .done) where
       left-shows : (gs : List Frame) (z : Walker) → z .refusal ≡ 0 → z .first ≡ 0 → z .second ≡ 0 → z .count ≡ w .at .count → z .pool ≡ w .at .pool
-          → length gs ≤ w .at .count → Stands (moved w z) gs (leaves s) → Held g (w .met) (w .back) (w .taken) gs → Shows (moved w z) gs (leaves s)
+          → length gs ≤ w .at .count → Stands (withWalker w z) gs (leaves s) → Held g (w .met) (w .back) (w .taken) gs → Shows (withWalker w z) gs (leaves s)
       left-shows gs z zr zf zs zc zp zd st hd =
           let k = moved-tables w s (h .tables) z zc zp in
           record {
@@ -381,12 +381,12 @@ module _ (g : Graph) where
       → Step s (leaveOf g w (f .atom)) (whole (w .at .next) (f ∷ fs) (Goes s))
   unfolding leftIn
   leave-step w f [] s h t l =
-      by-test (λ (z : Walker). Step s (quiet (moved w z)) (whole (w .at .next) (f ∷ []) (Goes s))) (eqb (getD (w .back) (f .atom) 0) 0)
+      by-test (λ (z : Walker). Step s (quiet (withWalker w z)) (whole (w .at .next) (f ∷ []) (Goes s))) (eqb (getD (w .back) (f .atom) 0) 0)
       (λ q. on [] (leaves s) (left-shows w f [] s h t l [] (atEnd (w .at)) (h .going) (h .first) (h .second) refl refl (omega arith) refl none) (said-none _)
       (sym (rest-none (w .at .next) f [] s l)))
       (λ q. absurd (eqb-false _ _ q (t .back ∙ t .from)))
   leave-step w f (p ∷ fs) s h t l =
-      by-test (λ (z : Walker). Step s (quiet (moved w z)) (whole (w .at .next) (f ∷ p ∷ fs) (Goes s))) (eqb (getD (w .back) (f .atom) 0) 0)
+      by-test (λ (z : Walker). Step s (quiet (withWalker w z)) (whole (w .at .next) (f ∷ p ∷ fs) (Goes s))) (eqb (getD (w .back) (f .atom) 0) 0)
       (λ q. absurd (t .from .0 (sym (t .back) ∙ eqb-true _ _ q)))
       (λ q. on (p ∷ fs) (leaves s)
       (left-shows w f (p ∷ fs) s h t l (p ∷ fs) (backAt (w .at) (bondIn (g .bonds) (g .first) (f .atom) (getD (w .back) (f .atom) 0 - 1) .to)) (h .going) (h .first) (h .second) refl refl (omega (arith, h .deep))
@@ -403,7 +403,7 @@ module _ (g : Graph) where
     abbrev after : Outcome → Outcome
     after p = whole (w .at .next) (further f ∷ fs) p
 
-    took-tables : Tables took s
+    took-tables : HoldTrail took s
     took-tables =
         let k = h .tables in
         record { count = k .count; walked = k .walked; met = k .met; back = k .back; pool = k .pool; pairs = k .pairs }
@@ -438,7 +438,7 @@ module _ (g : Graph) where
         }
 
     -- refused
-    refuse-step : (r a b : ℕ) (pairs : List ℕ) → pairs ≡ w .pairs → r ≢ 0 → Step s (refuse (pooled took pairs) r a b) (after (Refused r a b s))
+    refuse-step : (r a b : ℕ) (pairs : List ℕ) → pairs ≡ w .pairs → r ≢ 0 → Step s (refuseTurn (pooled took pairs) r a b) (after (Refused r a b s))
     refuse-step r a b pairs e nz =
         let k = h .tables in
         off r a b nz refl refl refl refl
@@ -469,8 +469,8 @@ module _ (g : Graph) where
         refl
 
     ring-step : (k : BondKind) (u : ℕ)
-        → Step s (ringOf took k (f .atom) u) (after (rings s k (f .atom) u))
-    unfolding ringOf rings
+        → Step s (ringTurn took k (f .atom) u) (after (rings s k (f .atom) u))
+    unfolding ringTurn rings
     ring-step k u =
         let e : hitOf (s .pool) (s .pairs) (f .atom) u ≡ hitOf (w .at .pool) (w .pairs) (f .atom) u =
         sym (ap₂ (λ (p : Pool) (l : List ℕ). hitOf p l (f .atom) u) (h .tables .pool) (h .tables .pairs)) in
@@ -490,8 +490,8 @@ module _ (g : Graph) where
         (ap (λ (d : ℕ). s .said ++ popsThen d (Extend k (saidAs (kindAt g u) b))) (sym (h .stands .2)))
         (ap after (sym (visit-is (g .size - suc (length fs)) (suc (length fs)) u b (meets s u b es) (omega (arith, c, h .deep)))))
 
-    bond-step : (e : Bond) → Step s (bondTurn g took (f .atom) e) (after (follows g (below fs) (f .atom) e s))
-    unfolding bondTurn follows enterOf
+    bond-step : (e : BondEntry) → Step s (bondTurn g took (f .atom) e) (after (follows g (below fs) (f .atom) e s))
+    unfolding bondTurn follows enterTurn
     bond-step e =
         chosen after (leb (g .size) (e .to)) (leb (g .size) (e .to)) refl (λ q. refuse-step unknownTarget (f .atom) (e .to) (w .pairs) refl (omega arith))
         (λ q. chosen after (eqb (e .to) (f .atom)) (eqb (e .to) (f .atom)) refl (λ z. refuse-step loop (f .atom) 0 (w .pairs) refl (omega arith))
@@ -499,8 +499,8 @@ module _ (g : Graph) where
         (λ y. way-step (e .kind) (e .to) (leb-false _ _ q) (h .tables .met (e .to) ∙ eqb-true _ _ y) _ (way-back g (e .kind) (f .atom) (e .to)) (way-nonzero g (e .kind) (f .atom) (e .to)))
         (λ y. ring-step (e .kind) (e .to))))
 
-    entry-step : f .done < degreeAt g (f .atom) → Step s (entryOf g w (f .atom) (f .done)) (whole (w .at .next) (f ∷ fs) (Goes s))
-    unfolding entryOf
+    entry-step : f .done < degreeAt g (f .atom) → Step s (entryTurn g w (f .atom) (f .done)) (whole (w .at .next) (f ∷ fs) (Goes s))
+    unfolding entryTurn
     entry-step l =
         subst (Step s _) (sym (rest-one (w .at .next) f fs s l))
         (chosen after (eqb (getD (w .back) (f .atom) 0) (f .done + 1)) (eqb (f .place) (f .done + 1)) (ap (λ (n : ℕ). eqb n (f .done + 1)) (t .back))
@@ -510,7 +510,7 @@ module _ (g : Graph) where
     atom-step : Step s (atomOf g w (f .atom)) (whole (w .at .next) (f ∷ fs) (Goes s))
     unfolding atomOf
     atom-step =
-        subst (λ (i : ℕ). Step s (pick (leb (degreeAt g (f .atom)) i) (leaveOf g w (f .atom)) (entryOf g w (f .atom) i)) (whole (w .at .next) (f ∷ fs) (Goes s))) (sym (t .taken))
+        subst (λ (i : ℕ). Step s (pick (leb (degreeAt g (f .atom)) i) (leaveOf g w (f .atom)) (entryTurn g w (f .atom) i)) (whole (w .at .next) (f ∷ fs) (Goes s))) (sym (t .taken))
         (by-test (λ (x : Turn). Step s x (whole (w .at .next) (f ∷ fs) (Goes s))) (leb (degreeAt g (f .atom)) (f .done))
         (λ q. leave-step w f fs s h t (leb-true _ _ q)) (λ q. entry-step (leb-false _ _ q)))
 

@@ -3,7 +3,7 @@ use Prim.Native.Nat.{ℕ}
 use mathlib.Core.Path.{_≡_, refl}
 use mathlib.Core.List.{List, [], _∷_, map}
 use lib.ListN.{replicate}
-use Rattle.feature.specs.Kinds.{bracket, inRange, bracketInRange, invertOf, invertBracket}
+use Rattle.feature.specs.Kinds.{bracketOfSix, inRange, bracketInRange, invertOf, invertBracket}
 use Rattle.feature.specs.Bonds.{kindOf, sureKind, codeOf, reverseOf, isDirectional}
 use Rattle.feature.specs.declared.atom_kind.AtomKind.the-variants.{Aliphatic, Bracket}
 use Rattle.feature.specs.declared.bond_kind.BondKind.the-variants.{Elided}
@@ -58,7 +58,7 @@ rows =
     -- "F[C@H](Cl)Br" is unchanged: the mark is turned when the second atom is entered by its first entry
     ∷ (
       graph 4 (8 ∷ 0 ∷ 1 ∷ 15631396 ∷ 32031 ∷ 3 ∷ 9 ∷ 0 ∷ 1 ∷ 10 ∷ 0 ∷ 1 ∷ []) (1 ∷ 1 ∷ 1 ∷ 0 ∷ 1 ∷ 2 ∷ 1 ∷ 3 ∷ 1 ∷ 1 ∷ 1 ∷ 1 ∷ []) (0 ∷ 1 ∷ 4 ∷ 5 ∷ []),
-      shown [] (Root (Aliphatic 6) ∷ Extend Elided (Bracket (bracket 1000 16 1 1 31 1000)) ∷ Extend Elided (Aliphatic 7) ∷ Pop 1 ∷ Extend Elided (Aliphatic 8) ∷ []) (0 ∷ 1 ∷ 2 ∷ 3 ∷ []) (0 ∷ 1 ∷ 1 ∷ 1 ∷ []),
+      shown [] (Root (Aliphatic 6) ∷ Extend Elided (Bracket (bracketOfSix 1000 16 1 1 31 1000)) ∷ Extend Elided (Aliphatic 7) ∷ Pop 1 ∷ Extend Elided (Aliphatic 8) ∷ []) (0 ∷ 1 ∷ 2 ∷ 3 ∷ []) (0 ∷ 1 ∷ 1 ∷ 1 ∷ []),
     )
     -- a ring bond that only one of its atoms has: its number is not closed
     ∷ (
@@ -84,5 +84,5 @@ rows =
 
 -- each comes to that
 rows-shown : map (λ (r : Graph × Shown). shows (plainWalk (r .0) lent)) rows ≡ map (λ (r : Graph × Shown). r .1) rows
-unfolding shows andThen numberFrom joins rings enters follows entriesFrom visitOf rootsFrom plainWalk inRange bracketInRange invertOf invertBracket kindOf sureKind codeOf reverseOf isDirectional words.plainOf words.bracketOf words.loadOf words.loadAt pool.opens pool.numberOf pool.slot pool.grown pool.counterOf pool.nextOf pool.openOf pool.closeOf pool.calledOf pool.pairOf pool.hitOf kindOr kindIn degreeIn bondIn isRefused isFixed turnedOr even saidAs scanIn judgedBack wayOf popsOf
+unfolding shows andThen numberFrom joins rings enters follows entriesFrom visitOf rootsFrom plainWalk inRange bracketInRange invertOf invertBracket kindOf sureKind codeOf reverseOf isDirectional words.plainOf words.bracketOf words.loadOf words.loadAt pool.opens pool.openNumber pool.slot pool.counterNext pool.counterOf pool.nextOf pool.openOf pool.closeOf pool.openOrClose pool.hitPair pool.hitOf kindOr kindIn degreeIn bondIn isRefused isFixed turnedOr even saidAs scanIn judgedBack wayOf popsOf
 rows-shown = refl

@@ -26,12 +26,12 @@ secondIn (Goes s) = 0
 secondIn (Refused r a b s) = b
 
 -- a refusal has a number
-abbrev pub Numbered : Outcome → Type 0
-Numbered (Goes s) = Unit {0}
-Numbered (Refused r a b s) = r ≢ 0
+abbrev pub RefusalNumbered : Outcome → Type 0
+RefusalNumbered (Goes s) = Unit {0}
+RefusalNumbered (Refused r a b s) = r ≢ 0
 
 -- The tables of the turns hold what a trail has: the atoms met and how many, the number of each, its entry back, and the pool.
-pub record Tables (w : Walk) (s : Trail) : Type 0 where
+pub record HoldTrail (w : Walk) (s : Trail) : Type 0 where
   pub count : w .at .count ≡ length (s .order)
   pub walked : take (w .at .count) (w .walked) ≡ s .order
   pub met : (a : ℕ) → getD (w .met) a 0 ≡ numberIn (s .order) a
@@ -46,5 +46,5 @@ pub record OneWalk (p : Outcome) (w : Walk) (es : List Event) : Type 0 where
   pub refusal : w .at .refusal ≡ refusalIn p
   pub first : w .at .first ≡ firstIn p
   pub second : w .at .second ≡ secondIn p
-  pub numbered : Numbered p
-  pub tables : Tables w (trailOf p)
+  pub numbered : RefusalNumbered p
+  pub tables : HoldTrail w (trailOf p)

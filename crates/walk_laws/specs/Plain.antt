@@ -14,7 +14,7 @@ use Rattle.join_pool.specs.Pairs.{hitOf, emptyOf}
 use Rattle.writer.specs.Line.{Event, Root, Extend, Join}
 use Rattle.walk_entry.specs.declared.entry.Way.{Way}
 use Rattle.walk_entry.specs.declared.entry.Way.the-variants.{Enters, Refuses}
-use Rattle.walk_entry.specs.Graph.{Bond, Graph, kindAt, degreeAt, bondOf}
+use Rattle.walk_entry.specs.Graph.{BondEntry, Graph, kindAt, degreeAt, bondOf}
 use Rattle.walk_entry.specs.Ways.{saidAs, wayOf}
 use Rattle.walk.specs.Walk.{unknownTarget, loop, ringNumbers, popsThen}
 
@@ -74,7 +74,7 @@ enters g visit s k t (Refuses r a b) = Refused r a b s
 enters g visit s k t (Enters b) = visit t b (meets s t b (popsThen (s .left) (Extend k (saidAs (kindAt g t) b))))
 
 -- A bond of the atom a: 5 if its target is no atom, 6 if it is a itself, then the target.
-unfoldable pub follows : Graph → Visit → ℕ → Bond → Trail → Outcome
+unfoldable pub follows : Graph → Visit → ℕ → BondEntry → Trail → Outcome
 follows g visit a e s =
     pick (leb (g .size) (e .to)) (Refused unknownTarget a (e .to) s)
     (pick (eqb (e .to) a) (Refused loop a 0 s)

@@ -13,7 +13,7 @@ use borrow.Author.Tests.{lt-ltb, le-ltb, eq-eqb, ne-eqb, ltb-false}
 use Rattle.feature.proofs.Lists.{drop-zeros}
 use Rattle.feature.specs.Pick.{pick}
 use Rattle.builder.specs.Limits.{atomLimit, bondLimit, lesserOf}
-use Rattle.builder.specs.Build.{startsOf}
+use Rattle.builder.specs.Build.{entryStarts}
 use Rattle.writer.specs.declared.Writer.{Writer}
 use Rattle.writer.specs.Line.{Event, lineOf, writeEvents}
 use Rattle.writer.specs.Tables.{Spoken, spoken, writer, sayAll, pieceRoom}
@@ -26,29 +26,29 @@ use Rattle.walk_laws.specs.Trek.{fresh}
 use Rattle.feature.proofs.Cases.{by-test}
 use Rattle.write.specs.declared.answer.Written.{Written}
 use Rattle.write.specs.declared.answer.Written.the-variants.{Done, OutRoom}
-use Rattle.write.specs.Write.{zeros, pairWords, startIn, walkIn, refusalOf, Left, left, refusing, putLine, ended, concluded, graphWritten}
+use Rattle.write.specs.Write.{zeros, pairWords, startIn, walkIn, writeRefusal, WriteLeft, writeLeaves, lineRefusing, putLine, outputEnded, lineConcluded, graphWritten}
 use Rattle.write.specs.Order as made
-use Rattle.write.specs.Rooms.{Blank}
+use Rattle.write.specs.Rooms.{WorkCleared}
 use Rattle.write.specs.Lengths.{graphIn, smallWalk, smallSaid, smallWritten}
 use Rattle.write.proofs.Lengths.{small-written}
 
 -- ---- each way out
-pub end-refused : (out o : List ℕ) (z : Walker) (line : Writer) (r : Written) → z .refusal ≢ 0 → o ≡ zeros (length out) → r ≡ refusalOf z → left r o ≡ ended out z line
-unfolding ended
+pub end-refused : (out o : List ℕ) (z : Walker) (line : Writer) (r : Written) → z .refusal ≢ 0 → o ≡ zeros (length out) → r ≡ writeRefusal z → writeLeaves r o ≡ outputEnded out z line
+unfolding outputEnded
 end-refused out o z line r d e f =
-    ap (λ (x : Written). left x o) f ∙ ap (λ (x : List ℕ). left (refusalOf z) x) e ∙ simp (ne-eqb _ _ d)
+    ap (λ (x : Written). writeLeaves x o) f ∙ ap (λ (x : List ℕ). writeLeaves (writeRefusal z) x) e ∙ simp (ne-eqb _ _ d)
 
-pub end-short : (out o : List ℕ) (z : Walker) (line : Writer) → z .refusal ≡ 0 → length out < line .len → o ≡ zeros (length out) → left (OutRoom (line .len)) o ≡ ended out z line
-unfolding ended
+pub end-short : (out o : List ℕ) (z : Walker) (line : Writer) → z .refusal ≡ 0 → length out < line .len → o ≡ zeros (length out) → writeLeaves (OutRoom (line .len)) o ≡ outputEnded out z line
+unfolding outputEnded
 end-short out o z line d h e =
-    ap (λ (x : List ℕ). left (OutRoom (line .len)) x) e ∙ simp (eq-eqb _ _ d, lt-ltb _ _ h)
+    ap (λ (x : List ℕ). writeLeaves (OutRoom (line .len)) x) e ∙ simp (eq-eqb _ _ d, lt-ltb _ _ h)
 
-pub end-done : (out : List ℕ) (z : Walker) (line : Writer) → z .refusal ≡ 0 → line .len ≤ length out → left (Done (line .len)) out ≡ ended out z line
-unfolding ended
+pub end-done : (out : List ℕ) (z : Walker) (line : Writer) → z .refusal ≡ 0 → line .len ≤ length out → writeLeaves (Done (line .len)) out ≡ outputEnded out z line
+unfolding outputEnded
 end-done out z line d h = simp (eq-eqb _ _ d, le-ltb _ _ h)
 
-pub left-zeros : (r : Written) (o : List ℕ) (n : ℕ) → o ≡ zeros n → left r o ≡ refusing n r
-left-zeros r o n e = ap (λ (x : List ℕ). left r x) e
+pub left-zeros : (r : Written) (o : List ℕ) (n : ℕ) → o ≡ zeros n → writeLeaves r o ≡ lineRefusing n r
+left-zeros r o n e = ap (λ (x : List ℕ). writeLeaves r x) e
 
 pub few : (n m : ℕ) → n ≤ atomLimit → m ≤ bondLimit → turnsOf n m < 1000000
 unfolding turnsOf
@@ -71,18 +71,18 @@ module _ (room : ℕ) (out : List ℕ) (z : Walker) (w : Writer) (line : List �
   long : length out ≡ room
   long = ap length holds ∙ length-sets (zeros room) 0 line ∙ length-replicate {A = ℕ} room 0
 
-  fits : (b : Bool) → ltb room (length line) ≡ b → pick b (refusing room (OutRoom (length line))) (left (Done (length line)) out) ≡ putLine room line
+  fits : (b : Bool) → ltb room (length line) ≡ b → pick b (lineRefusing room (OutRoom (length line))) (writeLeaves (Done (length line)) out) ≡ putLine room line
   unfolding putLine
   fits true e = simp e
   fits false e =
-      ap (λ (x : List ℕ). left (Done (length line)) x) (holds ∙ laid-out room line (ltb-false room (length line) e)) ∙ simp e
+      ap (λ (x : List ℕ). writeLeaves (Done (length line)) x) (holds ∙ laid-out room line (ltb-false room (length line) e)) ∙ simp e
 
-  pub ended-is : ended out z w ≡ concluded room z line
-  unfolding ended concluded
+  pub ended-is : outputEnded out z w ≡ lineConcluded room z line
+  unfolding outputEnded lineConcluded
   ended-is =
-      ap (λ (k : ℕ). pick (eqb (z .refusal) 0) (pick (ltb k (w .len)) (refusing k (OutRoom (w .len))) (left (Done (w .len)) out)) (refusing k (refusalOf z))) long
-      ∙ ap (λ (k : ℕ). pick (eqb (z .refusal) 0) (pick (ltb room k) (refusing room (OutRoom k)) (left (Done k) out)) (refusing room (refusalOf z))) has
-      ∙ ap (λ (x : Left). pick (eqb (z .refusal) 0) x (refusing room (refusalOf z))) (fits (ltb room (length line)) refl)
+      ap (λ (k : ℕ). pick (eqb (z .refusal) 0) (pick (ltb k (w .len)) (lineRefusing k (OutRoom (w .len))) (writeLeaves (Done (w .len)) out)) (lineRefusing k (writeRefusal z))) long
+      ∙ ap (λ (k : ℕ). pick (eqb (z .refusal) 0) (pick (ltb room k) (lineRefusing room (OutRoom k)) (writeLeaves (Done k) out)) (lineRefusing room (writeRefusal z))) has
+      ∙ ap (λ (x : WriteLeft). pick (eqb (z .refusal) 0) x (lineRefusing room (writeRefusal z))) (fits (ltb room (length line)) refl)
 
 -- ---- a graph written, on work tables of k words each
 full-room : (k : ℕ) → k ≤ atomLimit → pieceRoom (zeros k) ≡ k
@@ -96,7 +96,7 @@ said-holds k h o out starts w es e =
     subst (λ (s : Spoken). Holds o (writeEvents k es []) s) (sym e)
     (subst (λ (n : ℕ). Holds o (writeEvents n es []) (sayAll (spoken (writer 0 0) o (zeros k)) es)) (full-room k h) (holds-all es (holds-none o (zeros k))))
 
-module _ (k : ℕ) (atoms bonds first : List ℕ) (n m : ℕ) (fst : first ≡ startsOf n atoms (zeros k)) where
+module _ (k : ℕ) (atoms bonds first : List ℕ) (n m : ℕ) (fst : first ≡ entryStarts n atoms (zeros k)) where
   graph-is : graph n atoms bonds first ≡ graphIn k n atoms bonds
   graph-is = ap (λ (x : List ℕ). graph n atoms bonds x) fst
 
@@ -107,18 +107,18 @@ module _ (k : ℕ) (atoms bonds first : List ℕ) (n m : ℕ) (fst : first ≡ s
   unfolding smallSaid
   said-is s x e = e ∙ ap (λ (g : Graph). sayAll s (eventsOf g (turnsOf n m) (fresh k k k k (zeros pairWords)))) graph-is
 
-  pub graph-written : n ≤ k → k ≤ atomLimit → (room : ℕ) (o out starts met walked back taken pairs : List ℕ) (z : Walker) (line : Writer) (r : Left) → o ≡ zeros room → walk z met walked back taken pairs ≡ walkTo (graph n atoms bonds first) (turnsOf n m) (fresh k k k k (zeros pairWords)) → spoken line out starts ≡ sayAll (spoken (writer 0 0) o (zeros k)) (eventsOf (graph n atoms bonds first) (turnsOf n m) (fresh k k k k (zeros pairWords))) → r ≡ ended out z line → r ≡ graphWritten room atoms n bonds m
+  pub graph-written : n ≤ k → k ≤ atomLimit → (room : ℕ) (o out starts met walked back taken pairs : List ℕ) (z : Walker) (line : Writer) (r : WriteLeft) → o ≡ zeros room → walk z met walked back taken pairs ≡ walkTo (graph n atoms bonds first) (turnsOf n m) (fresh k k k k (zeros pairWords)) → spoken line out starts ≡ sayAll (spoken (writer 0 0) o (zeros k)) (eventsOf (graph n atoms bonds first) (turnsOf n m) (fresh k k k k (zeros pairWords))) → r ≡ outputEnded out z line → r ≡ graphWritten room atoms n bonds m
   unfolding smallWritten smallWalk
   graph-written low high room o out starts met walked back taken pairs z line r zo w s e =
       let x : List ℕ = lineOf (writeEvents k (smallSaid k atoms n bonds m) []) in
       let h = said-holds k high o out starts line (smallSaid k atoms n bonds m) (said-is _ _ s) in
       e
       ∙ ended-is room out z line x (h .len) (h .line ∙ ap (λ (y : List ℕ). sets y 0 x) zo)
-      ∙ ap (λ (y : Walk). concluded room (y .at) x) (walk-is _ _ w)
+      ∙ ap (λ (y : Walk). lineConcluded room (y .at) x) (walk-is _ _ w)
       ∙ small-written atoms n bonds m (omega (arith, low, high)) k low room
 
 -- work tables that are blank, whatever their length, are such
-module _ (atoms bonds : List ℕ) (n m : ℕ) (first met walked back taken pairs starts laid : List ℕ) (b : Blank n first met walked back taken pairs starts) (is : laid ≡ startsOf n atoms first) where
+module _ (atoms bonds : List ℕ) (n m : ℕ) (first met walked back taken pairs starts laid : List ℕ) (b : WorkCleared n first met walked back taken pairs starts) (is : laid ≡ entryStarts n atoms first) where
   abbrev begun : Walk
   begun = walk startWalker met walked back taken (zeros (length pairs))
 
@@ -133,9 +133,9 @@ module _ (atoms bonds : List ℕ) (n m : ℕ) (first met walked back taken pairs
       ∙ ap (λ (x : List ℕ). walk startWalker wide wide wide x (zeros (length pairs))) (b .takes)
       ∙ ap (λ (x : ℕ). walk startWalker wide wide wide wide (zeros x)) (ap length (b .slots) ∙ length-replicate {A = ℕ} pairWords 0)
 
-  pub blank-written : (room : ℕ) (o out starts′ met′ walked′ back′ taken′ pairs′ : List ℕ) (z : Walker) (line : Writer) (r : Left) → o ≡ zeros room → walk z met′ walked′ back′ taken′ pairs′ ≡ walkTo (graph n atoms bonds laid) (turnsOf n m) begun → spoken line out starts′ ≡ sayAll (spoken (writer 0 0) o starts) (eventsOf (graph n atoms bonds laid) (turnsOf n m) begun) → r ≡ ended out z line → r ≡ graphWritten room atoms n bonds m
+  pub blank-written : (room : ℕ) (o out starts′ met′ walked′ back′ taken′ pairs′ : List ℕ) (z : Walker) (line : Writer) (r : WriteLeft) → o ≡ zeros room → walk z met′ walked′ back′ taken′ pairs′ ≡ walkTo (graph n atoms bonds laid) (turnsOf n m) begun → spoken line out starts′ ≡ sayAll (spoken (writer 0 0) o starts) (eventsOf (graph n atoms bonds laid) (turnsOf n m) begun) → r ≡ outputEnded out z line → r ≡ graphWritten room atoms n bonds m
   blank-written room o out starts′ met′ walked′ back′ taken′ pairs′ z line r zo w s e =
-      graph-written (length first) atoms bonds laid n m (is ∙ ap (startsOf n atoms) (b .firsts)) (b .room) (b .most) room o out starts′ met′ walked′ back′ taken′ pairs′ z line r zo
+      graph-written (length first) atoms bonds laid n m (is ∙ ap (entryStarts n atoms) (b .firsts)) (b .room) (b .most) room o out starts′ met′ walked′ back′ taken′ pairs′ z line r zo
       (w ∙ ap (walkTo (graph n atoms bonds laid) (turnsOf n m)) start-blank)
       (s
       ∙ ap (λ (x : List ℕ). sayAll (spoken (writer 0 0) o x) (eventsOf (graph n atoms bonds laid) (turnsOf n m) begun)) (b .pieces)
@@ -143,21 +143,21 @@ module _ (atoms bonds : List ℕ) (n m : ℕ) (first met walked back taken pairs
       e
 
 -- ---- a walk order
-pub order-refused : (walked met back w′ m′ b′ : List ℕ) (n : ℕ) (z : Walker) (r : Written) → z .refusal ≢ 0 → w′ ≡ zeros (length walked) → m′ ≡ zeros (length met) → b′ ≡ zeros (length back) → r ≡ refusalOf z → made.order r w′ m′ b′ ≡ made.concluded n z walked met back
-unfolding made.concluded
+pub order-refused : (walked met back w′ m′ b′ : List ℕ) (n : ℕ) (z : Walker) (r : Written) → z .refusal ≢ 0 → w′ ≡ zeros (length walked) → m′ ≡ zeros (length met) → b′ ≡ zeros (length back) → r ≡ writeRefusal z → made.order r w′ m′ b′ ≡ made.orderConcluded n z walked met back
+unfolding made.orderConcluded
 order-refused walked met back w′ m′ b′ n z r d e f g h =
     ap (λ (x : Written). made.order x w′ m′ b′) h
-    ∙ ap (λ (x : List ℕ). made.order (refusalOf z) x m′ b′) e
-    ∙ ap (λ (x : List ℕ). made.order (refusalOf z) (zeros (length walked)) x b′) f
-    ∙ ap (λ (x : List ℕ). made.order (refusalOf z) (zeros (length walked)) (zeros (length met)) x) g
+    ∙ ap (λ (x : List ℕ). made.order (writeRefusal z) x m′ b′) e
+    ∙ ap (λ (x : List ℕ). made.order (writeRefusal z) (zeros (length walked)) x b′) f
+    ∙ ap (λ (x : List ℕ). made.order (writeRefusal z) (zeros (length walked)) (zeros (length met)) x) g
     ∙ simp (ne-eqb _ _ d)
 
-pub order-done : (walked met back m′ : List ℕ) (n : ℕ) (z : Walker) → z .refusal ≡ 0 → m′ ≡ made.lowered met → made.order (Done n) walked m′ back ≡ made.concluded n z walked met back
-unfolding made.concluded
+pub order-done : (walked met back m′ : List ℕ) (n : ℕ) (z : Walker) → z .refusal ≡ 0 → m′ ≡ made.lowered met → made.order (Done n) walked m′ back ≡ made.orderConcluded n z walked met back
+unfolding made.orderConcluded
 order-done walked met back m′ n z d e =
     ap (λ (x : List ℕ). made.order (Done n) walked x back) e ∙ simp (eq-eqb _ _ d)
 
-pub tables-zero : (r : Written) (a b c : List ℕ) (k l n : ℕ) → a ≡ zeros k → b ≡ zeros l → c ≡ zeros n → made.order r a b c ≡ made.refusing k l n r
+pub tables-zero : (r : Written) (a b c : List ℕ) (k l n : ℕ) → a ≡ zeros k → b ≡ zeros l → c ≡ zeros n → made.order r a b c ≡ made.orderRefusing k l n r
 tables-zero r a b c k l n e f g =
     ap (λ (x : List ℕ). made.order r x b c) e
     ∙ ap (λ (x : List ℕ). made.order r (zeros k) x c) f
@@ -170,11 +170,11 @@ start-is z lm lw lb met walked back taken pairs e f g =
     ∙ ap (λ (x : List ℕ). walk z (zeros lm) x back taken pairs) f
     ∙ ap (λ (x : List ℕ). walk z (zeros lm) (zeros lw) x taken pairs) g
 
-pub graph-ordered : (atoms bonds first : List ℕ) (n m lm lw lb : ℕ) (m₀ w₀ b₀ met walked back taken pairs : List ℕ) (z : Walker) (r : made.Order) → first ≡ startsOf n atoms (zeros atomLimit) → m₀ ≡ zeros lm → w₀ ≡ zeros lw → b₀ ≡ zeros lb → walk z met walked back taken pairs ≡ walkTo (graph n atoms bonds first) (turnsOf n m) (walk startWalker m₀ w₀ b₀ (zeros atomLimit) (zeros (length (zeros pairWords)))) → r ≡ made.concluded n z walked met back → r ≡ made.graphOrdered lw lm lb atoms n bonds m
+pub graph-ordered : (atoms bonds first : List ℕ) (n m lm lw lb : ℕ) (m₀ w₀ b₀ met walked back taken pairs : List ℕ) (z : Walker) (r : made.Order) → first ≡ entryStarts n atoms (zeros atomLimit) → m₀ ≡ zeros lm → w₀ ≡ zeros lw → b₀ ≡ zeros lb → walk z met walked back taken pairs ≡ walkTo (graph n atoms bonds first) (turnsOf n m) (walk startWalker m₀ w₀ b₀ (zeros atomLimit) (zeros (length (zeros pairWords)))) → r ≡ made.orderConcluded n z walked met back → r ≡ made.graphOrdered lw lm lb atoms n bonds m
 unfolding made.graphOrdered walkIn
 graph-ordered atoms bonds first n m lm lw lb m₀ w₀ b₀ met walked back taken pairs z r f e1 e2 e3 w e =
     e
-    ∙ ap (λ (x : Walk). made.concluded n (x .at) (x .walked) (x .met) (x .back))
+    ∙ ap (λ (x : Walk). made.orderConcluded n (x .at) (x .walked) (x .met) (x .back))
     (walk-is atomLimit atoms bonds first n m f (startIn lm lw lb) (walk z met walked back taken pairs)
     (w ∙ ap (λ (i : ℕ). walkTo (graph n atoms bonds first) (turnsOf n m) (walk startWalker m₀ w₀ b₀ (zeros atomLimit) (zeros i))) (length-replicate {A = ℕ} pairWords 0)
     ∙ ap (λ (x : Walk). walkTo (graph n atoms bonds first) (turnsOf n m) x) (start-is startWalker lm lw lb m₀ w₀ b₀ (zeros atomLimit) (zeros pairWords) e1 e2 e3)))

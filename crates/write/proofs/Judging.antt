@@ -10,15 +10,15 @@ use Rattle.builder.specs.Limits.{RoomOf, atomLimit, bondLimit, lesserOf}
 use Rattle.table_check.specs.Judge.{badRecord}
 use Rattle.write.specs.declared.answer.Written.{Written}
 use Rattle.write.specs.declared.answer.Written.the-variants.{AtomRoom, BondRoom, BadTable}
-use Rattle.write.specs.Write.{atomRoom, bondRoom, admitted}
+use Rattle.write.specs.Write.{atomPlaces, bondSlots, admitted}
 use Rattle.write.specs.Order.{orderRoom}
 
-pub atom-room-is : (atoms : List ℕ) (a : ℕ) → RoomOf atomLimit (length atoms / atomWords) a → a ≡ atomRoom atoms
-unfolding atomRoom
+pub atom-room-is : (atoms : List ℕ) (a : ℕ) → RoomOf atomLimit (length atoms / atomWords) a → a ≡ atomPlaces atoms
+unfolding atomPlaces
 atom-room-is atoms a h = h .is
 
-bond-room-is : (bonds : List ℕ) (b : ℕ) → RoomOf bondLimit (length bonds / bondWords) b → b ≡ bondRoom bonds
-unfolding bondRoom
+bond-room-is : (bonds : List ℕ) (b : ℕ) → RoomOf bondLimit (length bonds / bondWords) b → b ≡ bondSlots bonds
+unfolding bondSlots
 bond-room-is bonds b h = h .is
 
 pub order-room-is : (atoms : List ℕ) (lw ln lb a b c r : ℕ) → RoomOf atomLimit (length atoms / atomWords) a → RoomOf a lw b → RoomOf b ln c → RoomOf c lb r → (r ≡ orderRoom lw ln lb atoms) × (r ≤ atomLimit)

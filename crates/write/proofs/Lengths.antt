@@ -11,7 +11,7 @@ use borrow.Author.Tests.{le-ltb, ltb-true, ltb-false}
 use Rattle.feature.specs.Pick.{pick}
 use Rattle.packing.specs.Words.{atomWords}
 use Rattle.builder.specs.Limits.{atomLimit, lesserOf}
-use Rattle.builder.specs.Build.{startsOf, sumOf}
+use Rattle.builder.specs.Build.{entryStarts, sumOf}
 use Rattle.table_check.specs.Judge.{badRecord}
 use Rattle.writer.specs.Line.{Event, lineOf, writeEvents}
 use Rattle.walk_entry.specs.Graph.{Graph, graph}
@@ -25,23 +25,23 @@ use Rattle.walk_laws.proofs.Accepted.{accepted}
 use Rattle.walk_laws.proofs.Longer.{getD-longer, set-longer, longer-zeros, least-exact, any-length, pieces-alike}
 use Rattle.write.specs.declared.answer.Written.{Written}
 use Rattle.write.specs.declared.answer.Written.the-variants.{Done}
-use Rattle.write.specs.Write.{zeros, pairWords, graphOf, walkIn, walkOf, saidIn, saidOf, lineSaid, refusalOf, atomRoom, bondRoom, Left, putLine, concluded, graphWritten, writeOf}
+use Rattle.write.specs.Write.{zeros, pairWords, graphOf, walkIn, walkOf, saidIn, walkEvents, lineSaid, writeRefusal, atomPlaces, bondSlots, WriteLeft, putLine, lineConcluded, graphWritten, writeOf}
 use Rattle.write.specs.Order as made
-use Rattle.write.specs.Lengths.{cut, Handed, Looks, asOrder, graphIn, smallWalk, smallSaid, smallWritten}
+use Rattle.write.specs.Lengths.{cutTo, Handed, Looks, asOrder, graphIn, smallWalk, smallSaid, smallWritten}
 use Rattle.write.proofs.Tables.{length-lowered}
 
 -- ---- the starts
-length-starts : (n : ℕ) (atoms c : List ℕ) → length (startsOf n atoms c) ≡ length c
-unfolding startsOf
+length-starts : (n : ℕ) (atoms c : List ℕ) → length (entryStarts n atoms c) ≡ length c
+unfolding entryStarts
 length-starts zero atoms c = refl
-length-starts (suc n) atoms c = length-set (startsOf n atoms c) n (sumOf n atoms) ∙ length-starts n atoms c
+length-starts (suc n) atoms c = length-set (entryStarts n atoms c) n (sumOf n atoms) ∙ length-starts n atoms c
 
-starts-longer : (n : ℕ) (atoms c : List ℕ) (j : ℕ) → n ≤ length c → startsOf n atoms (longer j c) ≡ longer j (startsOf n atoms c)
-unfolding startsOf
+starts-longer : (n : ℕ) (atoms c : List ℕ) (j : ℕ) → n ≤ length c → entryStarts n atoms (longer j c) ≡ longer j (entryStarts n atoms c)
+unfolding entryStarts
 starts-longer zero atoms c j h = refl
 starts-longer (suc n) atoms c j h =
     ap (λ (x : List ℕ). set x n (sumOf n atoms)) (starts-longer n atoms c j (omega (arith, h)))
-    ∙ set-longer j (startsOf n atoms c) n (sumOf n atoms) (omega (arith, h, length-starts n atoms c))
+    ∙ set-longer j (entryStarts n atoms c) n (sumOf n atoms) (omega (arith, h, length-starts n atoms c))
 
 -- ---- numbers lowered
 lowered-zeros : (j : ℕ) → made.lowered (zeros j) ≡ zeros j
@@ -71,7 +71,7 @@ module _ (atoms : List ℕ) (n : ℕ) (bonds : List ℕ) (m : ℕ) where
   graph-longer : (k : ℕ) → n ≤ k → graphIn k n atoms bonds ≡ longerGraph (k - n) leastGraph
   graph-longer k h =
       ap (λ (x : List ℕ). graph n atoms bonds x)
-      (ap (startsOf n atoms) (sym (longer-zeros n k h)) ∙ starts-longer n atoms (zeros n) (k - n) (omega (arith, length-replicate {A = ℕ} n 0)))
+      (ap (entryStarts n atoms) (sym (longer-zeros n k h)) ∙ starts-longer n atoms (zeros n) (k - n) (omega (arith, length-replicate {A = ℕ} n 0)))
 
   walk-longer : (k lm lw lb lt : ℕ) → n ≤ k → Lengths leastGraph lm lw lb lt
       → walkTo (graphIn k n atoms bonds) (turnsOf n m) (fresh lm lw lb lt (zeros pairWords)) ≡ longerWalk (lm - n) (lw - n) (lb - n) (lt - n) least
@@ -98,7 +98,7 @@ module _ (atoms : List ℕ) (n : ℕ) (bonds : List ℕ) (m : ℕ) where
     said-in lm lw lb hm hw hb = said-longer atomLimit lm lw lb atomLimit few (all-long lm lw lb hm hw hb)
 
     -- The lengths lent to the walk order do not matter: it says what the write call's walk says, and comes as far.
-    pub same-said : (lm lw lb : ℕ) → n ≤ lm → n ≤ lw → n ≤ lb → saidIn lm lw lb atoms n bonds m ≡ saidOf atoms n bonds m
+    pub same-said : (lm lw lb : ℕ) → n ≤ lm → n ≤ lw → n ≤ lb → saidIn lm lw lb atoms n bonds m ≡ walkEvents atoms n bonds m
     same-said lm lw lb hm hw hb = said-in lm lw lb hm hw hb ∙ sym (said-in atomLimit atomLimit atomLimit few few few)
 
     pub same-end : (lm lw lb : ℕ) → n ≤ lm → n ≤ lw → n ≤ lb → walkIn lm lw lb atoms n bonds m .at ≡ walkOf atoms n bonds m .at
@@ -115,15 +115,15 @@ module _ (atoms : List ℕ) (n : ℕ) (bonds : List ℕ) (m : ℕ) where
       small-end =
           ap (λ (w : Walk). w .at) (walk-longer k k k k k h small-long) ∙ sym (ap (λ (w : Walk). w .at) (walk-in atomLimit atomLimit atomLimit few few few))
 
-      small-said : smallSaid k atoms n bonds m ≡ saidOf atoms n bonds m
+      small-said : smallSaid k atoms n bonds m ≡ walkEvents atoms n bonds m
       unfolding smallSaid
       small-said = said-longer k k k k k h small-long ∙ sym (said-in atomLimit atomLimit atomLimit few few few)
 
-      small-line : lineOf (writeEvents k (saidOf atoms n bonds m) []) ≡ lineSaid (saidOf atoms n bonds m)
+      small-line : lineOf (writeEvents k (walkEvents atoms n bonds m) []) ≡ lineSaid (walkEvents atoms n bonds m)
       unfolding saidIn
       small-line =
           let room : Room (graphOf n atoms bonds) atomLimit atomLimit atomLimit = record { met = few; back = few; taken = few } in
-          ap lineOf (pieces-alike k atomLimit (saidOf atoms n bonds m) []
+          ap lineOf (pieces-alike k atomLimit (walkEvents atoms n bonds m) []
           (accepted (graphOf n atoms bonds) atomLimit atomLimit atomLimit atomLimit (zeros pairWords) room k h (turnsOf n m))
           (accepted (graphOf n atoms bonds) atomLimit atomLimit atomLimit atomLimit (zeros pairWords) room atomLimit few (turnsOf n m)))
 
@@ -131,10 +131,10 @@ module _ (atoms : List ℕ) (n : ℕ) (bonds : List ℕ) (m : ℕ) where
       pub small-written : (room : ℕ) → smallWritten k room atoms n bonds m ≡ graphWritten room atoms n bonds m
       unfolding smallWritten graphWritten
       small-written room =
-          ap₂ (concluded room) small-end (ap (λ (es : List Event). lineOf (writeEvents k es [])) small-said ∙ small-line)
+          ap₂ (lineConcluded room) small-end (ap (λ (es : List Event). lineOf (writeEvents k es [])) small-said ∙ small-line)
 
     -- ---- the tables that the walk order fills
-    cut-longer : (l j : ℕ) (x : List ℕ) → length x ≡ n → longer (l - n) x ≡ cut n l (longer j x)
+    cut-longer : (l j : ℕ) (x : List ℕ) → length x ≡ n → longer (l - n) x ≡ cutTo n l (longer j x)
     cut-longer l j x e = ap (λ (y : List ℕ). y ++ zeros (l - n)) (sym (take-at x (zeros j) n e))
 
     -- what a walk on tables of these lengths hands out when it is done
@@ -149,12 +149,12 @@ module _ (atoms : List ℕ) (n : ℕ) (bonds : List ℕ) (m : ℕ) where
         let b = walk-in atomLimit atomLimit atomLimit few few few in
         record {
           done = refl;
-          walked = ap (λ (w : Walk). w .walked) a ∙ cut-longer lw (atomLimit - n) (least .walked) (x .walked) ∙ sym (ap (λ (w : Walk). cut n lw (w .walked)) b);
+          walked = ap (λ (w : Walk). w .walked) a ∙ cut-longer lw (atomLimit - n) (least .walked) (x .walked) ∙ sym (ap (λ (w : Walk). cutTo n lw (w .walked)) b);
           number =
               ap (λ (w : Walk). made.lowered (w .met)) a ∙ lowered-longer (ln - n) (least .met)
               ∙ cut-longer ln (atomLimit - n) (made.lowered (least .met)) (length-lowered (least .met) ∙ x .met)
-              ∙ sym (ap (λ (w : Walk). cut n ln (made.lowered (w .met))) b ∙ ap (cut n ln) (lowered-longer (atomLimit - n) (least .met)));
-          back = ap (λ (w : Walk). w .back) a ∙ cut-longer lb (atomLimit - n) (least .back) (x .back) ∙ sym (ap (λ (w : Walk). cut n lb (w .back)) b);
+              ∙ sym (ap (λ (w : Walk). cutTo n ln (made.lowered (w .met))) b ∙ ap (cutTo n ln) (lowered-longer (atomLimit - n) (least .met)));
+          back = ap (λ (w : Walk). w .back) a ∙ cut-longer lb (atomLimit - n) (least .back) (x .back) ∙ sym (ap (λ (w : Walk). cutTo n lb (w .back)) b);
         }
 
     handed-looks : (lw ln lb : ℕ) → n ≤ lw → n ≤ ln → n ≤ lb → Looks (walkOf atoms n bonds m) (handed lw ln lb)
@@ -185,10 +185,10 @@ lesser-both r l n =
     (λ q e. (omega (arith, ltb-true l r q, ltb-false l n e), ltb-false l n e))
     (λ q e. (ltb-false r n e, omega (arith, ltb-false l r q, ltb-false r n e)))
 
-order-room : (lw ln lb n : ℕ) (atoms : List ℕ) → n ≤ lw → n ≤ ln → n ≤ lb → ltb (made.orderRoom lw ln lb atoms) n ≡ ltb (atomRoom atoms) n
+order-room : (lw ln lb n : ℕ) (atoms : List ℕ) → n ≤ lw → n ≤ ln → n ≤ lb → ltb (made.orderRoom lw ln lb atoms) n ≡ ltb (atomPlaces atoms) n
 unfolding made.orderRoom
 order-room lw ln lb n atoms hw hn hb =
-    lesser-room (lesserOf (lesserOf (atomRoom atoms) lw) ln) lb n hb ∙ lesser-room (lesserOf (atomRoom atoms) lw) ln n hn ∙ lesser-room (atomRoom atoms) lw n hw
+    lesser-room (lesserOf (lesserOf (atomPlaces atoms) lw) ln) lb n hb ∙ lesser-room (lesserOf (atomPlaces atoms) lw) ln n hn ∙ lesser-room (atomPlaces atoms) lw n hw
 
 -- room for so many atoms in each table
 pub record HasRoom (lw ln lb n : ℕ) : Type 0 where
@@ -198,17 +198,17 @@ pub record HasRoom (lw ln lb n : ℕ) : Type 0 where
   pub back : n ≤ lb
 
 pub has-room : (lw ln lb n : ℕ) (atoms : List ℕ) → ltb (made.orderRoom lw ln lb atoms) n ≡ false → HasRoom lw ln lb n
-unfolding made.orderRoom atomRoom
+unfolding made.orderRoom atomPlaces
 has-room lw ln lb n atoms e =
-    let b = lesser-both (lesserOf (lesserOf (atomRoom atoms) lw) ln) lb n e in
-    let c = lesser-both (lesserOf (atomRoom atoms) lw) ln n (le-ltb (lesserOf (lesserOf (atomRoom atoms) lw) ln) n (b .0)) in
-    let d = lesser-both (atomRoom atoms) lw n (le-ltb (lesserOf (atomRoom atoms) lw) n (c .0)) in
-    let f = lesser-both atomLimit (length atoms / atomWords) n (le-ltb (atomRoom atoms) n (d .0)) in
+    let b = lesser-both (lesserOf (lesserOf (atomPlaces atoms) lw) ln) lb n e in
+    let c = lesser-both (lesserOf (atomPlaces atoms) lw) ln n (le-ltb (lesserOf (lesserOf (atomPlaces atoms) lw) ln) n (b .0)) in
+    let d = lesser-both (atomPlaces atoms) lw n (le-ltb (lesserOf (atomPlaces atoms) lw) n (c .0)) in
+    let f = lesser-both atomLimit (length atoms / atomWords) n (le-ltb (atomPlaces atoms) n (d .0)) in
     record { few = f .0; walked = d .1; number = c .1; back = b .1 }
 
 -- a refusal but for the want of room in an output is the walk order's too
-refusal-kept : (n : ℕ) (z : Walker) → asOrder n (refusalOf z) ≡ refusalOf z
-unfolding refusalOf asOrder
+refusal-kept : (n : ℕ) (z : Walker) → asOrder n (writeRefusal z) ≡ writeRefusal z
+unfolding writeRefusal asOrder
 refusal-kept n z =
     by-test Keeps (eqb (z .refusal) unknownTarget) (λ q. refl)
     (λ q. by-test Keeps (eqb (z .refusal) loop) (λ q. refl)
@@ -238,11 +238,11 @@ module _ (lw ln lb : ℕ) (atoms : List ℕ) (n : ℕ) (bonds : List ℕ) (m : �
   hands-no k o h = record { tables = λ e. absurd (not-done (o .answer) k h e); looks = λ e. absurd (not-done (o .answer) k h e) }
 
   order-hands : (k : ℕ) → Hands k (made.orderOf lw ln lb atoms n bonds m)
-  unfolding made.orderOf made.graphOrdered made.concluded asOrder
+  unfolding made.orderOf made.graphOrdered made.orderConcluded asOrder
   order-hands k =
       by-test (Hands k) (ltb (made.orderRoom lw ln lb atoms) n) (λ q. hands-no k _ refl)
       (λ q. let r = has-room lw ln lb n atoms q in
-      by-test (Hands k) (ltb (bondRoom bonds) m) (λ q. hands-no k _ refl)
+      by-test (Hands k) (ltb (bondSlots bonds) m) (λ q. hands-no k _ refl)
       (λ q. by-test (Hands k) (ltb (badRecord atoms n bonds m) (n + m)) (λ q. hands-no k _ refl)
       (λ q. by-test (Hands k) (eqb (walkIn ln lw lb atoms n bonds m .at .refusal) 0)
       (λ q. record {
@@ -259,10 +259,10 @@ module _ (lw ln lb : ℕ) (atoms : List ℕ) (n : ℕ) (bonds : List ℕ) (m : �
   order-looks k = order-hands k .looks
 
   -- ---- its answer
-  record Answers (o : made.Order) (x : Left) : Type 0 where
+  record Answers (o : made.Order) (x : WriteLeft) : Type 0 where
     is : o .answer ≡ asOrder n (x .answer)
 
-  answered : (p q : Bool) {a b : made.Order} {x y : Left} → p ≡ q → (q ≡ true → Answers a x) → (q ≡ false → Answers b y) → Answers (pick p a b) (pick q x y)
+  answered : (p q : Bool) {a b : made.Order} {x y : WriteLeft} → p ≡ q → (q ≡ true → Answers a x) → (q ≡ false → Answers b y) → Answers (pick p a b) (pick q x y)
   answered p true e f h = rw e (f refl)
   answered p false e f h = rw e (h refl)
 
@@ -273,20 +273,20 @@ module _ (lw ln lb : ℕ) (atoms : List ℕ) (n : ℕ) (bonds : List ℕ) (m : �
 
   module _ (hw : n ≤ lw) (hn : n ≤ ln) (hb : n ≤ lb) where
     graph-answers : (room : ℕ) → n ≤ atomLimit → Answers (made.graphOrdered lw ln lb atoms n bonds m) (graphWritten room atoms n bonds m)
-    unfolding made.graphOrdered made.concluded graphWritten concluded
+    unfolding made.graphOrdered made.orderConcluded graphWritten lineConcluded
     graph-answers room few =
         let e : walkIn ln lw lb atoms n bonds m .at ≡ walkOf atoms n bonds m .at = same-end atoms n bonds m few ln lw lb hn hw hb in
         answered (eqb (walkIn ln lw lb atoms n bonds m .at .refusal) 0) (eqb (walkOf atoms n bonds m .at .refusal) 0) (ap (λ (z : Walker). eqb (z .refusal) 0) e)
         (λ q. put-answers room _ _ _ _)
-        (λ q. record { is = ap refusalOf e ∙ sym (refusal-kept n (walkOf atoms n bonds m .at)) })
+        (λ q. record { is = ap writeRefusal e ∙ sym (refusal-kept n (walkOf atoms n bonds m .at)) })
 
     -- The walk order answers what the write call answers, whatever lengths with room for the atoms were lent, but that it is done
     -- where the write call is or has no room for the line.
     all-answer : (room : ℕ) → Answers (made.orderOf lw ln lb atoms n bonds m) (writeOf room atoms n bonds m)
     unfolding made.orderOf writeOf asOrder
     all-answer room =
-        answered (ltb (made.orderRoom lw ln lb atoms) n) (ltb (atomRoom atoms) n) (order-room lw ln lb n atoms hw hn hb) (λ q. record { is = refl })
-        (λ q. answered (ltb (bondRoom bonds) m) (ltb (bondRoom bonds) m) refl (λ z. record { is = refl })
+        answered (ltb (made.orderRoom lw ln lb atoms) n) (ltb (atomPlaces atoms) n) (order-room lw ln lb n atoms hw hn hb) (λ q. record { is = refl })
+        (λ q. answered (ltb (bondSlots bonds) m) (ltb (bondSlots bonds) m) refl (λ z. record { is = refl })
         (λ z. answered (ltb (badRecord atoms n bonds m) (n + m)) (ltb (badRecord atoms n bonds m) (n + m)) refl (λ y. record { is = refl })
         (λ y. graph-answers room (has-room lw ln lb n atoms (order-room lw ln lb n atoms hw hn hb ∙ q) .few))))
 

@@ -11,10 +11,10 @@ use Rattle.desk_numbers.specs.Numbers.{Told}
 use Rattle.desk_numbers.proofs.One.{same-result, one-result}
 use Rattle.write.specs.declared.answer.Written.{Written}
 use Rattle.write.specs.declared.answer.Written.the-variants.{Done, UnknownTarget, Loop, HalfBond, DuplicateBond, IncompatibleBond, Inversion, RingNumbers, AtomRoom, BondRoom, OutRoom, BadTable}
-use Rattle.write.specs.Write.{Left, left, writeOf}
+use Rattle.write.specs.Write.{WriteLeft, writeLeaves, writeOf}
 use Rattle.write.specs.Order.{Order, order, orderOf}
 use Rattle.write.specs.Plain.{writePlain, orderPlain}
-use Rattle.write.specs.Numbers.{tells, Numbered, inNumbers, NumberedOrder, orderInNumbers}
+use Rattle.write.specs.Numbers.{writtenTold, WriteNumbered, writeInNumbers, NumberedOrder, orderInNumbers}
 use Rattle.write.proofs.Plain.{write-plain, order-plain}
 
 -- the answer with a number and values
@@ -35,8 +35,8 @@ answerTo t =
     (pick (eqb (t .number) desk.outRoom) (OutRoom first)
     (BadTable first)))))))))))
 
-answer-back : (a : Written) → answerTo (tells a) ≡ a
-unfolding tells
+answer-back : (a : Written) → answerTo (writtenTold a) ≡ a
+unfolding writtenTold
 answer-back (Done n) = refl
 answer-back (UnknownTarget a b) = refl
 answer-back (Loop a) = refl
@@ -51,27 +51,27 @@ answer-back (OutRoom n) = refl
 answer-back (BadTable n) = refl
 
 -- no two answers have the same number and values
-pub same-answer : (a b : Written) → tells a ≡ tells b → a ≡ b
-same-answer = same-result tells answerTo answer-back
+pub same-answer : (a b : Written) → writtenTold a ≡ writtenTold b → a ≡ b
+same-answer = same-result writtenTold answerTo answer-back
 
 -- ---- the write call
-abbrev leftBy : Numbered → Left
-leftBy n = left (answerTo (n .answer)) (n .out)
+abbrev leftBy : WriteNumbered → WriteLeft
+leftBy n = writeLeaves (answerTo (n .answer)) (n .out)
 
-left-back : (x : Left) → leftBy (inNumbers x) ≡ x
-left-back x = ap (λ (a : Written). left a (x .out)) (answer-back (x .answer))
+left-back : (x : WriteLeft) → leftBy (writeInNumbers x) ≡ x
+left-back x = ap (λ (a : Written). writeLeaves a (x .out)) (answer-back (x .answer))
 
 -- what is left is the same if it is in numbers
-pub same-left : (x y : Left) → inNumbers x ≡ inNumbers y → x ≡ y
-same-left = same-result inNumbers leftBy left-back
+pub same-left : (x y : WriteLeft) → writeInNumbers x ≡ writeInNumbers y → x ≡ y
+same-left = same-result writeInNumbers leftBy left-back
 
 -- what the walk by turns comes to is what the promise says
-pub promised : (x : Left) (room : ℕ) (atoms : List ℕ) (n : ℕ) (bonds : List ℕ) (m : ℕ) → x ≡ writeOf room atoms n bonds m → inNumbers x ≡ inNumbers (writePlain room atoms n bonds m)
-promised x room atoms n bonds m e = ap inNumbers (e ∙ write-plain atoms n bonds m room)
+pub promised : (x : WriteLeft) (room : ℕ) (atoms : List ℕ) (n : ℕ) (bonds : List ℕ) (m : ℕ) → x ≡ writeOf room atoms n bonds m → writeInNumbers x ≡ writeInNumbers (writePlain room atoms n bonds m)
+promised x room atoms n bonds m e = ap writeInNumbers (e ∙ write-plain atoms n bonds m room)
 
-pub one-write : (room : ℕ) (atoms : List ℕ) (n : ℕ) (bonds : List ℕ) (m : ℕ) (x y : Left) → inNumbers x ≡ inNumbers (writePlain room atoms n bonds m)
-    → inNumbers y ≡ inNumbers (writePlain room atoms n bonds m) → x ≡ y
-one-write room atoms n bonds m = one-result inNumbers leftBy left-back (inNumbers (writePlain room atoms n bonds m))
+pub one-write : (room : ℕ) (atoms : List ℕ) (n : ℕ) (bonds : List ℕ) (m : ℕ) (x y : WriteLeft) → writeInNumbers x ≡ writeInNumbers (writePlain room atoms n bonds m)
+    → writeInNumbers y ≡ writeInNumbers (writePlain room atoms n bonds m) → x ≡ y
+one-write room atoms n bonds m = one-result writeInNumbers leftBy left-back (writeInNumbers (writePlain room atoms n bonds m))
 
 -- ---- the walk order
 abbrev orderBy : NumberedOrder → Order

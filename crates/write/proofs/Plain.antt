@@ -11,7 +11,7 @@ use borrow.Author.Tests.{ltb-false, eq-eqb, ne-eqb}
 use Rattle.feature.specs.Pick.{pick}
 use Rattle.packing.specs.Words.{atomWords}
 use Rattle.builder.specs.Limits.{atomLimit}
-use Rattle.builder.specs.Build.{startsOf}
+use Rattle.builder.specs.Build.{entryStarts}
 use Rattle.table_check.specs.Judge.{badRecord}
 use Rattle.writer.specs.Line.{Event}
 use Rattle.walk_entry.specs.Graph.{Graph, graph}
@@ -20,12 +20,12 @@ use Rattle.walk.specs.Walk.{Walk, walkTo, eventsOf, turnsOf}
 use Rattle.walk_laws.specs.Trek.{fresh, degrees}
 use Rattle.walk_laws.specs.Longer.{longer, longerGraph, longerWalk, Lengths, leastWalk, leastSaid, ExactWalk}
 use Rattle.walk_laws.specs.Plain.{Outcome, Goes, Refused, numberIn}
-use Rattle.walk_laws.specs.OneWalk.{trailOf, refusalIn, firstIn, secondIn, Numbered, OneWalk}
+use Rattle.walk_laws.specs.OneWalk.{trailOf, refusalIn, firstIn, secondIn, RefusalNumbered, OneWalk}
 use Rattle.walk_laws.proofs.Judged.{judged-few}
 use Rattle.walk_laws.proofs.Longer.{least-exact, any-length}
 use Rattle.walk_laws.proofs.Plain.{one-walk, all-met}
 use Rattle.write.specs.declared.answer.Written.the-variants.{Done}
-use Rattle.write.specs.Write.{zeros, pairWords, graphOf, walkIn, saidIn, lineSaid, refusalOf, atomRoom, bondRoom, refusing, putLine, concluded, graphWritten, writeOf}
+use Rattle.write.specs.Write.{zeros, pairWords, graphOf, walkIn, saidIn, lineSaid, writeRefusal, atomPlaces, bondSlots, lineRefusing, putLine, lineConcluded, graphWritten, writeOf}
 use Rattle.write.specs.Order as made
 use Rattle.write.specs.Plain.{outcomeOf, answerTo, outcomeWritten, writePlain, numbersFrom, outcomeOrdered, orderPlain}
 use Rattle.write.proofs.Tables.{length-lowered}
@@ -38,19 +38,19 @@ same-but false x h = h refl
 
 -- ---- ends
 -- an answer goes by the refusal and what it carries
-answer-by : (z : Walker) (r a b : ℕ) → z .refusal ≡ r → z .first ≡ a → z .second ≡ b → refusalOf z ≡ answerTo r a b
-unfolding refusalOf
+answer-by : (z : Walker) (r a b : ℕ) → z .refusal ≡ r → z .first ≡ a → z .second ≡ b → writeRefusal z ≡ answerTo r a b
+unfolding writeRefusal
 answer-by z r a b er ea eb =
     ap (λ (x : ℕ). answerTo x (z .first) (z .second)) er ∙ ap (λ (x : ℕ). answerTo r x (z .second)) ea ∙ ap (answerTo r a) eb
 
 -- the end of a walk with that outcome
 written-by : (room : ℕ) (p : Outcome) (z : Walker) (es : List Event) → es ≡ trailOf p .said → z .refusal ≡ refusalIn p → z .first ≡ firstIn p → z .second ≡ secondIn p
-    → Numbered p → concluded room z (lineSaid es) ≡ outcomeWritten room p
-unfolding concluded outcomeWritten
+    → RefusalNumbered p → lineConcluded room z (lineSaid es) ≡ outcomeWritten room p
+unfolding lineConcluded outcomeWritten
 written-by room (Goes s) z es e er ea eb nz =
     simp (eq-eqb (z .refusal) 0 er) (ap (λ (l : List Event). putLine room (lineSaid l)) e)
 written-by room (Refused r a b s) z es e er ea eb nz =
-    simp (ne-eqb (z .refusal) 0 (λ q. nz (sym er ∙ q))) (ap (refusing room) (answer-by z r a b er ea eb))
+    simp (ne-eqb (z .refusal) 0 (λ q. nz (sym er ∙ q))) (ap (lineRefusing room) (answer-by z r a b er ea eb))
 
 -- ---- numbers
 length-numbers : (order : List ℕ) (a n : ℕ) → length (numbersFrom order a n) ≡ n
@@ -114,7 +114,7 @@ module _ (atoms : List ℕ) (n : ℕ) (bonds : List ℕ) (m : ℕ) where
     graph-plain : (room : ℕ) → graphWritten room atoms n bonds m ≡ outcomeWritten room outcome
     unfolding graphWritten
     graph-plain room =
-        ap₂ (λ (w : Walk) (es : List Event). concluded room (w .at) (lineSaid es)) (walk-least atomLimit atomLimit atomLimit few few few) (said-least atomLimit atomLimit atomLimit few few few)
+        ap₂ (λ (w : Walk) (es : List Event). lineConcluded room (w .at) (lineSaid es)) (walk-least atomLimit atomLimit atomLimit few few few) (said-least atomLimit atomLimit atomLimit few few few)
         ∙ written-by room outcome (least .at) (leastSaid g turns (zeros pairWords)) (one .said) (one .refusal) (one .first) (one .second) (one .numbered)
 
     -- ---- the walk order
@@ -127,8 +127,8 @@ module _ (atoms : List ℕ) (n : ℕ) (bonds : List ℕ) (m : ℕ) where
           length-append x (zeros (l - n)) ∙ omega (arith, h, e, length-replicate {A = ℕ} (l - n) 0)
 
       ordered-by : (p : Outcome) → OneWalk p least (leastSaid g turns (zeros pairWords)) → (refusalIn p ≡ 0 → least .walked ≡ trailOf p .order)
-          → made.endOf n filled ≡ outcomeOrdered lw ln lb n p
-      unfolding made.concluded outcomeOrdered
+          → made.orderAtEnd n filled ≡ outcomeOrdered lw ln lb n p
+      unfolding made.orderConcluded outcomeOrdered
       ordered-by (Goes s) o all =
           let x : ExactWalk g least = least-exact g turns (zeros pairWords) in
           let a : least .walked ≡ s .order = all refl in
@@ -141,26 +141,26 @@ module _ (atoms : List ℕ) (n : ℕ) (bonds : List ℕ) (m : ℕ) where
       ordered-by (Refused r a b s) o all =
           let x : ExactWalk g least = least-exact g turns (zeros pairWords) in
           simp (ne-eqb (least .at .refusal) 0 (λ q. o .numbered (sym (o .refusal) ∙ q)))
-          (ap (λ (k : ℕ). made.refusing k (length (longer (ln - n) (least .met))) (length (longer (lb - n) (least .back))) (refusalOf (least .at))) (long-length lw (least .walked) hw (x .walked))
-          ∙ ap (λ (k : ℕ). made.refusing lw k (length (longer (lb - n) (least .back))) (refusalOf (least .at))) (long-length ln (least .met) hn (x .met))
-          ∙ ap (λ (k : ℕ). made.refusing lw ln k (refusalOf (least .at))) (long-length lb (least .back) hb (x .back))
-          ∙ ap (made.refusing lw ln lb) (answer-by (least .at) r a b (o .refusal) (o .first) (o .second)))
+          (ap (λ (k : ℕ). made.orderRefusing k (length (longer (ln - n) (least .met))) (length (longer (lb - n) (least .back))) (writeRefusal (least .at))) (long-length lw (least .walked) hw (x .walked))
+          ∙ ap (λ (k : ℕ). made.orderRefusing lw k (length (longer (lb - n) (least .back))) (writeRefusal (least .at))) (long-length ln (least .met) hn (x .met))
+          ∙ ap (λ (k : ℕ). made.orderRefusing lw ln k (writeRefusal (least .at))) (long-length lb (least .back) hb (x .back))
+          ∙ ap (made.orderRefusing lw ln lb) (answer-by (least .at) r a b (o .refusal) (o .first) (o .second)))
 
       order-graph : made.graphOrdered lw ln lb atoms n bonds m ≡ outcomeOrdered lw ln lb n outcome
       unfolding made.graphOrdered
       order-graph =
-          ap (made.endOf n) (walk-least ln lw lb hn hw hb) ∙ ordered-by outcome one (all-met g (zeros pairWords) m entries)
+          ap (made.orderAtEnd n) (walk-least ln lw lb hn hw hb) ∙ ordered-by outcome one (all-met g (zeros pairWords) m entries)
 
   -- ---- whole calls
   judged-entries : ltb (badRecord atoms n bonds m) (n + m) ≡ false → degrees g n ≤ m
-  judged-entries q = judged-few n m atoms bonds (startsOf n atoms (zeros atomLimit)) (ltb-false (badRecord atoms n bonds m) (n + m) q)
+  judged-entries q = judged-few n m atoms bonds (entryStarts n atoms (zeros atomLimit)) (ltb-false (badRecord atoms n bonds m) (n + m) q)
 
   -- The write call writes what the plain walk says, or answers what refused it.
   pub write-plain : (room : ℕ) → writeOf room atoms n bonds m ≡ writePlain room atoms n bonds m
-  unfolding writeOf writePlain atomRoom
+  unfolding writeOf writePlain atomPlaces
   write-plain room =
-      same-but (ltb (atomRoom atoms) n) _
-      (λ a. same-but (ltb (bondRoom bonds) m) _
+      same-but (ltb (atomPlaces atoms) n) _
+      (λ a. same-but (ltb (bondSlots bonds) m) _
       (λ b. same-but (ltb (badRecord atoms n bonds m) (n + m)) _
       (λ c. graph-plain (lesser-both atomLimit (length atoms / atomWords) n a .0) (judged-entries c) room)))
 
@@ -170,6 +170,6 @@ module _ (atoms : List ℕ) (n : ℕ) (bonds : List ℕ) (m : ℕ) where
   order-plain lw ln lb =
       same-but (ltb (made.orderRoom lw ln lb atoms) n) _
       (λ a. let r = has-room lw ln lb n atoms a in
-      same-but (ltb (bondRoom bonds) m) _
+      same-but (ltb (bondSlots bonds) m) _
       (λ b. same-but (ltb (badRecord atoms n bonds m) (n + m)) _
       (λ c. order-graph (r .few) (judged-entries c) lw ln lb (r .walked) (r .number) (r .back))))

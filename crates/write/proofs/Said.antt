@@ -10,10 +10,10 @@ use lib.Dec.{ltb, leb, eqb}
 use borrow.Author.Tests.{ltb-true, ltb-false}
 use Rattle.packing.specs.Words.{atomWords, isAtom}
 use Rattle.builder.specs.Limits.{atomLimit, lesserOf}
-use Rattle.builder.specs.Build.{startsOf}
+use Rattle.builder.specs.Build.{entryStarts}
 use Rattle.table_check.specs.declared.Judged.{Judged}
 use Rattle.table_check.specs.declared.Judged.the-variants.{Bad, Holds}
-use Rattle.table_check.specs.Judge.{degreeOf, bondStands, atomsFrom, bondsFrom, afterAtoms, badRecord}
+use Rattle.table_check.specs.Judge.{degreeOf, bondStands, atomsFrom, firstBadBond, afterAtoms, badRecord}
 use Rattle.walk.specs.declared.walker.Walker.{Walker}
 use Rattle.walk_entry.specs.Ways.{halfBond, duplicateBond, incompatibleBond, inversion}
 use Rattle.walk.specs.Walk.{turnsOf, unknownTarget, loop}
@@ -26,11 +26,11 @@ use Rattle.walk_laws.proofs.Judged.{judged-degrees}
 use Rattle.write.specs.declared.answer.Written.{Written}
 use Rattle.write.specs.declared.answer.Written.the-variants.{UnknownTarget, Loop, HalfBond, DuplicateBond, IncompatibleBond, Inversion, RingNumbers, AtomRoom, BondRoom, BadTable}
 use Rattle.write.specs.Bound.{lineBound, bytesOf, Short}
-use Rattle.write.specs.Write.{zeros, pairWords, graphOf, walkIn, walkOf, saidIn, saidOf, lineSaid, refusalOf, atomRoom, bondRoom, Left, refusing, putLine, concluded, graphWritten, writeOf}
+use Rattle.write.specs.Write.{zeros, pairWords, graphOf, walkIn, walkOf, saidIn, walkEvents, lineSaid, writeRefusal, atomPlaces, bondSlots, WriteLeft, lineRefusing, putLine, lineConcluded, graphWritten, writeOf}
 
 -- ---- the first bad record is one of them, or the one after
-bonds-most : (bonds : List ℕ) (held k e : ℕ) → bondsFrom bonds held k e ≤ e + k
-unfolding bondsFrom
+bonds-most : (bonds : List ℕ) (held k e : ℕ) → firstBadBond bonds held k e ≤ e + k
+unfolding firstBadBond
 bonds-most bonds held zero e = omega arith
 bonds-most bonds held (suc k) e =
     by-test (λ (x : ℕ). x ≤ e + suc k) (leb held e) (λ q. omega arith)
@@ -60,8 +60,8 @@ bad-most atoms bonds n m =
     after-most (atomsFrom atoms m n 0 0) bonds n m (rw z at (atoms-most atoms m n 0 0))
 
 -- ---- a graph that was admitted
-few-atoms : (atoms : List ℕ) (n : ℕ) → ltb (atomRoom atoms) n ≡ false → n ≤ atomLimit
-unfolding atomRoom lesserOf
+few-atoms : (atoms : List ℕ) (n : ℕ) → ltb (atomPlaces atoms) n ≡ false → n ≤ atomLimit
+unfolding atomPlaces lesserOf
 few-atoms atoms n =
     by-test (λ (x : ℕ). ltb x n ≡ false → n ≤ atomLimit) (ltb (length atoms / atomWords) atomLimit)
     (λ q h. omega (arith, ltb-false (length atoms / atomWords) n h, ltb-true (length atoms / atomWords) atomLimit q))
@@ -71,15 +71,15 @@ module _ (atoms bonds : List ℕ) (n m : ℕ) (few : n ≤ atomLimit) where
   room : Room (graphOf n atoms bonds) atomLimit atomLimit atomLimit
   room = record { met = few; back = few; taken = few }
 
-  pub all-said : AllAccepted atomLimit (saidOf atoms n bonds m) []
+  pub all-said : AllAccepted atomLimit (walkEvents atoms n bonds m) []
   unfolding saidIn
   all-said = accepted (graphOf n atoms bonds) atomLimit atomLimit atomLimit atomLimit (zeros pairWords) room atomLimit few (turnsOf n m)
 
   module _ (sound : badRecord atoms n bonds m ≡ n + m) where
     whole : degrees (graphOf n atoms bonds) n ≤ m
-    whole = omega (arith, judged-degrees n m atoms bonds (startsOf n atoms (zeros atomLimit)) sound)
+    whole = omega (arith, judged-degrees n m atoms bonds (entryStarts n atoms (zeros atomLimit)) sound)
 
-    pub line-short : length (lineSaid (saidOf atoms n bonds m)) ≤ lineBound n m
+    pub line-short : length (lineSaid (walkEvents atoms n bonds m)) ≤ lineBound n m
     unfolding saidIn
     line-short =
         line-bound (graphOf n atoms bonds) atomLimit atomLimit atomLimit atomLimit (zeros pairWords) room atomLimit few m whole (turnsOf n m)
@@ -92,8 +92,8 @@ module _ (atoms bonds : List ℕ) (n m : ℕ) (few : n ≤ atomLimit) where
 no-bytes : (most : ℕ) (r : Written) → bytesOf r ≡ 0 → Short most r
 no-bytes most r e = record { bytes = omega (arith, e) }
 
-refusal-short : (z : Walker) (most : ℕ) → Short most (refusalOf z)
-unfolding refusalOf bytesOf
+refusal-short : (z : Walker) (most : ℕ) → Short most (writeRefusal z)
+unfolding writeRefusal bytesOf
 refusal-short z most =
     by-test (Short most) (eqb (z .refusal) unknownTarget) (λ q. no-bytes most (UnknownTarget (z .first) (z .second)) refl)
     (λ q. by-test (Short most) (eqb (z .refusal) loop) (λ q. no-bytes most (Loop (z .first)) refl)
@@ -104,14 +104,14 @@ refusal-short z most =
     (λ q. no-bytes most (RingNumbers (z .first) (z .second)) refl))))))
 
 -- the same of what a write leaves
-record ShortLeft (most : ℕ) (x : Left) : Type 0 where
+record ShortLeft (most : ℕ) (x : WriteLeft) : Type 0 where
   said : Short most (x .answer)
 
-none : (most room : ℕ) (r : Written) → bytesOf r ≡ 0 → ShortLeft most (refusing room r)
+none : (most room : ℕ) (r : Written) → bytesOf r ≡ 0 → ShortLeft most (lineRefusing room r)
 none most room r e = record { said = no-bytes most r e }
 
 module _ (room : ℕ) (atoms bonds : List ℕ) (n m : ℕ) where
-  short : ltb (atomRoom atoms) n ≡ false → ltb (badRecord atoms n bonds m) (n + m) ≡ false → length (lineSaid (saidOf atoms n bonds m)) ≤ lineBound n m
+  short : ltb (atomPlaces atoms) n ≡ false → ltb (badRecord atoms n bonds m) (n + m) ≡ false → length (lineSaid (walkEvents atoms n bonds m)) ≤ lineBound n m
   short a c =
       line-short atoms bonds n m (few-atoms atoms n a) (omega (arith, bad-most atoms bonds n m, ltb-false (badRecord atoms n bonds m) (n + m) c))
 
@@ -120,17 +120,17 @@ module _ (room : ℕ) (atoms bonds : List ℕ) (n m : ℕ) where
   put-short l most line h =
       by-test (ShortLeft most) (ltb l (length line)) (λ q. record { said = record { bytes = h } }) (λ q. record { said = record { bytes = h } })
 
-  graph-short : length (lineSaid (saidOf atoms n bonds m)) ≤ lineBound n m → ShortLeft (lineBound n m) (graphWritten room atoms n bonds m)
-  unfolding graphWritten concluded
+  graph-short : length (lineSaid (walkEvents atoms n bonds m)) ≤ lineBound n m → ShortLeft (lineBound n m) (graphWritten room atoms n bonds m)
+  unfolding graphWritten lineConcluded
   graph-short h =
-      by-test (ShortLeft (lineBound n m)) (eqb (walkOf atoms n bonds m .at .refusal) 0) (λ q. put-short room (lineBound n m) (lineSaid (saidOf atoms n bonds m)) h)
+      by-test (ShortLeft (lineBound n m)) (eqb (walkOf atoms n bonds m .at .refusal) 0) (λ q. put-short room (lineBound n m) (lineSaid (walkEvents atoms n bonds m)) h)
       (λ q. record { said = refusal-short (walkOf atoms n bonds m .at) (lineBound n m) })
 
   all-short : ShortLeft (lineBound n m) (writeOf room atoms n bonds m)
   unfolding writeOf bytesOf
   all-short =
-      by-test (ShortLeft (lineBound n m)) (ltb (atomRoom atoms) n) (λ q. none (lineBound n m) room (AtomRoom n) refl)
-      (λ a. by-test (ShortLeft (lineBound n m)) (ltb (bondRoom bonds) m) (λ q. none (lineBound n m) room (BondRoom m) refl)
+      by-test (ShortLeft (lineBound n m)) (ltb (atomPlaces atoms) n) (λ q. none (lineBound n m) room (AtomRoom n) refl)
+      (λ a. by-test (ShortLeft (lineBound n m)) (ltb (bondSlots bonds) m) (λ q. none (lineBound n m) room (BondRoom m) refl)
       (λ b. by-test (ShortLeft (lineBound n m)) (ltb (badRecord atoms n bonds m) (n + m)) (λ q. none (lineBound n m) room (BadTable (badRecord atoms n bonds m)) refl)
       (λ c. graph-short (short a c))))
 

@@ -4,28 +4,28 @@ use Prim.Native.Nat.{ℕ, _-_}
 use mathlib.Core.Path.{_≡_}
 use mathlib.Core.List.{List, [], _++_}
 use lib.ListN.{getD, take}
-use Rattle.builder.specs.Build.{startsOf}
+use Rattle.builder.specs.Build.{entryStarts}
 use Rattle.writer.specs.Line.{Event, lineOf, writeEvents}
 use Rattle.walk_entry.specs.Graph.{Graph, graph}
 use Rattle.walk.specs.Walk.{Walk, walkTo, eventsOf, turnsOf}
 use Rattle.walk_laws.specs.Trek.{fresh}
 use Rattle.write.specs.declared.answer.Written.{Written}
 use Rattle.write.specs.declared.answer.Written.the-variants.{Done, UnknownTarget, Loop, HalfBond, DuplicateBond, IncompatibleBond, Inversion, RingNumbers, AtomRoom, BondRoom, OutRoom, BadTable}
-use Rattle.write.specs.Write.{zeros, pairWords, Left, concluded}
+use Rattle.write.specs.Write.{zeros, pairWords, WriteLeft, lineConcluded}
 use Rattle.write.specs.Order.{lowered, Order}
 
 -- ---- what the walk order hands out
 -- the first n words of a table in one of l words, zeros after them
-abbrev pub cut : ℕ → ℕ → List ℕ → List ℕ
-cut n l words = take n words ++ zeros (l - n)
+abbrev pub cutTo : ℕ → ℕ → List ℕ → List ℕ
+cutTo n l words = take n words ++ zeros (l - n)
 
 -- A walk order of n atoms in tables of these lengths is done, and they hold what the walk w left: the atoms in walk order, the
 -- number of each, which is one less than its mark, and the places of the entries back.
 pub record Handed (n walked-long number-long back-long : ℕ) (w : Walk) (o : Order) : Type 0 where
   pub done : o .answer ≡ Done n
-  pub walked : o .walked ≡ cut n walked-long (w .walked)
-  pub number : o .number ≡ cut n number-long (lowered (w .met))
-  pub back : o .back ≡ cut n back-long (w .back)
+  pub walked : o .walked ≡ cutTo n walked-long (w .walked)
+  pub number : o .number ≡ cutTo n number-long (lowered (w .met))
+  pub back : o .back ≡ cutTo n back-long (w .back)
 
 -- So they look like its tables everywhere, a number one less than the mark.
 pub record Looks (w : Walk) (o : Order) : Type 0 where
@@ -51,7 +51,7 @@ asOrder n (BadTable k) = BadTable k
 -- ---- a write on work tables of k words each: where entries begin, marks, atoms walked, entries back, entries taken, and where
 -- the pieces of the line begin
 abbrev pub graphIn : ℕ → ℕ → List ℕ → List ℕ → Graph
-graphIn k n atoms bonds = graph n atoms bonds (startsOf n atoms (zeros k))
+graphIn k n atoms bonds = graph n atoms bonds (entryStarts n atoms (zeros k))
 
 unfoldable pub smallWalk : ℕ → List ℕ → ℕ → List ℕ → ℕ → Walk
 smallWalk k atoms n bonds m = walkTo (graphIn k n atoms bonds) (turnsOf n m) (fresh k k k k (zeros pairWords))
@@ -59,6 +59,6 @@ smallWalk k atoms n bonds m = walkTo (graphIn k n atoms bonds) (turnsOf n m) (fr
 unfoldable pub smallSaid : ℕ → List ℕ → ℕ → List ℕ → ℕ → List Event
 smallSaid k atoms n bonds m = eventsOf (graphIn k n atoms bonds) (turnsOf n m) (fresh k k k k (zeros pairWords))
 
-unfoldable pub smallWritten : ℕ → ℕ → List ℕ → ℕ → List ℕ → ℕ → Left
+unfoldable pub smallWritten : ℕ → ℕ → List ℕ → ℕ → List ℕ → ℕ → WriteLeft
 smallWritten k room atoms n bonds m =
-    concluded room (smallWalk k atoms n bonds m .at) (lineOf (writeEvents k (smallSaid k atoms n bonds m) []))
+    lineConcluded room (smallWalk k atoms n bonds m .at) (lineOf (writeEvents k (smallSaid k atoms n bonds m) []))

@@ -11,7 +11,7 @@ use Rattle.walk.specs.declared.walker.Walker.{Walker}
 use Rattle.walk.specs.Walk.{Walk}
 use Rattle.write.specs.declared.answer.Written.{Written}
 use Rattle.write.specs.declared.answer.Written.the-variants.{Done}
-use Rattle.write.specs.Write.{zeros, walkIn, refusalOf, admitted, atomRoom}
+use Rattle.write.specs.Write.{zeros, walkIn, writeRefusal, admitted, atomPlaces}
 
 -- marks are one more than a number in walk order, or 0
 unfoldable pub lowered : List ℕ → List ℕ
@@ -28,27 +28,27 @@ abbrev pub order : Written → List ℕ → List ℕ → List ℕ → Order
 order r walked number back = record { answer = r; walked = walked; number = number; back = back }
 
 -- zeros in tables of so many words
-abbrev pub refusing : ℕ → ℕ → ℕ → Written → Order
-refusing walked number back r = order r (zeros walked) (zeros number) (zeros back)
+abbrev pub orderRefusing : ℕ → ℕ → ℕ → Written → Order
+orderRefusing walked number back r = order r (zeros walked) (zeros number) (zeros back)
 
 -- the end of a walk, with the tables that it filled
-unfoldable pub concluded : ℕ → Walker → List ℕ → List ℕ → List ℕ → Order
-concluded n z walked met back =
+unfoldable pub orderConcluded : ℕ → Walker → List ℕ → List ℕ → List ℕ → Order
+orderConcluded n z walked met back =
     pick (eqb (z .refusal) 0) (order (Done n) walked (lowered met) back)
-    (refusing (length walked) (length met) (length back) (refusalOf z))
+    (orderRefusing (length walked) (length met) (length back) (writeRefusal z))
 
-abbrev pub endOf : ℕ → Walk → Order
-endOf n w = concluded n (w .at) (w .walked) (w .met) (w .back)
+abbrev pub orderAtEnd : ℕ → Walk → Order
+orderAtEnd n w = orderConcluded n (w .at) (w .walked) (w .met) (w .back)
 
 unfoldable pub graphOrdered : ℕ → ℕ → ℕ → List ℕ → ℕ → List ℕ → ℕ → Order
 graphOrdered walked number back atoms n bonds m =
-    endOf n (walkIn number walked back atoms n bonds m)
+    orderAtEnd n (walkIn number walked back atoms n bonds m)
 
 -- how many atoms the tables have room for
 unfoldable pub orderRoom : ℕ → ℕ → ℕ → List ℕ → ℕ
-orderRoom walked number back atoms = lesserOf (lesserOf (lesserOf (atomRoom atoms) walked) number) back
+orderRoom walked number back atoms = lesserOf (lesserOf (lesserOf (atomPlaces atoms) walked) number) back
 
 unfoldable pub orderOf : ℕ → ℕ → ℕ → List ℕ → ℕ → List ℕ → ℕ → Order
 orderOf walked number back atoms n bonds m =
-    admitted (orderRoom walked number back atoms) atoms n bonds m (refusing walked number back)
+    admitted (orderRoom walked number back atoms) atoms n bonds m (orderRefusing walked number back)
     (graphOrdered walked number back atoms n bonds m)

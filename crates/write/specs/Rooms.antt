@@ -14,7 +14,7 @@ pub record Writable (n m : ℕ) (out : List ℕ) : Type 0 where
   pub empty : out ≡ zeros (length out)
 
 -- work tables of zeros, each with room for the atoms, and a pool's
-pub record Blank (n : ℕ) (first met walked back taken pairs starts : List ℕ) : Type 0 where
+pub record WorkCleared (n : ℕ) (first met walked back taken pairs starts : List ℕ) : Type 0 where
   pub room : n ≤ length first
   pub most : length first ≤ atomLimit
   pub firsts : first ≡ zeros (length first)

@@ -8,7 +8,7 @@ use lib.Dec.{ltb, eqb}
 use Rattle.feature.specs.Pick.{pick}
 use Rattle.packing.specs.Words.{atomWords, bondWords}
 use Rattle.builder.specs.Limits.{atomLimit, bondLimit, lesserOf}
-use Rattle.builder.specs.Build.{startsOf}
+use Rattle.builder.specs.Build.{entryStarts}
 use Rattle.writer.specs.declared.Writer.{Writer}
 use Rattle.writer.specs.Line.{Event, lineOf, writeEvents}
 use Rattle.walk_entry.specs.Graph.{Graph, graph}
@@ -25,7 +25,7 @@ zeros n = replicate n 0
 
 -- the graph of n atoms that tables hold
 abbrev pub graphOf : ℕ → List ℕ → List ℕ → Graph
-graphOf n atoms bonds = graph n atoms bonds (startsOf n atoms (zeros atomLimit))
+graphOf n atoms bonds = graph n atoms bonds (entryStarts n atoms (zeros atomLimit))
 
 -- how many words a pool has: a slot for each number from 0 to 99
 abbrev pub pairWords : ℕ
@@ -48,16 +48,16 @@ saidIn met walked back atoms n bonds m =
 abbrev pub walkOf : List ℕ → ℕ → List ℕ → ℕ → Walk
 walkOf = walkIn atomLimit atomLimit atomLimit
 
-abbrev pub saidOf : List ℕ → ℕ → List ℕ → ℕ → List Event
-saidOf = saidIn atomLimit atomLimit atomLimit
+abbrev pub walkEvents : List ℕ → ℕ → List ℕ → ℕ → List Event
+walkEvents = saidIn atomLimit atomLimit atomLimit
 
 -- the line that a walk says
 abbrev pub lineSaid : List Event → List ℕ
 lineSaid es = lineOf (writeEvents atomLimit es [])
 
 -- the refusal that stopped a walk
-unfoldable pub refusalOf : Walker → Written
-refusalOf z =
+unfoldable pub writeRefusal : Walker → Written
+writeRefusal z =
     pick (eqb (z .refusal) unknownTarget) (UnknownTarget (z .first) (z .second))
     (pick (eqb (z .refusal) loop) (Loop (z .first))
     (pick (eqb (z .refusal) halfBond) (HalfBond (z .first) (z .second))
@@ -67,53 +67,53 @@ refusalOf z =
     (RingNumbers (z .first) (z .second)))))))
 
 -- how many atoms and bond entries tables have room for
-unfoldable pub atomRoom : List ℕ → ℕ
-atomRoom atoms = lesserOf atomLimit (length atoms / atomWords)
+unfoldable pub atomPlaces : List ℕ → ℕ
+atomPlaces atoms = lesserOf atomLimit (length atoms / atomWords)
 
-unfoldable pub bondRoom : List ℕ → ℕ
-bondRoom bonds = lesserOf bondLimit (length bonds / bondWords)
+unfoldable pub bondSlots : List ℕ → ℕ
+bondSlots bonds = lesserOf bondLimit (length bonds / bondWords)
 
 -- 13, 14 and 17 in their order, for room for so many atoms: a refusal, or what is made of the graph
 abbrev pub admitted : {A : Type 0} → ℕ → List ℕ → ℕ → List ℕ → ℕ → (Written → A) → A → A
 admitted room atoms n bonds m refused made =
     pick (ltb room n) (refused (AtomRoom n))
-    (pick (ltb (bondRoom bonds) m) (refused (BondRoom m))
+    (pick (ltb (bondSlots bonds) m) (refused (BondRoom m))
     (pick (ltb (badRecord atoms n bonds m) (n + m)) (refused (BadTable (badRecord atoms n bonds m)))
     made))
 
 -- an answer, and an output of so many bytes
-pub record Left : Type 0 where
+pub record WriteLeft : Type 0 where
   pub answer : Written
   pub out : List ℕ
 
-abbrev pub left : Written → List ℕ → Left
-left r out = record { answer = r; out = out }
+abbrev pub writeLeaves : Written → List ℕ → WriteLeft
+writeLeaves r out = record { answer = r; out = out }
 
-abbrev pub refusing : ℕ → Written → Left
-refusing room r = left r (zeros room)
+abbrev pub lineRefusing : ℕ → Written → WriteLeft
+lineRefusing room r = writeLeaves r (zeros room)
 
 -- a line put into an output, zeros after it
-unfoldable pub putLine : ℕ → List ℕ → Left
+unfoldable pub putLine : ℕ → List ℕ → WriteLeft
 putLine room line =
-    pick (ltb room (length line)) (refusing room (OutRoom (length line)))
-    (left (Done (length line)) (line ++ zeros (room - length line)))
+    pick (ltb room (length line)) (lineRefusing room (OutRoom (length line)))
+    (writeLeaves (Done (length line)) (line ++ zeros (room - length line)))
 
 -- the end of a walk that was told to an output: out has what found room of a line of so many bytes
-unfoldable pub ended : List ℕ → Walker → Writer → Left
-ended out z line =
+unfoldable pub outputEnded : List ℕ → Walker → Writer → WriteLeft
+outputEnded out z line =
     pick (eqb (z .refusal) 0)
-    (pick (ltb (length out) (line .len)) (refusing (length out) (OutRoom (line .len))) (left (Done (line .len)) out))
-    (refusing (length out) (refusalOf z))
+    (pick (ltb (length out) (line .len)) (lineRefusing (length out) (OutRoom (line .len))) (writeLeaves (Done (line .len)) out))
+    (lineRefusing (length out) (writeRefusal z))
 
 -- the end of a walk, with its line
-unfoldable pub concluded : ℕ → Walker → List ℕ → Left
-concluded room z line = pick (eqb (z .refusal) 0) (putLine room line) (refusing room (refusalOf z))
+unfoldable pub lineConcluded : ℕ → Walker → List ℕ → WriteLeft
+lineConcluded room z line = pick (eqb (z .refusal) 0) (putLine room line) (lineRefusing room (writeRefusal z))
 
-unfoldable pub graphWritten : ℕ → List ℕ → ℕ → List ℕ → ℕ → Left
+unfoldable pub graphWritten : ℕ → List ℕ → ℕ → List ℕ → ℕ → WriteLeft
 graphWritten room atoms n bonds m =
-    concluded room (walkOf atoms n bonds m .at) (lineSaid (saidOf atoms n bonds m))
+    lineConcluded room (walkOf atoms n bonds m .at) (lineSaid (walkEvents atoms n bonds m))
 
 -- a graph of n atoms and m entries written into an output of so many bytes
-unfoldable pub writeOf : ℕ → List ℕ → ℕ → List ℕ → ℕ → Left
+unfoldable pub writeOf : ℕ → List ℕ → ℕ → List ℕ → ℕ → WriteLeft
 writeOf room atoms n bonds m =
-    admitted (atomRoom atoms) atoms n bonds m (refusing room) (graphWritten room atoms n bonds m)
+    admitted (atomPlaces atoms) atoms n bonds m (lineRefusing room) (graphWritten room atoms n bonds m)

@@ -1,6 +1,6 @@
 // The answer of the write call and of the walk order: a variant for each of the desk's numbers that they give.
 ghost use mathlib.Core.Path.{_≡_};
-ghost use Rattle.write.specs.Write.{refusalOf};
+ghost use Rattle.write.specs.Write.{writeRefusal};
 use walk::walker::LOOP;
 use walk::walker::UNKNOWN_TARGET;
 use walk::walker::Walker;
@@ -28,7 +28,7 @@ pub enum Written {
 
 // The refusal that stopped a walk.
 pub fn refusal(z: Walker) -> Written
-    ensures { λ r. ⌜ r ≡ refusalOf z ⌝ }
+    ensures { λ r. ⌜ r ≡ writeRefusal z ⌝ }
 {
     let number = z.refusal;
     if number == UNKNOWN_TARGET {

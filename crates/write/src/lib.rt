@@ -6,10 +6,10 @@ ghost use mathlib.Core.Path.{_≡_};
 ghost use Prim.Native.Nat.{_≤_};
 ghost use lib.ListN.{length, replicate};
 ghost use Rattle.builder.specs.Limits.{fewAtoms};
-ghost use Rattle.write.specs.Write.{left, ended, graphWritten};
+ghost use Rattle.write.specs.Write.{writeLeaves, outputEnded, graphWritten};
 ghost use Rattle.write.specs.Plain.{writePlain};
-ghost use Rattle.write.specs.Numbers.{inNumbers};
-ghost use Rattle.write.specs.Rooms.{Writable, Blank};
+ghost use Rattle.write.specs.Numbers.{writeInNumbers};
+ghost use Rattle.write.specs.Rooms.{Writable, WorkCleared};
 use answer::Written;
 use answer::refusal;
 use builder::build::lay_starts;
@@ -38,7 +38,7 @@ fn clear_bytes(out: &mut [u8])
 
 // What the end of a walk comes to, with the output that it was told to.
 fn conclude(out: &mut [u8], end: Turned) -> Written
-    ensures { λ r. ⌜ left r (now (out .exit)) ≡ ended (now (out .entry)) (end .walker) (end .line) ⌝ }
+    ensures { λ r. ⌜ writeLeaves r (now (out .exit)) ≡ outputEnded (now (out .entry)) (end .walker) (end .line) ⌝ }
 {
     let len = end.line.len;
     if end.walker.refusal != 0 {
@@ -67,8 +67,8 @@ fn write_in(
     starts: &mut [u32],
     out: &mut [u8],
 ) -> Written
-    requires { ⌜ Writable n m (now out) × Blank n (now first) (now met) (now walked) (now back) (now taken) (now pairs) (now starts) ⌝ }
-    ensures { λ r. ⌜ left r (now (out .exit)) ≡ graphWritten (length (now (out .entry))) (now (atoms .entry)) n (now (bonds .entry)) m ⌝ }
+    requires { ⌜ Writable n m (now out) × WorkCleared n (now first) (now met) (now walked) (now back) (now taken) (now pairs) (now starts) ⌝ }
+    ensures { λ r. ⌜ writeLeaves r (now (out .exit)) ≡ graphWritten (length (now (out .entry))) (now (atoms .entry)) n (now (bonds .entry)) m ⌝ }
 {
     lay_starts(first, atoms, n);
     let end = walk(
@@ -91,7 +91,7 @@ fn write_in(
 // A graph of few atoms, with little work room.
 fn write_few(atoms: &[u32], n: usize, bonds: &[u32], m: usize, out: &mut [u8]) -> Written
     requires { ⌜ Writable n m (now out) × (n ≤ fewAtoms) ⌝ }
-    ensures { λ r. ⌜ left r (now (out .exit)) ≡ graphWritten (length (now (out .entry))) (now (atoms .entry)) n (now (bonds .entry)) m ⌝ }
+    ensures { λ r. ⌜ writeLeaves r (now (out .exit)) ≡ graphWritten (length (now (out .entry))) (now (atoms .entry)) n (now (bonds .entry)) m ⌝ }
 {
     let mut first = [0u32; FEW_ATOMS];
     let mut met = [0u32; FEW_ATOMS];
@@ -119,7 +119,7 @@ fn write_few(atoms: &[u32], n: usize, bonds: &[u32], m: usize, out: &mut [u8]) -
 // The same for a graph of any size.
 fn write_many(atoms: &[u32], n: usize, bonds: &[u32], m: usize, out: &mut [u8]) -> Written
     requires { ⌜ Writable n m (now out) ⌝ }
-    ensures { λ r. ⌜ left r (now (out .exit)) ≡ graphWritten (length (now (out .entry))) (now (atoms .entry)) n (now (bonds .entry)) m ⌝ }
+    ensures { λ r. ⌜ writeLeaves r (now (out .exit)) ≡ graphWritten (length (now (out .entry))) (now (atoms .entry)) n (now (bonds .entry)) m ⌝ }
 {
     let mut first = [0u32; ATOMS];
     let mut met = [0u32; ATOMS];
@@ -146,8 +146,8 @@ fn write_many(atoms: &[u32], n: usize, bonds: &[u32], m: usize, out: &mut [u8]) 
 
 // Writes the graph of n atoms and m bond entries. The bytes after its line are zero; after a refusal all are.
 pub fn write(atoms: &[u32], n: usize, bonds: &[u32], m: usize, out: &mut [u8]) -> Written
-    ensures { λ r. ⌜ inNumbers (left r (now (out .exit)))
-        ≡ inNumbers (writePlain (length (now (out .entry))) (now (atoms .entry)) n (now (bonds .entry)) m) ⌝ }
+    ensures { λ r. ⌜ writeInNumbers (writeLeaves r (now (out .exit)))
+        ≡ writeInNumbers (writePlain (length (now (out .entry))) (now (atoms .entry)) n (now (bonds .entry)) m) ⌝ }
 {
     clear_bytes(out);
     if atom_room(atoms) < n {

@@ -4,7 +4,7 @@ ghost use Prim.Native.Nat.{_-_, _≤_};
 ghost use lib.ListN.{length};
 ghost use Rattle.builder.specs.Limits.{atomLimit, bondLimit};
 ghost use Rattle.write.specs.Write.{zeros};
-ghost use Rattle.write.specs.Order.{lowered, concluded, graphOrdered, orderRoom};
+ghost use Rattle.write.specs.Order.{lowered, orderConcluded, graphOrdered, orderRoom};
 ghost use Rattle.write.specs.Plain.{orderPlain};
 ghost use Rattle.write.specs.Numbers.{orderInNumbers};
 ghost use Rattle.write.specs.Order as made;
@@ -59,7 +59,7 @@ fn conclude(
     n: usize,
     z: Walker,
 ) -> Written
-    ensures { λ r. ⌜ made.order r (now (walked .exit)) (now (number .exit)) (now (back .exit)) ≡ concluded n z (now (walked .entry)) (now (number .entry)) (now (back .entry)) ⌝ }
+    ensures { λ r. ⌜ made.order r (now (walked .exit)) (now (number .exit)) (now (back .exit)) ≡ orderConcluded n z (now (walked .entry)) (now (number .entry)) (now (back .entry)) ⌝ }
 {
     if z.refusal != 0 {
         clear_order(walked, number, back);

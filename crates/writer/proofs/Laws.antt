@@ -19,7 +19,7 @@ use Rattle.spell.specs.Spell.{Laid, atomText, bondText, rnumText}
 use Rattle.writer.specs.declared.Writer.{Writer}
 use Rattle.writer.specs.declared.Wrote.the-variants.{Held, AtomRoom, OutRoom}
 use Rattle.writer.specs.Line.{Root, Extend, Join, Pop, dotText, wrapped}
-use Rattle.writer.specs.Tables.{Spoken, spoken, writer, pieceRoom, added, pieceT, longer, joinT, startOf, part, wrapT, popT, Told, told, refusing, fitting, sayT, eventOf}
+use Rattle.writer.specs.Tables.{Spoken, spoken, writer, pieceRoom, added, pieceT, lengthened, joinT, lastStart, bytesFrom, wrapT, popT, EventTold, toldWith, eventRefusing, fitting, sayT, eventOf}
 use Rattle.writer.proofs.Stores.{sets-same, sets-out, sets-parts, getD-sets}
 
 -- ---- a text in a lent part
@@ -99,7 +99,7 @@ module _ (out₀ : List ℕ) (at b : ℕ) where
         ∙ ap (λ (j : ℕ). getD moved j 0) (sym n)
 
   pub insert-done : (out : List ℕ) (end stop i : ℕ) → at ≤ end → stop ≡ lesserOf (length out₀) (end + 1) → at ≤ i → stop ≤ i → i ≤ stop + (at - stop)
-      → out ≡ sets out₀ at (take (i - at) moved) → out ≡ sets out₀ at (b ∷ part at (end - at) out₀)
+      → out ≡ sets out₀ at (take (i - at) moved) → out ≡ sets out₀ at (b ∷ bytesFrom at (end - at) out₀)
   insert-done out end stop i h s low high most e =
       lesser-cases (length out₀) (end + 1) stop s
       (λ g k.
@@ -113,24 +113,24 @@ module _ (out₀ : List ℕ) (at b : ℕ) where
       ∙ sym (take-take (length out₀ - at) (suc (end - at)) moved (omega arith))))
 
 -- ---- brackets
-pub wrap-both : (out mid last : List ℕ) (at end r n : ℕ) → at ≤ end → mid ≡ sets out at (byte "(" ∷ part at (end - at) out)
-    → Laid n mid (end + 1) (bytes ")") last r → last ≡ sets out at (wrapped (part at (end - at) out))
+pub wrap-both : (out mid last : List ℕ) (at end r n : ℕ) → at ≤ end → mid ≡ sets out at (byte "(" ∷ bytesFrom at (end - at) out)
+    → Laid n mid (end + 1) (bytes ")") last r → last ≡ sets out at (wrapped (bytesFrom at (end - at) out))
 unfolding wrapped
 wrap-both out mid last at end r n h e a =
     a .is
     ∙ lesser-cases (length out) end (lesserOf (length out) end) refl
     (λ g z.
-    let k : length (part at (end - at) out) ≡ end - at = length-take-le (end - at) (drop at out) (simp length-drop (omega arith)) in
+    let k : length (bytesFrom at (end - at) out) ≡ end - at = length-take-le (end - at) (drop at out) (simp length-drop (omega arith)) in
     ap (λ (l : List ℕ). sets l (end + 1) (bytes ")")) e
-    ∙ ap (λ (j : ℕ). sets (sets out at (byte "(" ∷ part at (end - at) out)) j (bytes ")")) (omega (arith, k)))
+    ∙ ap (λ (j : ℕ). sets (sets out at (byte "(" ∷ bytesFrom at (end - at) out)) j (bytes ")")) (omega (arith, k)))
     (λ g z.
-    let k : length mid ≡ length out = ap length e ∙ length-sets out at (byte "(" ∷ part at (end - at) out) in
-    let m : length (part at (end - at) out) ≡ length out - at =
+    let k : length mid ≡ length out = ap length e ∙ length-sets out at (byte "(" ∷ bytesFrom at (end - at) out) in
+    let m : length (bytesFrom at (end - at) out) ≡ length out - at =
     ap length (take-all (end - at) (drop at out) (simp length-drop (omega arith))) ∙ length-drop at out in
     sets-out mid (end + 1) (bytes ")") (omega arith)
     ∙ e
-    ∙ sym (sets-out (sets out at (byte "(" ∷ part at (end - at) out)) (at + suc (length (part at (end - at) out))) (bytes ")") (simp length-sets (omega arith))))
-    ∙ sym (sets-append out at (byte "(" ∷ part at (end - at) out) (bytes ")"))
+    ∙ sym (sets-out (sets out at (byte "(" ∷ bytesFrom at (end - at) out)) (at + suc (length (bytesFrom at (end - at) out))) (bytes ")") (simp length-sets (omega arith))))
+    ∙ sym (sets-append out at (byte "(" ∷ bytesFrom at (end - at) out) (bytes ")"))
 
 -- ---- the words of a writer
 module _ (w : Writer) (out starts : List ℕ) where
@@ -155,7 +155,7 @@ module _ (w : Writer) (out starts : List ℕ) where
 
   pub join-more : (n m : ℕ) (text out′ : List ℕ) → (w .pieces ≡ 0 → ⊥) → Laid n out (w .len) text out′ m
       → spoken (writer (w .pieces) m) out′ starts ≡ joinT (spoken w out starts) text
-  unfolding joinT longer
+  unfolding joinT lengthened
   join-more n m text out′ h a =
       ap (λ (z : List ℕ). spoken (writer (w .pieces) m) z starts) (a .is)
       ∙ ap (λ (k : ℕ). spoken (writer (w .pieces) k) (sets out (w .len) text) starts) (a .next)
@@ -165,25 +165,25 @@ module _ (w : Writer) (out starts : List ℕ) where
   unfolding popT
   pop-none d h = simp (le-leb _ _ h)
 
-  pub pop-some : (d at : ℕ) (out′ : List ℕ) → d < w .pieces → at ≡ startOf starts w d
-      → out′ ≡ sets out at (wrapped (part at (w .len - at) out))
+  pub pop-some : (d at : ℕ) (out′ : List ℕ) → d < w .pieces → at ≡ lastStart starts w d
+      → out′ ≡ sets out at (wrapped (bytesFrom at (w .len - at) out))
       → spoken (writer (w .pieces - d) (w .len + 2)) out′ starts ≡ popT (spoken w out starts) d
   unfolding popT wrapT
   pop-some d at out′ h e f =
       ap (λ (z : List ℕ). spoken (writer (w .pieces - d) (w .len + 2)) z starts)
-      (f ∙ ap (λ (k : ℕ). sets out k (wrapped (part k (w .len - k) out))) e)
+      (f ∙ ap (λ (k : ℕ). sets out k (wrapped (bytesFrom k (w .len - k) out))) e)
       ∙ simp (lt-leb _ _ h)
 
 -- ---- answers
-pub fits-not : (s n : Spoken) (need : ℕ) → need ≡ n .at .len → length (s .out) < need → refusing s (OutRoom need) ≡ fitting s n
+pub fits-not : (s n : Spoken) (need : ℕ) → need ≡ n .at .len → length (s .out) < need → eventRefusing s (OutRoom need) ≡ fitting s n
 unfolding fitting
 fits-not s n need e h = simp (e, lt-ltb _ _ (rw e at h))
 
 pub fits : (s n : Spoken) (need : ℕ) (r : Writer) (out starts : List ℕ) → need ≡ n .at .len → need ≤ length (s .out)
-    → spoken r out starts ≡ n → told (Held r) out starts ≡ fitting s n
+    → spoken r out starts ≡ n → toldWith (Held r) out starts ≡ fitting s n
 unfolding fitting
 fits s n need r out starts e h f =
-    ap (λ (z : Spoken). told (Held (z .at)) (z .out) (z .starts)) f ∙ simp (le-ltb _ _ (rw e at h))
+    ap (λ (z : Spoken). toldWith (Held (z .at)) (z .out) (z .starts)) f ∙ simp (le-ltb _ _ (rw e at h))
 
 -- how long the line is after an event
 module _ (s : Spoken) where
@@ -194,7 +194,7 @@ module _ (s : Spoken) where
 
   pub join-len : (a b : ℕ) (x y : List ℕ) → (s .at .pieces ≡ 0 → ⊥) → a ≡ length x → b ≡ length y
       → s .at .len + a + b ≡ joinT s (x ++ y) .at .len
-  unfolding joinT longer
+  unfolding joinT lengthened
   join-len a b x y h f g = simp (ne-eqb _ _ h, length-append) (omega arith)
 
   pub pop-len : (d : ℕ) → d < s .at .pieces → s .at .len + 2 ≡ popT s d .at .len
@@ -203,12 +203,12 @@ module _ (s : Spoken) where
 
 -- a piece more is refused where there is no room for it, and else goes on
 module _ (s : Spoken) (room : ℕ) (e : room ≡ pieceRoom (s .starts)) where
-  pub piece-refused : (t : Told) → room ≤ s .at .pieces
-      → refusing s (AtomRoom (s .at .pieces)) ≡ pick (leb (pieceRoom (s .starts)) (s .at .pieces)) (refusing s (AtomRoom (s .at .pieces))) t
+  pub piece-refused : (t : EventTold) → room ≤ s .at .pieces
+      → eventRefusing s (AtomRoom (s .at .pieces)) ≡ pick (leb (pieceRoom (s .starts)) (s .at .pieces)) (eventRefusing s (AtomRoom (s .at .pieces))) t
   piece-refused t h = simp (le-leb _ _ (rw e at h))
 
-  pub piece-goes : (t u : Told) → s .at .pieces < room → u ≡ t
-      → u ≡ pick (leb (pieceRoom (s .starts)) (s .at .pieces)) (refusing s (AtomRoom (s .at .pieces))) t
+  pub piece-goes : (t u : EventTold) → s .at .pieces < room → u ≡ t
+      → u ≡ pick (leb (pieceRoom (s .starts)) (s .at .pieces)) (eventRefusing s (AtomRoom (s .at .pieces))) t
   piece-goes t u h f = f ∙ simp (lt-leb _ _ (rw e at h))
 
 -- ---- single events, where nothing but the room in the output is left to ask
@@ -218,14 +218,14 @@ module _ (w : Writer) (out starts : List ℕ) (room a b : ℕ) (e : room ≡ pie
     unfolding sayT
     root-len = piece-len (spoken w out starts) room a b (dotText (w .pieces)) (atomText k) e h f g
 
-    pub root-long : length out < w .len + a + b → told (OutRoom (w .len + a + b)) out starts ≡ eventOf (spoken w out starts) (Root k)
+    pub root-long : length out < w .len + a + b → toldWith (OutRoom (w .len + a + b)) out starts ≡ eventOf (spoken w out starts) (Root k)
     unfolding eventOf
     root-long l =
         piece-goes (spoken w out starts) room e (fitting (spoken w out starts) (sayT (spoken w out starts) (Root k))) _ h
         (fits-not (spoken w out starts) (sayT (spoken w out starts) (Root k)) (w .len + a + b) root-len l)
 
     pub root-held : (r : Writer) (out′ starts′ : List ℕ) → w .len + a + b ≤ length out
-        → spoken r out′ starts′ ≡ sayT (spoken w out starts) (Root k) → told (Held r) out′ starts′ ≡ eventOf (spoken w out starts) (Root k)
+        → spoken r out′ starts′ ≡ sayT (spoken w out starts) (Root k) → toldWith (Held r) out′ starts′ ≡ eventOf (spoken w out starts) (Root k)
     unfolding eventOf
     root-held r out′ starts′ l m =
         piece-goes (spoken w out starts) room e (fitting (spoken w out starts) (sayT (spoken w out starts) (Root k))) _ h
@@ -236,14 +236,14 @@ module _ (w : Writer) (out starts : List ℕ) (room a b : ℕ) (e : room ≡ pie
     unfolding sayT
     extend-len = piece-len (spoken w out starts) room a b (bondText v) (atomText k) e h f g
 
-    pub extend-long : length out < w .len + a + b → told (OutRoom (w .len + a + b)) out starts ≡ eventOf (spoken w out starts) (Extend v k)
+    pub extend-long : length out < w .len + a + b → toldWith (OutRoom (w .len + a + b)) out starts ≡ eventOf (spoken w out starts) (Extend v k)
     unfolding eventOf
     extend-long l =
         piece-goes (spoken w out starts) room e (fitting (spoken w out starts) (sayT (spoken w out starts) (Extend v k))) _ h
         (fits-not (spoken w out starts) (sayT (spoken w out starts) (Extend v k)) (w .len + a + b) extend-len l)
 
     pub extend-held : (r : Writer) (out′ starts′ : List ℕ) → w .len + a + b ≤ length out
-        → spoken r out′ starts′ ≡ sayT (spoken w out starts) (Extend v k) → told (Held r) out′ starts′ ≡ eventOf (spoken w out starts) (Extend v k)
+        → spoken r out′ starts′ ≡ sayT (spoken w out starts) (Extend v k) → toldWith (Held r) out′ starts′ ≡ eventOf (spoken w out starts) (Extend v k)
     unfolding eventOf
     extend-held r out′ starts′ l m =
         piece-goes (spoken w out starts) room e (fitting (spoken w out starts) (sayT (spoken w out starts) (Extend v k))) _ h
@@ -254,14 +254,14 @@ module _ (w : Writer) (out starts : List ℕ) (v : BondKind) (n a b : ℕ) (h : 
   unfolding sayT
   join-sum = join-len (spoken w out starts) a b (bondText v) (rnumText n) h f g
 
-  pub join-long : length out < w .len + a + b → told (OutRoom (w .len + a + b)) out starts ≡ eventOf (spoken w out starts) (Join v n)
+  pub join-long : length out < w .len + a + b → toldWith (OutRoom (w .len + a + b)) out starts ≡ eventOf (spoken w out starts) (Join v n)
   unfolding eventOf
   join-long l =
       fits-not (spoken w out starts) (sayT (spoken w out starts) (Join v n)) (w .len + a + b) join-sum l
       ∙ simp (ne-eqb _ _ h)
 
   pub join-held : (r : Writer) (out′ starts′ : List ℕ) → w .len + a + b ≤ length out
-      → spoken r out′ starts′ ≡ sayT (spoken w out starts) (Join v n) → told (Held r) out′ starts′ ≡ eventOf (spoken w out starts) (Join v n)
+      → spoken r out′ starts′ ≡ sayT (spoken w out starts) (Join v n) → toldWith (Held r) out′ starts′ ≡ eventOf (spoken w out starts) (Join v n)
   unfolding eventOf
   join-held r out′ starts′ l m =
       fits (spoken w out starts) (sayT (spoken w out starts) (Join v n)) (w .len + a + b) r out′ starts′ join-sum l m
@@ -272,14 +272,14 @@ module _ (w : Writer) (out starts : List ℕ) (d : ℕ) (h : d < w .pieces) wher
   unfolding sayT
   pop-sum = pop-len (spoken w out starts) d h
 
-  pub pop-long : length out < w .len + 2 → told (OutRoom (w .len + 2)) out starts ≡ eventOf (spoken w out starts) (Pop d)
+  pub pop-long : length out < w .len + 2 → toldWith (OutRoom (w .len + 2)) out starts ≡ eventOf (spoken w out starts) (Pop d)
   unfolding eventOf
   pop-long l =
       fits-not (spoken w out starts) (sayT (spoken w out starts) (Pop d)) (w .len + 2) pop-sum l
       ∙ simp (lt-leb _ _ h)
 
   pub pop-held : (r : Writer) (out′ starts′ : List ℕ) → w .len + 2 ≤ length out
-      → spoken r out′ starts′ ≡ sayT (spoken w out starts) (Pop d) → told (Held r) out′ starts′ ≡ eventOf (spoken w out starts) (Pop d)
+      → spoken r out′ starts′ ≡ sayT (spoken w out starts) (Pop d) → toldWith (Held r) out′ starts′ ≡ eventOf (spoken w out starts) (Pop d)
   unfolding eventOf
   pop-held r out′ starts′ l m =
       fits (spoken w out starts) (sayT (spoken w out starts) (Pop d)) (w .len + 2) r out′ starts′ pop-sum l m

@@ -15,24 +15,24 @@ use Rattle.feature.proofs.Lists.{sets-append}
 use Rattle.builder.specs.Limits.{atomLimit, lesserOf}
 use Rattle.spell.specs.Spell.{atomText, bondText, rnumText}
 use Rattle.writer.specs.Line.{Event, Root, Extend, Join, Pop, lineOf, dotText, addPiece, onLast, wrapped, popPieces, writeEvent, writeEvents}
-use Rattle.writer.specs.Tables.{Spoken, spoken, writer, pieceRoom, added, pieceT, longer, joinT, startOf, part, wrapT, popT, sayT, sayAll}
-use Rattle.writer.specs.Pieces.{startsOf, Holds}
+use Rattle.writer.specs.Tables.{Spoken, spoken, writer, pieceRoom, added, pieceT, lengthened, joinT, lastStart, bytesFrom, wrapT, popT, sayT, sayAll}
+use Rattle.writer.specs.Pieces.{pieceStarts, Holds}
 use Rattle.writer.proofs.Stores.{sets-nil, sets-cons, sets-same, sets-over}
 use Rattle.writer.proofs.Laws.{lesser-cases}
 
 -- ---- the line of pieces
-pub length-starts : (ps : List (List ℕ)) → length (startsOf ps) ≡ length ps
-unfolding startsOf
+pub length-starts : (ps : List (List ℕ)) → length (pieceStarts ps) ≡ length ps
+unfolding pieceStarts
 length-starts [] = refl
-length-starts (p ∷ ps) = length-append (startsOf ps) _ ∙ simp (length-starts ps) (omega arith)
+length-starts (p ∷ ps) = length-append (pieceStarts ps) _ ∙ simp (length-starts ps) (omega arith)
 
 pub length-onLast : (x : List ℕ) (ps : List (List ℕ)) → length (onLast x ps) ≡ length ps
 unfolding onLast
 length-onLast x [] = refl
 length-onLast x (p ∷ ps) = refl
 
-pub starts-onLast : (x : List ℕ) (ps : List (List ℕ)) → startsOf (onLast x ps) ≡ startsOf ps
-unfolding onLast startsOf
+pub starts-onLast : (x : List ℕ) (ps : List (List ℕ)) → pieceStarts (onLast x ps) ≡ pieceStarts ps
+unfolding onLast pieceStarts
 starts-onLast x [] = refl
 starts-onLast x (p ∷ ps) = refl
 
@@ -48,21 +48,21 @@ line-split zero ps = sym (append-nil (lineOf ps))
 line-split (suc d) [] = refl
 line-split (suc d) (p ∷ ps) = rw (line-split d ps) (append-assoc (lineOf (drop d ps)) _ _)
 
-starts-split : (d : ℕ) (ps : List (List ℕ)) → (x : List ℕ) × (startsOf ps ≡ startsOf (drop d ps) ++ x)
-unfolding startsOf
-starts-split zero ps = ([], sym (append-nil (startsOf ps)))
+starts-split : (d : ℕ) (ps : List (List ℕ)) → (x : List ℕ) × (pieceStarts ps ≡ pieceStarts (drop d ps) ++ x)
+unfolding pieceStarts
+starts-split zero ps = ([], sym (append-nil (pieceStarts ps)))
 starts-split (suc d) [] = ([], refl)
 starts-split (suc d) (p ∷ ps) =
     let r = starts-split d ps in
-    (r .0 ++ (length (lineOf ps) ∷ []), ap (λ (z : List ℕ). z ++ (length (lineOf ps) ∷ [])) (r .1) ∙ append-assoc (startsOf (drop d ps)) _ _)
+    (r .0 ++ (length (lineOf ps) ∷ []), ap (λ (z : List ℕ). z ++ (length (lineOf ps) ∷ [])) (r .1) ∙ append-assoc (pieceStarts (drop d ps)) _ _)
 
-start-at : (d : ℕ) (ps : List (List ℕ)) → suc d ≤ length ps → getD (startsOf ps) (length ps - suc d) 0 ≡ length (lineOf (drop (suc d) ps))
-unfolding startsOf
+start-at : (d : ℕ) (ps : List (List ℕ)) → suc d ≤ length ps → getD (pieceStarts ps) (length ps - suc d) 0 ≡ length (lineOf (drop (suc d) ps))
+unfolding pieceStarts
 start-at d [] h = absurd (not-suc-le-zero h)
-start-at zero (p ∷ ps) h = getD-at (startsOf ps) _ [] 0 _ (length-starts ps ∙ omega arith)
+start-at zero (p ∷ ps) h = getD-at (pieceStarts ps) _ [] 0 _ (length-starts ps ∙ omega arith)
 start-at (suc d) (p ∷ ps) h =
     let e : suc (length ps) - suc (suc d) ≡ length ps - suc d = omega arith in
-    rw e (List·getD-append (startsOf ps) _ 0 _ (omega (arith, length-starts ps)) ∙ start-at d ps (omega arith))
+    rw e (List·getD-append (pieceStarts ps) _ 0 _ (omega (arith, length-starts ps)) ∙ start-at d ps (omega arith))
 
 -- ---- what stands in an output that may be too short
 -- the line's end, as far as there is room for it
@@ -100,12 +100,12 @@ long-wrapped M = ap (λ (n : ℕ). suc n) (length-append M (bytes ")")) ∙ omeg
 
 -- the end of a line put in brackets
 pub wrap-line : (o L M : List ℕ) (at n : ℕ) → at ≡ length L → n ≡ length M
-    → sets (sets o 0 (L ++ M)) at (wrapped (part at n (sets o 0 (L ++ M)))) ≡ sets o 0 (L ++ wrapped M)
+    → sets (sets o 0 (L ++ M)) at (wrapped (bytesFrom at n (sets o 0 (L ++ M)))) ≡ sets o 0 (L ++ wrapped M)
 wrap-line o L M at n e f =
     let k : length (sets o 0 (L ++ M)) ≡ length o = length-sets o 0 (L ++ M) in
     let z : 0 + length L ≡ length L = zero-add (length L) in
-    ap (λ (i : ℕ). sets (sets o 0 (L ++ M)) i (wrapped (part i n (sets o 0 (L ++ M))))) e
-    ∙ ap (λ (j : ℕ). sets (sets o 0 (L ++ M)) (length L) (wrapped (part (length L) j (sets o 0 (L ++ M))))) f
+    ap (λ (i : ℕ). sets (sets o 0 (L ++ M)) i (wrapped (bytesFrom i n (sets o 0 (L ++ M))))) e
+    ∙ ap (λ (j : ℕ). sets (sets o 0 (L ++ M)) (length L) (wrapped (bytesFrom (length L) j (sets o 0 (L ++ M))))) f
     ∙ ap (λ (t : List ℕ). sets (sets o 0 (L ++ M)) (length L) (wrapped t)) (stands-part o L M)
     ∙ sets-same (sets o 0 (L ++ M)) (length L) (wrapped (take (length o - length L) M)) (wrapped M)
     (rw k (cut-wrapped (length o - length L) M))
@@ -129,7 +129,7 @@ room-same l m e = ap (λ (n : ℕ). lesserOf atomLimit n) e
 
 module _ {o : List ℕ} {ps : List (List ℕ)} {s : Spoken} (h : Holds o ps s) where
   more-piece : (text : List ℕ) → length ps < pieceRoom (s .starts) → Holds o (text ∷ ps) (added s text)
-  unfolding added lineOf startsOf
+  unfolding added lineOf pieceStarts
   more-piece text g =
       record {
         pieces = omega (arith, h .pieces);
@@ -142,7 +142,7 @@ module _ {o : List ℕ} {ps : List (List ℕ)} {s : Spoken} (h : Holds o ps s) w
             ap (λ (i : ℕ). take (suc (length ps)) (set (s .starts) i (s .at .len))) (h .pieces)
             ∙ take-suc-set (s .starts) (length ps) (s .at .len) (omega (arith, room-held (s .starts)))
             ∙ ap (λ (z : List ℕ). z ++ (s .at .len ∷ [])) (h .starts)
-            ∙ ap (λ (k : ℕ). startsOf ps ++ (k ∷ [])) (h .len);
+            ∙ ap (λ (k : ℕ). pieceStarts ps ++ (k ∷ [])) (h .len);
         room = omega (arith, room-same (set (s .starts) (s .at .pieces) (s .at .len)) (s .starts) (length-set (s .starts) (s .at .pieces) (s .at .len)));
       }
 
@@ -159,8 +159,8 @@ module _ {o : List ℕ} {ps : List (List ℕ)} {s : Spoken} (h : Holds o ps s) w
       go true e = simp (same, e) h
       go false e = simp (same, e) (more-piece text (leb-false (pieceRoom (s .starts)) (length ps) e))
 
-  longer-piece : (text : List ℕ) → 0 < length ps → Holds o (onLast text ps) (longer s text)
-  unfolding longer
+  longer-piece : (text : List ℕ) → 0 < length ps → Holds o (onLast text ps) (lengthened s text)
+  unfolding lengthened
   longer-piece text g =
       record {
         pieces = h .pieces ∙ sym (length-onLast text ps);
@@ -174,8 +174,8 @@ module _ {o : List ℕ} {ps : List (List ℕ)} {s : Spoken} (h : Holds o ps s) w
         room = rw (length-onLast text ps) (h .room);
       }
 
-  start-is : (d : ℕ) → d < length ps → startOf (s .starts) (s .at) d ≡ length (lineOf (drop d ps))
-  unfolding startOf
+  start-is : (d : ℕ) → d < length ps → lastStart (s .starts) (s .at) d ≡ length (lineOf (drop d ps))
+  unfolding lastStart
   start-is zero g = h .len
   start-is (suc d) g =
       let x : getD (s .starts) (s .at .pieces - suc d) 0 ≡ length (lineOf (drop (suc d) ps)) =
@@ -191,10 +191,10 @@ module _ {o : List ℕ} {ps : List (List ℕ)} {s : Spoken} (h : Holds o ps s) w
       (λ l e. e ∙ omega (arith, h .len)))
 
   less-pieces : (d : ℕ) → d < length ps
-      → Holds o (onLast (wrapped (lineOf (take d ps))) (drop d ps)) (wrapT s (startOf (s .starts) (s .at) d) (s .at .pieces - d))
+      → Holds o (onLast (wrapped (lineOf (take d ps))) (drop d ps)) (wrapT s (lastStart (s .starts) (s .at) d) (s .at .pieces - d))
   unfolding wrapT
   less-pieces d g =
-      let a : startOf (s .starts) (s .at) d ≡ length (lineOf (drop d ps)) = start-is d g in
+      let a : lastStart (s .starts) (s .at) d ≡ length (lineOf (drop d ps)) = start-is d g in
       let y : length (lineOf ps) ≡ length (lineOf (drop d ps)) + length (lineOf (take d ps)) =
       ap length (line-split d ps) ∙ length-append (lineOf (drop d ps)) _ in
       let k : length (drop d ps) ≡ length ps - d = length-drop d ps in
@@ -204,15 +204,15 @@ module _ {o : List ℕ} {ps : List (List ℕ)} {s : Spoken} (h : Holds o ps s) w
         pieces = omega (arith, h .pieces, length-onLast t (drop d ps));
         len = rw q (omega (arith, h .len, length-append (lineOf (drop d ps)) t, long-wrapped (lineOf (take d ps))));
         line =
-            ap (λ (z : List ℕ). sets z (startOf (s .starts) (s .at) d) (wrapped (part (startOf (s .starts) (s .at) d) (s .at .len - startOf (s .starts) (s .at) d) z)))
+            ap (λ (z : List ℕ). sets z (lastStart (s .starts) (s .at) d) (wrapped (bytesFrom (lastStart (s .starts) (s .at) d) (s .at .len - lastStart (s .starts) (s .at) d) z)))
             (h .line ∙ ap (λ (z : List ℕ). sets o 0 z) (line-split d ps))
-            ∙ wrap-line o (lineOf (drop d ps)) (lineOf (take d ps)) (startOf (s .starts) (s .at) d) (s .at .len - startOf (s .starts) (s .at) d) a (omega (arith, h .len))
+            ∙ wrap-line o (lineOf (drop d ps)) (lineOf (take d ps)) (lastStart (s .starts) (s .at) d) (s .at .len - lastStart (s .starts) (s .at) d) a (omega (arith, h .len))
             ∙ ap (λ (z : List ℕ). sets o 0 z) (sym q);
         starts =
             ap (λ (n : ℕ). take n (s .starts)) (length-onLast t (drop d ps))
             ∙ sym (take-take (length (drop d ps)) (length ps) (s .starts) (omega arith))
             ∙ ap (λ (z : List ℕ). take (length (drop d ps)) z) (h .starts ∙ starts-split d ps .1)
-            ∙ take-at (startsOf (drop d ps)) _ (length (drop d ps)) (length-starts (drop d ps))
+            ∙ take-at (pieceStarts (drop d ps)) _ (length (drop d ps)) (length-starts (drop d ps))
             ∙ sym (starts-onLast t (drop d ps));
         room = omega (arith, h .room, length-onLast t (drop d ps));
       }
@@ -226,7 +226,7 @@ module _ {o : List ℕ} {ps : List (List ℕ)} {s : Spoken} (h : Holds o ps s) w
 
       go : (t : Bool) → leb (length ps) d ≡ t
           → Holds o (pick (leb (length ps) d) ps (onLast (wrapped (lineOf (take d ps))) (drop d ps)))
-          (pick (leb (s .at .pieces) d) s (wrapT s (startOf (s .starts) (s .at) d) (s .at .pieces - d)))
+          (pick (leb (s .at .pieces) d) s (wrapT s (lastStart (s .starts) (s .at) d) (s .at .pieces - d)))
       go true e = simp (same, e) h
       go false e = simp (same, e) (less-pieces d (leb-false (length ps) d e))
 
@@ -251,7 +251,7 @@ pick-both P true x y p q = p
 pick-both P false x y p q = q
 
 pub say-starts : (s : Spoken) (e : Event) → length (sayT s e .starts) ≡ length (s .starts)
-unfolding sayT pieceT added joinT longer popT wrapT
+unfolding sayT pieceT added joinT lengthened popT wrapT
 say-starts s (Root k) = pick-both (λ (z : Spoken). length (z .starts) ≡ length (s .starts)) (leb (pieceRoom (s .starts)) (s .at .pieces)) _ _ refl (length-set (s .starts) (s .at .pieces) (s .at .len))
 say-starts s (Extend b k) = pick-both (λ (z : Spoken). length (z .starts) ≡ length (s .starts)) (leb (pieceRoom (s .starts)) (s .at .pieces)) _ _ refl (length-set (s .starts) (s .at .pieces) (s .at .len))
 say-starts s (Join b n) = pick-both (λ (z : Spoken). length (z .starts) ≡ length (s .starts)) (eqb (s .at .pieces) 0) _ _ refl refl
@@ -276,5 +276,5 @@ holds-all {o} {ps} {s} (e ∷ es) h =
 
 -- nothing said holds no pieces
 pub holds-none : (o starts : List ℕ) → Holds o [] (spoken (writer 0 0) o starts)
-unfolding lineOf startsOf
+unfolding lineOf pieceStarts
 holds-none o starts = record { pieces = refl; len = refl; line = refl; starts = refl; room = omega arith }

@@ -8,14 +8,14 @@ use Rattle.writer.specs.Line.{lineOf}
 use Rattle.writer.specs.Tables.{Spoken, pieceRoom}
 
 -- where each piece starts, the first one first
-unfoldable pub startsOf : List (List ℕ) → List ℕ
-startsOf [] = []
-startsOf (p ∷ ps) = startsOf ps ++ (length (lineOf ps) ∷ [])
+unfoldable pub pieceStarts : List (List ℕ) → List ℕ
+pieceStarts [] = []
+pieceStarts (p ∷ ps) = pieceStarts ps ++ (length (lineOf ps) ∷ [])
 
 -- o is the output before anything was laid in it
 pub record Holds (o : List ℕ) (ps : List (List ℕ)) (s : Spoken) : Type 0 where
   pub pieces : s .at .pieces ≡ length ps
   pub len : s .at .len ≡ length (lineOf ps)
   pub line : s .out ≡ sets o 0 (lineOf ps)
-  pub starts : take (length ps) (s .starts) ≡ startsOf ps
+  pub starts : take (length ps) (s .starts) ≡ pieceStarts ps
   pub room : length ps ≤ pieceRoom (s .starts)

@@ -40,28 +40,28 @@ unfoldable pub pieceT : Spoken → List ℕ → Spoken
 pieceT s text = pick (leb (pieceRoom (s .starts)) (s .at .pieces)) s (added s text)
 
 -- text after the last piece
-unfoldable pub longer : Spoken → List ℕ → Spoken
-longer s text =
+unfoldable pub lengthened : Spoken → List ℕ → Spoken
+lengthened s text =
     spoken (writer (s .at .pieces) (s .at .len + length text)) (sets (s .out) (s .at .len) text) (s .starts)
 
 unfoldable pub joinT : Spoken → List ℕ → Spoken
-joinT s text = pick (eqb (s .at .pieces) 0) s (longer s text)
+joinT s text = pick (eqb (s .at .pieces) 0) s (lengthened s text)
 
 -- where the last d pieces start
-unfoldable pub startOf : List ℕ → Writer → ℕ → ℕ
-startOf starts w d = pick (eqb d 0) (w .len) (lesserOf (w .len) (getD starts (w .pieces - d) 0))
+unfoldable pub lastStart : List ℕ → Writer → ℕ → ℕ
+lastStart starts w d = pick (eqb d 0) (w .len) (lesserOf (w .len) (getD starts (w .pieces - d) 0))
 
 -- the n bytes from a place on
-abbrev pub part : ℕ → ℕ → List ℕ → List ℕ
-part at n out = take n (drop at out)
+abbrev pub bytesFrom : ℕ → ℕ → List ℕ → List ℕ
+bytesFrom at n out = take n (drop at out)
 
 -- what stands from a place on put in brackets, with n pieces left
 unfoldable pub wrapT : Spoken → ℕ → ℕ → Spoken
 wrapT s at n =
-    spoken (writer n (s .at .len + 2)) (sets (s .out) at (wrapped (part at (s .at .len - at) (s .out)))) (s .starts)
+    spoken (writer n (s .at .len + 2)) (sets (s .out) at (wrapped (bytesFrom at (s .at .len - at) (s .out)))) (s .starts)
 
 unfoldable pub popT : Spoken → ℕ → Spoken
-popT s d = pick (leb (s .at .pieces) d) s (wrapT s (startOf (s .starts) (s .at) d) (s .at .pieces - d))
+popT s d = pick (leb (s .at .pieces) d) s (wrapT s (lastStart (s .starts) (s .at) d) (s .at .pieces - d))
 
 -- an event
 unfoldable pub sayT : Spoken → Event → Spoken
@@ -76,44 +76,44 @@ sayAll s [] = s
 sayAll s (e ∷ es) = sayAll (sayT s e) es
 
 -- ---- a single event with its answer
-pub record Told : Type 0 where
+pub record EventTold : Type 0 where
   pub answer : Wrote
   pub out : List ℕ
   pub starts : List ℕ
 
-abbrev pub told : Wrote → List ℕ → List ℕ → Told
-told r out starts = record { answer = r; out = out; starts = starts }
+abbrev pub toldWith : Wrote → List ℕ → List ℕ → EventTold
+toldWith r out starts = record { answer = r; out = out; starts = starts }
 
 -- a refused event changes nothing
-abbrev pub refusing : Spoken → Wrote → Told
-refusing s r = told r (s .out) (s .starts)
+abbrev pub eventRefusing : Spoken → Wrote → EventTold
+eventRefusing s r = toldWith r (s .out) (s .starts)
 
 -- what an event comes to, where the output has room for it
-unfoldable pub fitting : Spoken → Spoken → Told
+unfoldable pub fitting : Spoken → Spoken → EventTold
 fitting s n =
-    pick (ltb (length (s .out)) (n .at .len)) (refusing s (OutRoom (n .at .len)))
-    (told (Held (n .at)) (n .out) (n .starts))
+    pick (ltb (length (s .out)) (n .at .len)) (eventRefusing s (OutRoom (n .at .len)))
+    (toldWith (Held (n .at)) (n .out) (n .starts))
 
 -- 18, 19, 13, then 16
-unfoldable pub eventOf : Spoken → Event → Told
+unfoldable pub eventOf : Spoken → Event → EventTold
 eventOf s (Root k) =
-    pick (leb (pieceRoom (s .starts)) (s .at .pieces)) (refusing s (AtomRoom (s .at .pieces))) (fitting s (sayT s (Root k)))
+    pick (leb (pieceRoom (s .starts)) (s .at .pieces)) (eventRefusing s (AtomRoom (s .at .pieces))) (fitting s (sayT s (Root k)))
 eventOf s (Extend b k) =
-    pick (leb (pieceRoom (s .starts)) (s .at .pieces)) (refusing s (AtomRoom (s .at .pieces)))
+    pick (leb (pieceRoom (s .starts)) (s .at .pieces)) (eventRefusing s (AtomRoom (s .at .pieces)))
     (fitting s (sayT s (Extend b k)))
-eventOf s (Join b n) = pick (eqb (s .at .pieces) 0) (refusing s NoPiece) (fitting s (sayT s (Join b n)))
-eventOf s (Pop d) = pick (leb (s .at .pieces) d) (refusing s Overpop) (fitting s (sayT s (Pop d)))
+eventOf s (Join b n) = pick (eqb (s .at .pieces) 0) (eventRefusing s NoPiece) (fitting s (sayT s (Join b n)))
+eventOf s (Pop d) = pick (leb (s .at .pieces) d) (eventRefusing s Overpop) (fitting s (sayT s (Pop d)))
 
 -- ---- how far an event goes
 -- far from where a number ends
 abbrev pub far : ℕ
 far = 2 ^ 31
 
-pub record Near (w : Writer) : Type 0 where
+pub record LineNear (w : Writer) : Type 0 where
   pub pieces : w .pieces < far
   pub len : w .len < far
 
 -- at most one piece and 25 bytes
-pub record Grows (v w : Writer) : Type 0 where
+pub record LineGrows (v w : Writer) : Type 0 where
   pub pieces : w .pieces ≤ v .pieces + 1
   pub len : w .len ≤ v .len + 25

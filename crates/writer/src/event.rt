@@ -4,7 +4,7 @@ ghost use lib.ListN.{length};
 ghost use Prim.Native.Nat.{_≤_};
 ghost use Rattle.spell.specs.Spell.{atomText, bondText, rnumText};
 ghost use Rattle.writer.specs.Line.{Event, dotText};
-ghost use Rattle.writer.specs.Tables.{spoken, told, eventOf, Near};
+ghost use Rattle.writer.specs.Tables.{spoken, toldWith, eventOf, LineNear};
 use crate::Writer;
 use crate::Wrote;
 use crate::say::piece_room;
@@ -50,8 +50,8 @@ fn dot_len(pieces: usize) -> usize
 }
 
 pub fn root(out: &mut [u8], starts: &mut [u32], w: Writer, k: AtomKind) -> Wrote
-    requires { ⌜ Near w ⌝ }
-    ensures { λ r. ⌜ told r (now (out .exit)) (now (starts .exit)) ≡ eventOf (spoken w (now (out .entry)) (now (starts .entry))) (Event.Root k) ⌝ }
+    requires { ⌜ LineNear w ⌝ }
+    ensures { λ r. ⌜ toldWith r (now (out .exit)) (now (starts .exit)) ≡ eventOf (spoken w (now (out .entry)) (now (starts .entry))) (Event.Root k) ⌝ }
 {
     let pieces = w.pieces;
     if piece_room(starts) <= pieces {
@@ -65,8 +65,8 @@ pub fn root(out: &mut [u8], starts: &mut [u32], w: Writer, k: AtomKind) -> Wrote
 }
 
 pub fn extend(out: &mut [u8], starts: &mut [u32], w: Writer, b: BondKind, k: AtomKind) -> Wrote
-    requires { ⌜ Near w ⌝ }
-    ensures { λ r. ⌜ told r (now (out .exit)) (now (starts .exit)) ≡ eventOf (spoken w (now (out .entry)) (now (starts .entry))) (Event.Extend b k) ⌝ }
+    requires { ⌜ LineNear w ⌝ }
+    ensures { λ r. ⌜ toldWith r (now (out .exit)) (now (starts .exit)) ≡ eventOf (spoken w (now (out .entry)) (now (starts .entry))) (Event.Extend b k) ⌝ }
 {
     let pieces = w.pieces;
     if piece_room(starts) <= pieces {
@@ -80,8 +80,8 @@ pub fn extend(out: &mut [u8], starts: &mut [u32], w: Writer, b: BondKind, k: Ato
 }
 
 pub fn join(out: &mut [u8], starts: &mut [u32], w: Writer, b: BondKind, n: u32) -> Wrote
-    requires { ⌜ Near w ⌝ }
-    ensures { λ r. ⌜ told r (now (out .exit)) (now (starts .exit)) ≡ eventOf (spoken w (now (out .entry)) (now (starts .entry))) (Event.Join b n) ⌝ }
+    requires { ⌜ LineNear w ⌝ }
+    ensures { λ r. ⌜ toldWith r (now (out .exit)) (now (starts .exit)) ≡ eventOf (spoken w (now (out .entry)) (now (starts .entry))) (Event.Join b n) ⌝ }
 {
     if w.pieces == 0 {
         return Wrote::NoPiece;
@@ -94,8 +94,8 @@ pub fn join(out: &mut [u8], starts: &mut [u32], w: Writer, b: BondKind, n: u32) 
 }
 
 pub fn pop(out: &mut [u8], starts: &mut [u32], w: Writer, d: usize) -> Wrote
-    requires { ⌜ Near w ⌝ }
-    ensures { λ r. ⌜ told r (now (out .exit)) (now (starts .exit)) ≡ eventOf (spoken w (now (out .entry)) (now (starts .entry))) (Event.Pop d) ⌝ }
+    requires { ⌜ LineNear w ⌝ }
+    ensures { λ r. ⌜ toldWith r (now (out .exit)) (now (starts .exit)) ≡ eventOf (spoken w (now (out .entry)) (now (starts .entry))) (Event.Pop d) ⌝ }
 {
     if w.pieces <= d {
         return Wrote::Overpop;

@@ -6,7 +6,7 @@ ghost use Prim.Native.Nat.{_+_, _-_, _≤_, _<_};
 ghost use lib.Seq.{sets};
 ghost use Rattle.spell.specs.Spell.{Laid, atomText, bondText, rnumText};
 ghost use Rattle.writer.specs.Line.{wrapped};
-ghost use Rattle.writer.specs.Tables.{far, part};
+ghost use Rattle.writer.specs.Tables.{far, bytesFrom};
 use builder::limits::lesser;
 use feature::atom_kind::AtomKind;
 use feature::bond_kind::BondKind;
@@ -52,7 +52,7 @@ pub fn lay_rnum(out: &mut [u8], at: usize, n: u32) -> usize
 // A byte put at a place, and what stands from there up to the end moved one place on.
 fn insert(out: &mut [u8], at: usize, end: usize, b: u8)
     requires { ⌜ (at ≤ end) × (end < far) ⌝ }
-    ensures { λ _. ⌜ now (out .exit) ≡ sets (now (out .entry)) at (b ∷ part at (end - at) (now (out .entry))) ⌝ }
+    ensures { λ _. ⌜ now (out .exit) ≡ sets (now (out .entry)) at (b ∷ bytesFrom at (end - at) (now (out .entry))) ⌝ }
 {
     let stop = lesser(out.len(), end + 1);
     let mut carry = b;
@@ -68,7 +68,7 @@ fn insert(out: &mut [u8], at: usize, end: usize, b: u8)
 // What stands from a place up to the end put in brackets.
 pub fn wrap(out: &mut [u8], at: usize, end: usize)
     requires { ⌜ (at ≤ end) × (end < far) ⌝ }
-    ensures { λ _. ⌜ now (out .exit) ≡ sets (now (out .entry)) at (wrapped (part at (end - at) (now (out .entry)))) ⌝ }
+    ensures { λ _. ⌜ now (out .exit) ≡ sets (now (out .entry)) at (wrapped (bytesFrom at (end - at) (now (out .entry)))) ⌝ }
 {
     insert(out, at, end, b'(');
     lay_byte(out, end + 1, b')');

@@ -3,7 +3,7 @@ ghost use mathlib.Core.Path.{_≡_};
 ghost use Prim.Native.Nat.{_≤_, _<_};
 ghost use Rattle.spell.specs.Spell.{Laid};
 ghost use Rattle.writer.specs.Line.{Event, dotText};
-ghost use Rattle.writer.specs.Tables.{far, spoken, pieceRoom, startOf, sayT, Near, Grows};
+ghost use Rattle.writer.specs.Tables.{far, spoken, pieceRoom, lastStart, sayT, LineNear, LineGrows};
 use crate::Writer;
 use crate::lay::lay_atom;
 use crate::lay::lay_bond;
@@ -36,9 +36,9 @@ fn lay_dot(out: &mut [u8], at: usize, pieces: usize) -> usize
 }
 
 pub fn say_root(out: &mut [u8], starts: &mut [u32], w: Writer, k: AtomKind) -> Writer
-    requires { ⌜ Near w ⌝ }
+    requires { ⌜ LineNear w ⌝ }
     ensures { λ r. ⌜ spoken r (now (out .exit)) (now (starts .exit)) ≡ sayT (spoken w (now (out .entry)) (now (starts .entry))) (Event.Root k) ⌝ }
-    ensures { λ r. ⌜ Grows w r ⌝ }
+    ensures { λ r. ⌜ LineGrows w r ⌝ }
 {
     let pieces = w.pieces;
     let at = w.len;
@@ -55,9 +55,9 @@ pub fn say_root(out: &mut [u8], starts: &mut [u32], w: Writer, k: AtomKind) -> W
 }
 
 pub fn say_extend(out: &mut [u8], starts: &mut [u32], w: Writer, b: BondKind, k: AtomKind) -> Writer
-    requires { ⌜ Near w ⌝ }
+    requires { ⌜ LineNear w ⌝ }
     ensures { λ r. ⌜ spoken r (now (out .exit)) (now (starts .exit)) ≡ sayT (spoken w (now (out .entry)) (now (starts .entry))) (Event.Extend b k) ⌝ }
-    ensures { λ r. ⌜ Grows w r ⌝ }
+    ensures { λ r. ⌜ LineGrows w r ⌝ }
 {
     let pieces = w.pieces;
     let at = w.len;
@@ -74,9 +74,9 @@ pub fn say_extend(out: &mut [u8], starts: &mut [u32], w: Writer, b: BondKind, k:
 }
 
 pub fn say_join(out: &mut [u8], starts: &mut [u32], w: Writer, b: BondKind, n: u32) -> Writer
-    requires { ⌜ Near w ⌝ }
+    requires { ⌜ LineNear w ⌝ }
     ensures { λ r. ⌜ spoken r (now (out .exit)) (now (starts .exit)) ≡ sayT (spoken w (now (out .entry)) (now (starts .entry))) (Event.Join b n) ⌝ }
-    ensures { λ r. ⌜ Grows w r ⌝ }
+    ensures { λ r. ⌜ LineGrows w r ⌝ }
 {
     let pieces = w.pieces;
     if pieces == 0 {
@@ -90,7 +90,7 @@ pub fn say_join(out: &mut [u8], starts: &mut [u32], w: Writer, b: BondKind, n: u
 // Where the last d pieces start.
 fn start_of(starts: &[u32], w: Writer, d: usize) -> usize
     requires { ⌜ d ≤ w .pieces ⌝ }
-    ensures { λ r. ⌜ (r ≡ startOf (now (starts .entry)) w d) × (r ≤ w .len) ⌝ }
+    ensures { λ r. ⌜ (r ≡ lastStart (now (starts .entry)) w d) × (r ≤ w .len) ⌝ }
 {
     if d == 0 {
         return w.len;
@@ -99,9 +99,9 @@ fn start_of(starts: &[u32], w: Writer, d: usize) -> usize
 }
 
 pub fn say_pop(out: &mut [u8], starts: &mut [u32], w: Writer, d: usize) -> Writer
-    requires { ⌜ Near w ⌝ }
+    requires { ⌜ LineNear w ⌝ }
     ensures { λ r. ⌜ spoken r (now (out .exit)) (now (starts .exit)) ≡ sayT (spoken w (now (out .entry)) (now (starts .entry))) (Event.Pop d) ⌝ }
-    ensures { λ r. ⌜ Grows w r ⌝ }
+    ensures { λ r. ⌜ LineGrows w r ⌝ }
 {
     let pieces = w.pieces;
     let len = w.len;

@@ -1,5 +1,5 @@
 -- An atom's text over zeros, if the kind stands for an atom.
-use Rattle.desk_atom.proofs.Zeros.{laid-settled, no-atom, atom-spelt}
+use Rattle.desk_atom.proofs.Zeros.{laid-answered, no-atom, atom-spelt}
 use borrow.Author.Tests.{not-true, not-false}
 use mathlib.Core.Path.{_∙_}
 use borrow.Author.Needs.{needs}
@@ -21,14 +21,14 @@ returns c = no-atom _ _ _ _ (c .before .in-range .ensures) (not-true _ (c .if1 .
 spell-atom-requires : tie.Need-spell-atom-requires
 spell-atom-requires c κs = search needs
 
-settle-requires : tie.Need-settle-requires
-settle-requires c κs = search needs
+answer-length-requires : tie.Need-answer-length-requires
+answer-length-requires c κs = search needs
 
 same-length-2 : tie.Need-same-length-2
 same-length-2 c = search needs
 
 returns-2 : tie.Need-returns-2
-returns-2 c = atom-spelt _ _ _ _ (c .before .before .before .before .before .before .before .before .before .in-range .ensures) (not-false _ (c .before .before .before .before .before .before .before .before .if1 .left)) (c .before .before .settle .ensures ∙ laid-settled _ (c .before .before .before .before .before .before .before .before .before .before .before .before .wipe .ensures) (c .before .before .before .before .before .before .spell-atom .ensures))
+returns-2 c = atom-spelt _ _ _ _ (c .before .before .before .before .before .before .before .before .before .in-range .ensures) (not-false _ (c .before .before .before .before .before .before .before .before .if1 .left)) (c .before .before .answer-length .ensures ∙ laid-answered _ (c .before .before .before .before .before .before .before .before .before .before .before .before .wipe .ensures) (c .before .before .before .before .before .before .spell-atom .ensures))
 
 pub spell-atom-spec : {M : Type 1} → statement M
 spell-atom-spec =
@@ -39,6 +39,6 @@ spell-atom-spec =
     same-length
     returns
     spell-atom-requires
-    settle-requires
+    answer-length-requires
     same-length-2
     returns-2)

@@ -1,5 +1,5 @@
 -- A ring number's text over zeros, if it is a ring number.
-use Rattle.desk_atom.proofs.Zeros.{laid-settled, no-rnum, rnum-spelt}
+use Rattle.desk_atom.proofs.Zeros.{laid-answered, no-rnum, rnum-spelt}
 use mathlib.Core.Path.{_∙_}
 use borrow.Author.Needs.{needs}
 use Rattle.desk_atom.proofs.spell_rnum.Statement.{statement}
@@ -17,14 +17,14 @@ returns c = no-rnum _ _ _ (c .if1 .taken) (c .before .before .before .wipe .ensu
 spell-rnum-requires : tie.Need-spell-rnum-requires
 spell-rnum-requires c κs = search needs
 
-settle-requires : tie.Need-settle-requires
-settle-requires c κs = search needs
+answer-length-requires : tie.Need-answer-length-requires
+answer-length-requires c κs = search needs
 
 same-length-2 : tie.Need-same-length-2
 same-length-2 c = search needs
 
 returns-2 : tie.Need-returns-2
-returns-2 c = rnum-spelt _ _ _ (c .before .before .before .before .before .before .before .before .if1 .left) (c .before .before .settle .ensures ∙ laid-settled _ (c .before .before .before .before .before .before .before .before .before .before .before .wipe .ensures) (c .before .before .before .before .before .before .spell-rnum .ensures))
+returns-2 c = rnum-spelt _ _ _ (c .before .before .before .before .before .before .before .before .if1 .left) (c .before .before .answer-length .ensures ∙ laid-answered _ (c .before .before .before .before .before .before .before .before .before .before .before .wipe .ensures) (c .before .before .before .before .before .before .spell-rnum .ensures))
 
 pub spell-rnum-spec : {M : Type 1} → statement M
 spell-rnum-spec =
@@ -34,6 +34,6 @@ spell-rnum-spec =
     same-length
     returns
     spell-rnum-requires
-    settle-requires
+    answer-length-requires
     same-length-2
     returns-2)

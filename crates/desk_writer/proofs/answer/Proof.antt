@@ -1,6 +1,6 @@
 -- The writer's answer in the words of the call.
 use mathlib.Core.Path.{refl}
-use Rattle.desk_writer.specs.Pieces.{saidOf, tailOf}
+use Rattle.desk_writer.specs.Pieces.{wroteSaid, tailOf}
 use Rattle.desk_writer.proofs.Stands.{answer-held}
 use borrow.Author.Needs.{needs}
 use Rattle.desk_writer.proofs.answer.Statement.{statement}
@@ -31,19 +31,19 @@ returns : tie.Need-returns
 returns c = answer-held (c .before .before .before .before .before .before .before .before .args .before) (c .before .before .before .before .before .before .before .before .args .out .now) (c .before .before .before .before .before .before .before .before .args .r) _ _ _ (c .before .before .before .before .before .r .given .1) (c .before .before .held .ensures)
 
 returns-2 : tie.Need-returns-2
-unfolding saidOf tailOf
+unfolding wroteSaid tailOf
 returns-2 c = rw (c .before .r2 .given .1) (refl, refl)
 
 returns-3 : tie.Need-returns-3
-unfolding saidOf tailOf
+unfolding wroteSaid tailOf
 returns-3 c = rw (c .before .r3 .given .1) (refl, refl)
 
 returns-4 : tie.Need-returns-4
-unfolding saidOf tailOf
+unfolding wroteSaid tailOf
 returns-4 c = rw (c .enum-told .given .1) (refl, refl)
 
 returns-5 : tie.Need-returns-5
-unfolding saidOf tailOf
+unfolding wroteSaid tailOf
 returns-5 c = rw (c .enum-told2 .given .1) (refl, refl)
 
 pub answer-spec : {M : Type 1} → statement M

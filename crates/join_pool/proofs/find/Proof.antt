@@ -1,6 +1,6 @@
 -- The search goes down; the invariant is that the numbers passed are not open for the pair, so what is left answers the same.
 use Rattle.join_pool.proofs.Laws.{number-some, number-less, number-none}
-use Rattle.join_pool.specs.Pairs.{numberOf}
+use Rattle.join_pool.specs.Pairs.{openNumber}
 use native.Mathlib.Omega.{arith}
 use borrow.Author.Needs.{needs}
 use mathlib.Core.Path.{_≡_, refl, sym, _∙_}
@@ -8,7 +8,7 @@ use Rattle.join_pool.proofs.find.Statement.{statement}
 use Rattle.join_pool.proofs.find.Tie as tie
 
 abbrev Inv-loop : tie.InvT-loop
-Inv-loop pairs n lower higher number₀ number = numberOf pairs lower higher n ≡ numberOf pairs lower higher number
+Inv-loop pairs n lower higher number₀ number = openNumber pairs lower higher n ≡ openNumber pairs lower higher number
 
 abbrev μ-loop : tie.MeasureT-loop
 μ-loop pairs n lower higher number₀ number = number

@@ -1,7 +1,7 @@
 -- `packing::bond` meets its contract: its arms are the definition's.
 -- Assumes nothing.
 use borrow.Author.Needs.{needs}
-use Rattle.packing.specs.Words.{bondOf, entryOf}
+use Rattle.packing.specs.Words.{entryOfWords, entryCoded}
 use Rattle.packing.proofs.bond.Statement.{statement}
 use Rattle.packing.proofs.bond.Tie as tie
 
@@ -15,11 +15,11 @@ enum-told : tie.Need-enum-told
 enum-told c = search needs
 
 returns : tie.Need-returns
-unfolding bondOf entryOf
+unfolding entryOfWords entryCoded
 returns c = simp (← c .before .before .before .decode .ensures, c .before .k .given .1)
 
 returns-2 : tie.Need-returns-2
-unfolding bondOf entryOf
+unfolding entryOfWords entryCoded
 returns-2 c = simp (← c .before .before .decode .ensures, c .enum-told .given .1)
 
 pub bond-spec : {M : Type 1} → statement M

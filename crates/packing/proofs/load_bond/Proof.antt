@@ -2,7 +2,7 @@
 -- Assumes nothing.
 use mathlib.Core.Path.{sym}
 use borrow.Author.Needs.{needs}
-use Rattle.packing.specs.Words.{bondAt}
+use Rattle.packing.specs.Words.{entryStored}
 use Rattle.packing.proofs.Laws.{bond-past}
 use Rattle.packing.proofs.load_bond.Statement.{statement}
 use Rattle.packing.proofs.load_bond.Tie as tie
@@ -20,7 +20,7 @@ bond-requires : tie.Need-bond-requires
 bond-requires c κs = search needs
 
 returns : tie.Need-returns
-unfolding bondAt
+unfolding entryStored
 returns c = simp (← c .before .before .look .ensures, ← c .before .look2 .ensures, ← c .bond .ensures)
 
 returns-2 : tie.Need-returns-2

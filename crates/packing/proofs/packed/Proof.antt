@@ -3,7 +3,7 @@
 use mathlib.Core.Path.{subst}
 use native.Mathlib.Omega.{arith}
 use borrow.Author.Needs.{needs}
-use Rattle.feature.specs.Kinds.{Good}
+use Rattle.feature.specs.Kinds.{GoodKind}
 use Rattle.packing.specs.Words.{pairOf}
 use Rattle.packing.proofs.packed.Statement.{statement}
 use Rattle.packing.proofs.packed.Tie as tie
@@ -15,19 +15,19 @@ enum-known-k : tie.Need-enum-known-k
 enum-known-k c = search needs
 
 add-t6 : tie.Need-add-t6
-add-t6 c = let g = subst Good (c .before .k .given .1) (c .before .before .before .pre) in omega arith
+add-t6 c = let g = subst GoodKind (c .before .k .given .1) (c .before .before .before .pre) in omega arith
 
 enum-known-k-2 : tie.Need-enum-known-k-2
 enum-known-k-2 c = search needs
 
 add-t7 : tie.Need-add-t7
-add-t7 c = let g = subst Good (c .before .k2 .given .1) (c .before .before .before .pre) in omega arith
+add-t7 c = let g = subst GoodKind (c .before .k2 .given .1) (c .before .before .before .pre) in omega arith
 
 enum-known-k-3 : tie.Need-enum-known-k-3
 enum-known-k-3 c = search needs
 
 pack-bracket-requires : tie.Need-pack-bracket-requires
-pack-bracket-requires c κs = subst Good (c .before .k3 .given .1) (c .before .before .before .pre)
+pack-bracket-requires c κs = subst GoodKind (c .before .k3 .given .1) (c .before .before .before .pre)
 
 returns : tie.Need-returns
 unfolding pairOf

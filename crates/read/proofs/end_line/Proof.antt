@@ -9,17 +9,17 @@ use borrow.Author.Tests.{lt-ltb, le-ltb, leb-true, leb-false, eq-eqb, ne-eqb}
 use Rattle.builder.specs.State.{refusedSt}
 use Rattle.builder.specs.declared.builder.Builder.{Builder}
 use Rattle.read_line.specs.Events.{character}
-use Rattle.read_line.specs.declared.line.Came.{Came}
+use Rattle.read_line.specs.declared.line.Reached.{Reached}
 use Rattle.read.specs.Read.{endedSt}
 use borrow.Author.Needs.{needs}
 use Rattle.read.proofs.end_line.Statement.{statement}
 use Rattle.read.proofs.end_line.Tie as tie
 
-none-left : (s : List ℕ) (came : Came) (r : Bool) → came .b .refusal ≡ 0 → r ≡ leb (length s) (came .at) → r ≡ true → came .b ≡ endedSt s came
+none-left : (s : List ℕ) (came : Reached) (r : Bool) → came .b .refusal ≡ 0 → r ≡ leb (length s) (came .at) → r ≡ true → came .b ≡ endedSt s came
 unfolding endedSt
 none-left s came r e f g = simp (eq-eqb (came .b .refusal) 0 e, le-ltb (came .at) (length s) (leb-true (length s) (came .at) (sym f ∙ g)))
 
-some-left : (s : List ℕ) (came : Came) (r : Bool) (b : Builder) → came .b .refusal ≡ 0 → r ≡ leb (length s) (came .at) → r ≡ false → b ≡ refusedSt (came .b) character (came .at) → b ≡ endedSt s came
+some-left : (s : List ℕ) (came : Reached) (r : Bool) (b : Builder) → came .b .refusal ≡ 0 → r ≡ leb (length s) (came .at) → r ≡ false → b ≡ refusedSt (came .b) character (came .at) → b ≡ endedSt s came
 unfolding endedSt
 some-left s came r b e f g h = simp (eq-eqb (came .b .refusal) 0 e, lt-ltb (came .at) (length s) (leb-false (length s) (came .at) (sym f ∙ g)), h)
 

@@ -3,8 +3,8 @@ use Prim.Native.Nat.{ℕ}
 use mathlib.Core.Path.{ap, sym, _∙_}
 use lib.ListN.{replicate}
 use borrow.Author.Tests.{lt-ltb, le-ltb}
-use Rattle.read.specs.Line.{lineOf}
-use Rattle.read.specs.Numbers.{inNumbers}
+use Rattle.read.specs.Line.{readText}
+use Rattle.read.specs.Numbers.{readInNumbers}
 use borrow.Author.Needs.{needs}
 use Rattle.read.proofs.read.Statement.{statement}
 use Rattle.read.proofs.read.Tie as tie
@@ -22,7 +22,7 @@ same-length-2 : tie.Need-same-length-2
 same-length-2 c = search needs
 
 returns : tie.Need-returns
-unfolding lineOf
+unfolding readText
 returns c = simp (lt-ltb _ _ (c .if1 .taken), c .before .before .before .before .before .before .before .clear .ensures, c .before .before .before .clear2 .ensures)
 
 are-few-requires : tie.Need-are-few-requires
@@ -45,8 +45,8 @@ same-length-4 : tie.Need-same-length-4
 same-length-4 c = search needs
 
 returns-2 : tie.Need-returns-2
-unfolding lineOf
-returns-2 c = ap inNumbers (c .before .before .before .before .read-few .ensures ∙ simp (le-ltb _ _ (c .before .before .before .before .before .before .before .before .before .before .before .if1 .left), c .before .before .before .before .before .before .before .before .before .before .before .before .before .before .before .before .before .before .clear .kept .0, c .before .before .before .before .before .before .before .before .before .before .before .before .before .before .clear2 .kept .0))
+unfolding readText
+returns-2 c = ap readInNumbers (c .before .before .before .before .read-few .ensures ∙ simp (le-ltb _ _ (c .before .before .before .before .before .before .before .before .before .before .before .if1 .left), c .before .before .before .before .before .before .before .before .before .before .before .before .before .before .before .before .before .before .clear .kept .0, c .before .before .before .before .before .before .before .before .before .before .before .before .before .before .clear2 .kept .0))
 
 read-many-requires : tie.Need-read-many-requires
 read-many-requires c κs =
@@ -63,8 +63,8 @@ same-length-6 : tie.Need-same-length-6
 same-length-6 c = search needs
 
 returns-3 : tie.Need-returns-3
-unfolding lineOf
-returns-3 c = ap inNumbers (c .before .before .before .before .read-many .ensures ∙ simp (le-ltb _ _ (c .before .before .before .before .before .before .before .before .before .before .before .if1 .left), c .before .before .before .before .before .before .before .before .before .before .before .before .before .before .before .before .before .before .clear .kept .0, c .before .before .before .before .before .before .before .before .before .before .before .before .before .before .clear2 .kept .0))
+unfolding readText
+returns-3 c = ap readInNumbers (c .before .before .before .before .read-many .ensures ∙ simp (le-ltb _ _ (c .before .before .before .before .before .before .before .before .before .before .before .if1 .left), c .before .before .before .before .before .before .before .before .before .before .before .before .before .before .before .before .before .before .clear .kept .0, c .before .before .before .before .before .before .before .before .before .before .before .before .before .before .clear2 .kept .0))
 
 pub read-spec : {M : Type 1} → statement M
 read-spec =

@@ -3,7 +3,7 @@ use mathlib.Core.Path.{ap, _∙_}
 use lib.ListN.{length}
 use Rattle.packing.specs.Words.{atomWords}
 use Rattle.builder.specs.Limits.{atomLimit, lesserOf}
-use Rattle.builder.specs.State.{startOf}
+use Rattle.builder.specs.State.{freshBuilder}
 use Rattle.read.proofs.Whole.{start-ready, said-refused, said-built}
 use borrow.Author.Needs.{needs}
 use Rattle.read.proofs.read_within.Statement.{statement}
@@ -60,7 +60,7 @@ same-length-5 c = search needs
 -- src/lib.rt:115:9
 returns : tie.Need-returns
 returns c =
-    said-refused _ _ _ _ _ _ _ (c .before .before .before .before .before .before .before .before .before .before .before .before .before .before .before .before .before .before .before .before .before .start .ensures ∙ ap (λ (p : ℕ). startOf p (c .before .before .before .before .before .before .before .before .before .before .before .before .before .before .before .before .before .before .before .before .before .before .bond-room .result)) (c .before .before .before .before .before .before .before .before .before .before .before .before .before .before .before .before .before .before .before .before .before .before .before .before .atom-room .ensures .is) ∙ ap (λ (l : ℕ). startOf (lesserOf atomLimit (length (c .before .before .before .before .before .before .before .before .before .before .before .before .before .before .before .before .before .before .before .before .before .before .before .before .before .before .before .before .before .before .before .before .args .atoms .now) / atomWords)) l) (c .before .before .before .before .before .before .before .before .before .before .before .before .before .before .before .before .before .before .before .before .before .before .bond-room .ensures .is)) _ _ _ (c .before .before .before .before .before .before .before .before .before .before .before .before .before .before .before .before .read-line .ensures) _ (c .before .before .before .before .before .before .before .end-line .ensures) (c .before .before .before .before .before .if1 .taken) _ _ _ (c .refusal .ensures) (c .before .before .before .clear .ensures) (c .before .before .before .before .before .before .before .before .before .before .before .before .before .before .before .before .before .before .before .before .before .before .before .before .before .before .before .before .before .before .before .before .pre .1)
+    said-refused _ _ _ _ _ _ _ (c .before .before .before .before .before .before .before .before .before .before .before .before .before .before .before .before .before .before .before .before .before .start .ensures ∙ ap (λ (p : ℕ). freshBuilder p (c .before .before .before .before .before .before .before .before .before .before .before .before .before .before .before .before .before .before .before .before .before .before .bond-room .result)) (c .before .before .before .before .before .before .before .before .before .before .before .before .before .before .before .before .before .before .before .before .before .before .before .before .atom-room .ensures .is) ∙ ap (λ (l : ℕ). freshBuilder (lesserOf atomLimit (length (c .before .before .before .before .before .before .before .before .before .before .before .before .before .before .before .before .before .before .before .before .before .before .before .before .before .before .before .before .before .before .before .before .args .atoms .now) / atomWords)) l) (c .before .before .before .before .before .before .before .before .before .before .before .before .before .before .before .before .before .before .before .before .before .before .bond-room .ensures .is)) _ _ _ (c .before .before .before .before .before .before .before .before .before .before .before .before .before .before .before .before .read-line .ensures) _ (c .before .before .before .before .before .before .before .end-line .ensures) (c .before .before .before .before .before .if1 .taken) _ _ _ (c .refusal .ensures) (c .before .before .before .clear .ensures) (c .before .before .before .before .before .before .before .before .before .before .before .before .before .before .before .before .before .before .before .before .before .before .before .before .before .before .before .before .before .before .before .before .pre .1)
 
 -- src/lib.rt:117:9
 build-requires : tie.Need-build-requires
@@ -93,7 +93,7 @@ same-length-10 c = search needs
 -- src/lib.rt:88:1
 returns-2 : tie.Need-returns-2
 returns-2 c =
-    said-built _ _ _ _ _ _ _ (c .before .before .before .before .before .before .before .before .before .before .before .before .before .before .before .before .before .before .before .before .before .before .before .before .before .before .before .before .start .ensures ∙ ap (λ (p : ℕ). startOf p (c .before .before .before .before .before .before .before .before .before .before .before .before .before .before .before .before .before .before .before .before .before .before .before .before .before .before .before .before .before .bond-room .result)) (c .before .before .before .before .before .before .before .before .before .before .before .before .before .before .before .before .before .before .before .before .before .before .before .before .before .before .before .before .before .before .before .atom-room .ensures .is) ∙ ap (λ (l : ℕ). startOf (lesserOf atomLimit (length (c .before .before .before .before .before .before .before .before .before .before .before .before .before .before .before .before .before .before .before .before .before .before .before .before .before .before .before .before .before .before .before .before .before .before .before .before .before .before .before .args .atoms .now) / atomWords)) l) (c .before .before .before .before .before .before .before .before .before .before .before .before .before .before .before .before .before .before .before .before .before .before .before .before .before .before .before .before .before .bond-room .ensures .is)) _ _ _ (c .before .before .before .before .before .before .before .before .before .before .before .before .before .before .before .before .before .before .before .before .before .before .before .read-line .ensures) _ (c .before .before .before .before .before .before .before .before .before .before .before .before .before .before .end-line .ensures) (c .before .before .before .before .before .before .before .before .before .before .before .before .if1 .left) _ (c .before .before .before .before .before .before .before .before .before .before .before .before .before .before .before .before .before .before .before .before .before .before .before .before .before .before .before .before .before .before .before .before .before .before .before .before .before .before .before .pre .1) _ _ (c .before .before .before .before .before .before .before .build .ensures) _ (c .built .ensures)
+    said-built _ _ _ _ _ _ _ (c .before .before .before .before .before .before .before .before .before .before .before .before .before .before .before .before .before .before .before .before .before .before .before .before .before .before .before .before .start .ensures ∙ ap (λ (p : ℕ). freshBuilder p (c .before .before .before .before .before .before .before .before .before .before .before .before .before .before .before .before .before .before .before .before .before .before .before .before .before .before .before .before .before .bond-room .result)) (c .before .before .before .before .before .before .before .before .before .before .before .before .before .before .before .before .before .before .before .before .before .before .before .before .before .before .before .before .before .before .before .atom-room .ensures .is) ∙ ap (λ (l : ℕ). freshBuilder (lesserOf atomLimit (length (c .before .before .before .before .before .before .before .before .before .before .before .before .before .before .before .before .before .before .before .before .before .before .before .before .before .before .before .before .before .before .before .before .before .before .before .before .before .before .before .args .atoms .now) / atomWords)) l) (c .before .before .before .before .before .before .before .before .before .before .before .before .before .before .before .before .before .before .before .before .before .before .before .before .before .before .before .before .before .bond-room .ensures .is)) _ _ _ (c .before .before .before .before .before .before .before .before .before .before .before .before .before .before .before .before .before .before .before .before .before .before .before .read-line .ensures) _ (c .before .before .before .before .before .before .before .before .before .before .before .before .before .before .end-line .ensures) (c .before .before .before .before .before .before .before .before .before .before .before .before .if1 .left) _ (c .before .before .before .before .before .before .before .before .before .before .before .before .before .before .before .before .before .before .before .before .before .before .before .before .before .before .before .before .before .before .before .before .before .before .before .before .before .before .before .pre .1) _ _ (c .before .before .before .before .before .before .before .build .ensures) _ (c .built .ensures)
 
 pub read-within-spec : {M : Type 1} → statement M
 read-within-spec =

@@ -1,6 +1,6 @@
 use mathlib.Core.Path.{subst}
 use native.Mathlib.Omega.{arith}
-use Rattle.feature.specs.Kinds.{Good}
+use Rattle.feature.specs.Kinds.{GoodKind}
 use Rattle.spell.proofs.Laws.{laid-as}
 use Rattle.spell.specs.Spell.{kindText}
 use borrow.Author.Needs.{needs}
@@ -21,7 +21,7 @@ enum-known-k c = search needs
 
 -- src/lib.rt:242:52
 organic-symbol-requires : tie.Need-organic-symbol-requires
-organic-symbol-requires c κs = let g = subst Good (c .before .before .k .given .1) (c .before .before .before .before .before .pre) in omega arith
+organic-symbol-requires c κs = let g = subst GoodKind (c .before .before .k .given .1) (c .before .before .before .before .before .pre) in omega arith
 
 -- src/lib.rt:242:35
 put-name-requires : tie.Need-put-name-requires
@@ -33,11 +33,11 @@ enum-known-k-2 c = search needs
 
 -- src/lib.rt:243:67
 add-organic-symbol : tie.Need-add-organic-symbol
-add-organic-symbol c = let g = subst Good (c .before .before .k2 .given .1) (c .before .before .before .before .before .pre) in omega arith
+add-organic-symbol c = let g = subst GoodKind (c .before .before .k2 .given .1) (c .before .before .before .before .before .pre) in omega arith
 
 -- src/lib.rt:243:51
 organic-symbol-requires-2 : tie.Need-organic-symbol-requires-2
-organic-symbol-requires-2 c κs = let g = subst Good (c .before .before .k2 .given .1) (c .before .before .before .before .before .pre) in omega arith
+organic-symbol-requires-2 c κs = let g = subst GoodKind (c .before .before .k2 .given .1) (c .before .before .before .before .before .pre) in omega arith
 
 -- src/lib.rt:243:34
 put-name-requires-2 : tie.Need-put-name-requires-2
@@ -49,7 +49,7 @@ enum-known-k-3 c = search needs
 
 -- src/lib.rt:244:33
 put-bracket-requires : tie.Need-put-bracket-requires
-put-bracket-requires c κs = subst Good (c .before .before .k3 .given .1) (c .before .before .before .before .before .pre)
+put-bracket-requires c κs = subst GoodKind (c .before .before .k3 .given .1) (c .before .before .before .before .before .pre)
 
 -- src/lib.rt:236:1
 same-length : tie.Need-same-length

@@ -3,14 +3,14 @@ use Prim.Native.Nat.{_-_, _≤_}
 use mathlib.Core.Path.{_≡_, _∙_, sym}
 use borrow.Author.Needs.{needs}
 use borrow.Author.Tests.{not-true, not-false}
-use Rattle.table_check.specs.Judge.{bondsFrom}
+use Rattle.table_check.specs.Judge.{firstBadBond}
 use Rattle.table_check.proofs.Records.{unheld, no-bond, bond-on, bonds-end, bonds-start}
 use Rattle.table_check.proofs.judge_bonds.Statement.{statement}
 use Rattle.table_check.proofs.judge_bonds.Tie as tie
 
 abbrev Inv-loop : tie.InvT-loop
 Inv-loop bonds m held e₀ e =
-    (bondsFrom bonds held (m - e) e ≡ bondsFrom bonds held m 0) × (e ≤ m)
+    (firstBadBond bonds held (m - e) e ≡ firstBadBond bonds held m 0) × (e ≤ m)
 
 abbrev μ-loop : tie.MeasureT-loop
 μ-loop bonds m held e₀ e =

@@ -78,8 +78,8 @@ returns c =
     (closed-full (bld a (c .before .before .before .before .before .before .before .before .before .before .before .before .before .before .before .before .before .args .entries .now) (c .before .before .before .before .before .before .before .before .before .before .before .before .before .before .before .before .before .args .path .now) (c .before .before .before .before .before .before .before .before .before .before .before .before .before .before .before .before .before .args .rings .now) (c .before .before .before .before .before .before .before .before .before .before .before .before .before .before .before .before .before .args .b)) _ _ (c .before .before .before .before .before .before .before .before .before .before .before .before .before .before .before .before .before .args .number) (c .before .before .before .before .before .before .before .before .before .before .before .before .before .before .before .before .before .args .place) _ _ _ (c .before .before .before .before .before .before .before .before .before .before .before .before .before .before .before .before .before .pre .4) (c .before .before .before .before .before .before .before .before .before .before .before .before .look .ensures) (c .before .before .before .before .before .before .before .before .before .sure-kind .ensures ∙ ap (λ (x : ℕ). sureKind (kindOf x)) (c .before .before .before .before .before .before .before .before .before .before .look2 .ensures)) (c .before .before .before .before .before .before .before .look3 .ensures) _ _ (sym (c .before .before .before .before .l .given .1) ∙ c .before .before .before .before .before .before .reconcile .ensures) (c .before .if1 .taken))
 
 -- src/builder.rt:278:13
-settle-requires : tie.Need-settle-requires
-settle-requires c κs = search needs
+close-entries-requires : tie.Need-close-entries-requires
+close-entries-requires c κs = search needs
 
 -- src/builder.rt:279:13
 rejoin-requires-2 : tie.Need-rejoin-requires-2
@@ -114,7 +114,7 @@ same-length-5 c = search needs
 -- src/builder.rt:249:1
 returns-3 : tie.Need-returns-3
 returns-3 c =
-    λ a. simp (c .joined .ensures, c .before .before .before .rejoin2 .ensures, c .before .before .before .before .before .before .before .settle .ensures)
+    λ a. simp (c .joined .ensures, c .before .before .before .rejoin2 .ensures, c .before .before .before .before .before .before .before .close-entries .ensures)
     (closed-both (bld a (c .before .before .before .before .before .before .before .before .before .before .before .before .before .before .before .before .before .before .before .before .before .before .before .before .before .args .entries .now) (c .before .before .before .before .before .before .before .before .before .before .before .before .before .before .before .before .before .before .before .before .before .before .before .before .before .args .path .now) (c .before .before .before .before .before .before .before .before .before .before .before .before .before .before .before .before .before .before .before .before .before .before .before .before .before .args .rings .now) (c .before .before .before .before .before .before .before .before .before .before .before .before .before .before .before .before .before .before .before .before .before .before .before .before .before .args .b)) _ _ (c .before .before .before .before .before .before .before .before .before .before .before .before .before .before .before .before .before .before .before .before .before .before .before .before .before .args .number) (c .before .before .before .before .before .before .before .before .before .before .before .before .before .before .before .before .before .before .before .before .before .before .before .before .before .args .place) _ _ _ (c .before .before .before .before .before .before .before .before .before .before .before .before .before .before .before .before .before .before .before .before .before .before .before .before .before .pre .4) (c .before .before .before .before .before .before .before .before .before .before .before .before .before .before .before .before .before .before .before .before .look .ensures) (c .before .before .before .before .before .before .before .before .before .before .before .before .before .before .before .before .before .sure-kind .ensures ∙ ap (λ (x : ℕ). sureKind (kindOf x)) (c .before .before .before .before .before .before .before .before .before .before .before .before .before .before .before .before .before .before .look2 .ensures)) (c .before .before .before .before .before .before .before .before .before .before .before .before .before .before .before .look3 .ensures) _ _ (sym (c .before .before .before .before .before .before .before .before .before .before .before .before .l .given .1) ∙ c .before .before .before .before .before .before .before .before .before .before .before .before .before .before .reconcile .ensures) (c .before .before .before .before .before .before .before .before .before .if1 .left))
 
 pub close-ring-spec : {M : Type 1} → statement M
@@ -138,7 +138,7 @@ close-ring-spec =
     refused-requires
     same-length
     returns
-    settle-requires
+    close-entries-requires
     rejoin-requires-2
     joined-requires
     same-length-2

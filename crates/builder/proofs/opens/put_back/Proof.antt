@@ -7,16 +7,16 @@ use lib.ListN.{length, take}
 use lib.Seq.{sets, length-sets, take-all}
 use mathlib.Core.List.{List}
 use Rattle.builder.proofs.Rings.{put-more}
-use Rattle.builder.specs.Rings.{numbers}
+use Rattle.builder.specs.Rings.{ringNumberCount}
 use Rattle.builder.proofs.opens.put_back.Statement.{statement}
 use Rattle.builder.proofs.opens.put_back.Tie as tie
 
 abbrev Inv-loop : tie.InvT-loop
 Inv-loop rings₀ o i₀ rings i =
-    (i ≤ numbers) × (rings ≡ sets rings₀ 0 (take i (o .at)))
+    (i ≤ ringNumberCount) × (rings ≡ sets rings₀ 0 (take i (o .at)))
 
 abbrev μ-loop : tie.MeasureT-loop
-μ-loop rings₀ o i₀ rings i = numbers - i
+μ-loop rings₀ o i₀ rings i = ringNumberCount - i
 
 loop-holds : tie.Need-loop-holds Inv-loop μ-loop
 loop-holds c = (search needs, refl)

@@ -3,7 +3,7 @@ use borrow.Author.Needs.{needs}
 use mathlib.Core.Path.{ap, _∙_}
 use lib.Seq.{sets}
 use Rattle.builder.specs.declared.opens.Opens.{Opens}
-use Rattle.builder.specs.Rings.{numbers, joinedAt}
+use Rattle.builder.specs.Rings.{ringNumberCount, joinedAt}
 use Rattle.builder.proofs.Rings.{through}
 use Rattle.builder.proofs.opens.rejoin.Statement.{statement}
 use Rattle.builder.proofs.opens.rejoin.Tie as tie
@@ -34,7 +34,7 @@ returns-2 c =
     c .before .before .put-back .ensures
     ∙ ap (λ (o : Opens). sets (c .before .before .before .before .before .before .before .before .before .args .rings .now) 0 (o .at))
     (c .before .before .before .before .join .ensures ∙ ap (λ (o : Opens). joinedAt o (c .before .before .before .before .before .before .before .before .before .args .number) (c .before .before .before .before .before .before .before .before .before .args .value)) (c .before .before .before .before .before .taken .ensures))
-    ∙ through numbers (c .before .before .before .before .before .before .before .before .before .args .rings .now) (c .before .before .before .before .before .before .before .before .before .args .number) (c .before .before .before .before .before .before .before .before .before .args .value) (c .before .before .before .before .before .before .before .before .before .pre)
+    ∙ through ringNumberCount (c .before .before .before .before .before .before .before .before .before .args .rings .now) (c .before .before .before .before .before .before .before .before .before .args .number) (c .before .before .before .before .before .before .before .before .before .args .value) (c .before .before .before .before .before .before .before .before .before .pre)
 
 pub rejoin-spec : {M : Type 1} → statement M
 rejoin-spec =

@@ -5,7 +5,7 @@ use native.Mathlib.Nat.{not-suc-le-zero}
 use native.Mathlib.Omega.{arith}
 use borrow.Author.Needs.{needs}
 use lib.ListN.{length, getD, length-set}
-use Rattle.builder.specs.Rings.{numbers}
+use Rattle.builder.specs.Rings.{ringNumberCount}
 use mathlib.Core.List.{List}
 use Rattle.builder.specs.declared.opens.Opens.{Opens}
 use Rattle.builder.proofs.Rings.{is-front, taken-more}
@@ -17,10 +17,10 @@ opens m = record { at = m }
 
 abbrev Inv-loop : tie.InvT-loop
 Inv-loop rings o₀ i₀ o i =
-    (i ≤ numbers) × (length (o .at) ≡ numbers) × ((j : ℕ) → j < i → getD (o .at) j 0 ≡ getD rings j 0)
+    (i ≤ ringNumberCount) × (length (o .at) ≡ ringNumberCount) × ((j : ℕ) → j < i → getD (o .at) j 0 ≡ getD rings j 0)
 
 abbrev μ-loop : tie.MeasureT-loop
-μ-loop rings o₀ i₀ o i = numbers - i
+μ-loop rings o₀ i₀ o i = ringNumberCount - i
 
 loop-holds : tie.Need-loop-holds Inv-loop μ-loop
 loop-holds c = (search needs, refl, (λ j h. absurd (not-suc-le-zero h)))

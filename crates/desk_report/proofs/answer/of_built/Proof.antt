@@ -1,6 +1,6 @@
 -- Each answer of a build.
 use Rattle.desk_report.specs.Report.{ofBuilt}
-use Rattle.desk_builder.specs.Build.{leftBy}
+use Rattle.desk_builder.specs.Build.{answerLeaves}
 use borrow.Author.Needs.{needs}
 use Rattle.desk_report.proofs.answer.of_built.Statement.{statement}
 use Rattle.desk_report.proofs.answer.of_built.Tie as tie
@@ -30,19 +30,19 @@ alone-requires : tie.Need-alone-requires
 alone-requires c κs = search needs
 
 returns : tie.Need-returns
-unfolding ofBuilt leftBy
+unfolding ofBuilt answerLeaves
 returns c = simp (c .before .a .given .1)
 
 returns-2 : tie.Need-returns-2
-unfolding ofBuilt leftBy
+unfolding ofBuilt answerLeaves
 returns-2 c = simp (c .before .before .a2 .given .1, ← c .with-two .ensures)
 
 returns-3 : tie.Need-returns-3
-unfolding ofBuilt leftBy
+unfolding ofBuilt answerLeaves
 returns-3 c = simp (c .before .before .a3 .given .1, ← c .with-one .ensures)
 
 returns-4 : tie.Need-returns-4
-unfolding ofBuilt leftBy
+unfolding ofBuilt answerLeaves
 returns-4 c = simp (c .before .enum-told .given .1, ← c .alone .ensures)
 
 pub of-built-spec : {M : Type 1} → statement M

@@ -1,5 +1,5 @@
 -- Each answer of the pool's call.
-use Rattle.desk_pool.specs.Slots.{toldOf}
+use Rattle.desk_pool.specs.Slots.{handedTold}
 use borrow.Author.Needs.{needs}
 use Rattle.desk_report.proofs.answer.of_handed.Statement.{statement}
 use Rattle.desk_report.proofs.answer.of_handed.Tie as tie
@@ -26,15 +26,15 @@ alone-requires : tie.Need-alone-requires
 alone-requires c κs = search needs
 
 returns : tie.Need-returns
-unfolding toldOf
+unfolding handedTold
 returns c = simp (c .before .before .h .given .1, ← c .with-one .ensures)
 
 returns-2 : tie.Need-returns-2
-unfolding toldOf
+unfolding handedTold
 returns-2 c = simp (c .before .enum-told .given .1, ← c .with-two .ensures)
 
 returns-3 : tie.Need-returns-3
-unfolding toldOf
+unfolding handedTold
 returns-3 c = simp (c .before .enum-told2 .given .1, ← c .alone .ensures)
 
 pub of-handed-spec : {M : Type 1} → statement M

@@ -1,4 +1,4 @@
-use Rattle.read.specs.Numbers.{tells}
+use Rattle.read.specs.Numbers.{readTold}
 use Rattle.desk_report.specs.Report.{ofRead}
 use borrow.Author.Needs.{needs}
 use Rattle.desk_report.proofs.answer.of_read.Statement.{statement}
@@ -71,47 +71,47 @@ alone-requires-2 : tie.Need-alone-requires-2
 alone-requires-2 c κs = search needs
 
 returns : tie.Need-returns
-unfolding ofRead tells
+unfolding ofRead readTold
 returns c = simp (c .before .a .given .1)
 
 returns-2 : tie.Need-returns-2
-unfolding ofRead tells
+unfolding ofRead readTold
 returns-2 c = simp (c .before .enum-told .given .1, ← c .alone .ensures)
 
 returns-3 : tie.Need-returns-3
-unfolding ofRead tells
+unfolding ofRead readTold
 returns-3 c = simp (c .before .before .a2 .given .1, ← c .with-one .ensures)
 
 returns-4 : tie.Need-returns-4
-unfolding ofRead tells
+unfolding ofRead readTold
 returns-4 c = simp (c .before .before .a3 .given .1, ← c .with-two .ensures)
 
 returns-5 : tie.Need-returns-5
-unfolding ofRead tells
+unfolding ofRead readTold
 returns-5 c = simp (c .before .before .a4 .given .1, ← c .with-one2 .ensures)
 
 returns-6 : tie.Need-returns-6
-unfolding ofRead tells
+unfolding ofRead readTold
 returns-6 c = simp (c .before .before .a5 .given .1, ← c .with-one3 .ensures)
 
 returns-7 : tie.Need-returns-7
-unfolding ofRead tells
+unfolding ofRead readTold
 returns-7 c = simp (c .before .before .a6 .given .1, ← c .with-one4 .ensures)
 
 returns-8 : tie.Need-returns-8
-unfolding ofRead tells
+unfolding ofRead readTold
 returns-8 c = simp (c .before .before .a7 .given .1, ← c .with-one5 .ensures)
 
 returns-9 : tie.Need-returns-9
-unfolding ofRead tells
+unfolding ofRead readTold
 returns-9 c = simp (c .before .before .a8 .given .1, ← c .with-one6 .ensures)
 
 returns-10 : tie.Need-returns-10
-unfolding ofRead tells
+unfolding ofRead readTold
 returns-10 c = simp (c .before .before .a9 .given .1, ← c .with-one7 .ensures)
 
 returns-11 : tie.Need-returns-11
-unfolding ofRead tells
+unfolding ofRead readTold
 returns-11 c = simp (c .before .enum-told2 .given .1, ← c .alone2 .ensures)
 
 pub of-read-spec : {M : Type 1} → statement M

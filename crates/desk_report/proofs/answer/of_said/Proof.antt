@@ -1,5 +1,5 @@
 -- Each answer of a writer's event.
-use Rattle.desk_writer.specs.Pieces.{toldOf}
+use Rattle.desk_writer.specs.Pieces.{saidTold}
 use borrow.Author.Needs.{needs}
 use Rattle.desk_report.proofs.answer.of_said.Statement.{statement}
 use Rattle.desk_report.proofs.answer.of_said.Tie as tie
@@ -41,27 +41,27 @@ alone-requires-3 : tie.Need-alone-requires-3
 alone-requires-3 c κs = search needs
 
 returns : tie.Need-returns
-unfolding toldOf
+unfolding saidTold
 returns c = simp (c .before .before .s .given .1, ← c .with-one .ensures)
 
 returns-2 : tie.Need-returns-2
-unfolding toldOf
+unfolding saidTold
 returns-2 c = simp (c .before .before .s2 .given .1, ← c .with-one2 .ensures)
 
 returns-3 : tie.Need-returns-3
-unfolding toldOf
+unfolding saidTold
 returns-3 c = simp (c .before .before .s3 .given .1, ← c .with-one3 .ensures)
 
 returns-4 : tie.Need-returns-4
-unfolding toldOf
+unfolding saidTold
 returns-4 c = simp (c .before .enum-told .given .1, ← c .alone .ensures)
 
 returns-5 : tie.Need-returns-5
-unfolding toldOf
+unfolding saidTold
 returns-5 c = simp (c .before .enum-told2 .given .1, ← c .alone2 .ensures)
 
 returns-6 : tie.Need-returns-6
-unfolding toldOf
+unfolding saidTold
 returns-6 c = simp (c .before .enum-told3 .given .1, ← c .alone3 .ensures)
 
 pub of-said-spec : {M : Type 1} → statement M

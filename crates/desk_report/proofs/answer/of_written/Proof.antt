@@ -1,4 +1,4 @@
-use Rattle.write.specs.Numbers.{tells}
+use Rattle.write.specs.Numbers.{writtenTold}
 use Rattle.desk_report.specs.Report.{ofWritten}
 use borrow.Author.Needs.{needs}
 use Rattle.desk_report.proofs.answer.of_written.Statement.{statement}
@@ -83,51 +83,51 @@ with-one-requires-7 : tie.Need-with-one-requires-7
 with-one-requires-7 c κs = search needs
 
 returns : tie.Need-returns
-unfolding ofWritten tells
+unfolding ofWritten writtenTold
 returns c = simp (c .before .before .w .given .1, ← c .with-one .ensures)
 
 returns-2 : tie.Need-returns-2
-unfolding ofWritten tells
+unfolding ofWritten writtenTold
 returns-2 c = simp (c .before .before .w2 .given .1, ← c .with-two .ensures)
 
 returns-3 : tie.Need-returns-3
-unfolding ofWritten tells
+unfolding ofWritten writtenTold
 returns-3 c = simp (c .before .before .w3 .given .1, ← c .with-one2 .ensures)
 
 returns-4 : tie.Need-returns-4
-unfolding ofWritten tells
+unfolding ofWritten writtenTold
 returns-4 c = simp (c .before .before .w4 .given .1, ← c .with-two2 .ensures)
 
 returns-5 : tie.Need-returns-5
-unfolding ofWritten tells
+unfolding ofWritten writtenTold
 returns-5 c = simp (c .before .before .w5 .given .1, ← c .with-two3 .ensures)
 
 returns-6 : tie.Need-returns-6
-unfolding ofWritten tells
+unfolding ofWritten writtenTold
 returns-6 c = simp (c .before .before .w6 .given .1, ← c .with-two4 .ensures)
 
 returns-7 : tie.Need-returns-7
-unfolding ofWritten tells
+unfolding ofWritten writtenTold
 returns-7 c = simp (c .before .before .w7 .given .1, ← c .with-one3 .ensures)
 
 returns-8 : tie.Need-returns-8
-unfolding ofWritten tells
+unfolding ofWritten writtenTold
 returns-8 c = simp (c .before .before .w8 .given .1, ← c .with-two5 .ensures)
 
 returns-9 : tie.Need-returns-9
-unfolding ofWritten tells
+unfolding ofWritten writtenTold
 returns-9 c = simp (c .before .before .w9 .given .1, ← c .with-one4 .ensures)
 
 returns-10 : tie.Need-returns-10
-unfolding ofWritten tells
+unfolding ofWritten writtenTold
 returns-10 c = simp (c .before .before .w10 .given .1, ← c .with-one5 .ensures)
 
 returns-11 : tie.Need-returns-11
-unfolding ofWritten tells
+unfolding ofWritten writtenTold
 returns-11 c = simp (c .before .before .w11 .given .1, ← c .with-one6 .ensures)
 
 returns-12 : tie.Need-returns-12
-unfolding ofWritten tells
+unfolding ofWritten writtenTold
 returns-12 c = simp (c .before .before .w12 .given .1, ← c .with-one7 .ensures)
 
 pub of-written-spec : {M : Type 1} → statement M

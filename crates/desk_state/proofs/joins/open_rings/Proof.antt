@@ -1,6 +1,6 @@
 -- The loop of `open_rings`: what holds at each turn, and so what it ends with.
 use Rattle.desk_state.proofs.Turns.{open-step, open-most, open-one}
-use Rattle.builder.specs.Rings.{numbers}
+use Rattle.builder.specs.Rings.{ringNumberCount}
 use Rattle.desk_state.specs.Standing.{openRings}
 use borrow.Author.Needs.{needs}
 use native.Mathlib.Omega.{arith}
@@ -10,10 +10,10 @@ use Rattle.desk_state.proofs.joins.open_rings.Statement.{statement}
 use Rattle.desk_state.proofs.joins.open_rings.Tie as tie
 
 abbrev Inv-loop : tie.InvT-loop
-Inv-loop rings count₀ n₀ count n = (n ≤ numbers) × (count ≡ openRings rings n)
+Inv-loop rings count₀ n₀ count n = (n ≤ ringNumberCount) × (count ≡ openRings rings n)
 
 abbrev μ-loop : tie.MeasureT-loop
-μ-loop rings count₀ n₀ count n = numbers - n
+μ-loop rings count₀ n₀ count n = ringNumberCount - n
 
 -- src/joins.rt:99:5
 loop-holds : tie.Need-loop-holds Inv-loop μ-loop
@@ -42,7 +42,7 @@ loop-again c = (search needs, ap (λ (x : ℕ). x + c .open-at .result) (c .befo
 
 -- src/joins.rt:94:1
 returns : tie.Need-returns Inv-loop μ-loop
-returns c = let all : c .before .loop .n ≡ numbers = omega (arith, c .before .loop .inv .0, c .loop-test .left) in c .before .loop .inv .1 ∙ ap (openRings (c .before .before .before .args .rings .now)) all
+returns c = let all : c .before .loop .n ≡ ringNumberCount = omega (arith, c .before .loop .inv .0, c .loop-test .left) in c .before .loop .inv .1 ∙ ap (openRings (c .before .before .before .args .rings .now)) all
 
 pub open-rings-spec : {M : Type 1} → statement M
 open-rings-spec =

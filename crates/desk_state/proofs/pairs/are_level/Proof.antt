@@ -5,14 +5,14 @@ use mathlib.Core.Path.{_≡_, refl, sym, _∙_, subst}
 use native.Mathlib.Omega.{arith}
 use lib.ListN.{length}
 use borrow.Author.Tests.{not-true, not-false}
-use Rattle.desk_state.specs.Chains.{Blank, Good}
+use Rattle.desk_state.specs.Chains.{NoneCounted, BondsMatch}
 use Rattle.desk_state.proofs.Ways.{ready-again, good-next, all-stand}
 use Rattle.desk_state.proofs.pairs.are_level.Statement.{statement}
 use Rattle.desk_state.proofs.pairs.are_level.Tie as tie
 
 abbrev Inv-loop : tie.InvT-loop
 Inv-loop entries n atoms first before last after counts₀ a₀ counts a =
-    (a ≤ atoms) × (length counts ≡ length counts₀) × Blank counts × ((x : ℕ) → x < a → Good entries n x (length counts₀))
+    (a ≤ atoms) × (length counts ≡ length counts₀) × NoneCounted counts × ((x : ℕ) → x < a → BondsMatch entries n x (length counts₀))
 
 abbrev μ-loop : tie.MeasureT-loop
 μ-loop entries n atoms first before last after counts₀ a₀ counts a = atoms - a
@@ -52,7 +52,7 @@ loop-again c =
       search needs,
       s,
       g .0,
-      good-next _ _ _ _ (l .inv .3) (subst (λ (x : ℕ). Good (c .before .before .before .before .before .before .before .before .before .before .before .before .before .args .entries .now) (c .before .before .before .before .before .before .before .before .before .before .before .before .before .args .n) (l .a) x) s (g .1)),
+      good-next _ _ _ _ (l .inv .3) (subst (λ (x : ℕ). BondsMatch (c .before .before .before .before .before .before .before .before .before .before .before .before .before .args .entries .now) (c .before .before .before .before .before .before .before .before .before .before .before .before .before .args .n) (l .a) x) s (g .1)),
     )
 
 -- src/pairs.rt:186:1

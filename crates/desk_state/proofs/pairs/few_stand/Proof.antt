@@ -2,7 +2,7 @@
 use Prim.Native.Nat.{_+_, _*_}
 use native.Mathlib.Omega.{arith}
 use Rattle.builder.specs.Limits.{fewAtoms}
-use Rattle.desk_state.specs.Chains.{kinds, fewBonds}
+use Rattle.desk_state.specs.Chains.{bondKindCount, fewBonds}
 use Rattle.desk_state.proofs.Ways.{loose-from, loose-to, ready}
 use borrow.Author.Needs.{needs}
 use Rattle.desk_state.proofs.pairs.few_stand.Statement.{statement}
@@ -55,7 +55,7 @@ slice-aggregate-are-level-5 c = search needs
 -- src/pairs.rt:221:5
 are-level-requires : tie.Need-are-level-requires
 are-level-requires c κs =
-    ready (c .before .before .before .before .before .before .before .before .before .before .before .before .before .before .before .before .pre .0) fewAtoms fewBonds (c .before .before .before .before .before .before .before .before .before .before .before .before .before .before .before .before .pre .2) (c .before .before .before .before .before .before .before .before .before .before .before .before .before .before .before .before .pre .1) (fewAtoms * kinds + 1) (c .before .before .before .before .before .before .before .before .before .before .before .before .link .kept .1 .1 .1 .0) (c .before .before .before .before .before .before .before .link2 .kept .1 .1 .1 .0) (c .before .before .before .before .before .before .before .before .before .before .before .before .link .ensures) (c .before .before .before .before .before .before .before .link2 .ensures) (omega (arith, c .before .before .before .before .before .before .before .before .before .before .before .before .before .before .before .before .pre .2))
+    ready (c .before .before .before .before .before .before .before .before .before .before .before .before .before .before .before .before .pre .0) fewAtoms fewBonds (c .before .before .before .before .before .before .before .before .before .before .before .before .before .before .before .before .pre .2) (c .before .before .before .before .before .before .before .before .before .before .before .before .before .before .before .before .pre .1) (fewAtoms * bondKindCount + 1) (c .before .before .before .before .before .before .before .before .before .before .before .before .link .kept .1 .1 .1 .0) (c .before .before .before .before .before .before .before .link2 .kept .1 .1 .1 .0) (c .before .before .before .before .before .before .before .before .before .before .before .before .link .ensures) (c .before .before .before .before .before .before .before .link2 .ensures) (omega (arith, c .before .before .before .before .before .before .before .before .before .before .before .before .before .before .before .before .pre .2))
 
 -- src/pairs.rt:210:1
 returns : tie.Need-returns

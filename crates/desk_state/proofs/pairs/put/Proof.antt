@@ -3,7 +3,7 @@ use borrow.Author.Needs.{needs}
 use Prim.Native.Nat.{ℕ}
 use mathlib.Core.Path.{_≡_, refl, _∙_, subst}
 use lib.ListN.{length}
-use Rattle.desk_state.specs.Chains.{Laid}
+use Rattle.desk_state.specs.Chains.{CountedAfter}
 use Rattle.desk_state.proofs.Levels.{Stands, stands-head, laid-first}
 use Rattle.desk_state.proofs.Ways.{sized, goes-on, put-room, put-turn}
 use Rattle.desk_state.proofs.pairs.put.Statement.{statement}
@@ -11,7 +11,7 @@ use Rattle.desk_state.proofs.pairs.put.Tie as tie
 
 abbrev Inv-loop : tie.InvT-loop
 Inv-loop entries n a head next counts₀ p₀ counts p =
-    (length counts ≡ length counts₀) × Stands entries 0 a n p × Laid entries n a p counts
+    (length counts ≡ length counts₀) × Stands entries 0 a n p × CountedAfter entries n a p counts
 
 abbrev μ-loop : tie.MeasureT-loop
 μ-loop entries n a head next counts₀ p₀ counts p = p
@@ -64,7 +64,7 @@ same-length c = search needs
 
 -- src/pairs.rt:86:1
 returns : tie.Need-returns Inv-loop μ-loop
-returns c = subst (λ (x : ℕ). Laid (c .before .before .before .before .before .before .before .args .entries .now) (c .before .before .before .before .before .before .before .args .n) (c .before .before .before .before .before .before .before .args .a) x (c .before .loop .counts)) (c .loop-test .left) (c .before .loop .inv .2)
+returns c = subst (λ (x : ℕ). CountedAfter (c .before .before .before .before .before .before .before .args .entries .now) (c .before .before .before .before .before .before .before .args .n) (c .before .before .before .before .before .before .before .args .a) x (c .before .loop .counts)) (c .loop-test .left) (c .before .loop .inv .2)
 
 pub put-spec : {M : Type 1} → statement M
 put-spec =

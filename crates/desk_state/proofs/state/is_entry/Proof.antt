@@ -1,6 +1,6 @@
 -- Each way out of `is_entry`, from the tests passed and what the calls on the way ensure.
 use borrow.Author.Tests.{not-true, not-false}
-use Rattle.desk_state.specs.Standing.{isEntry}
+use Rattle.desk_state.specs.Standing.{isBuilderEntry}
 use borrow.Author.Needs.{needs}
 use Rattle.desk_state.proofs.state.is_entry.Statement.{statement}
 use Rattle.desk_state.proofs.state.is_entry.Tie as tie
@@ -19,7 +19,7 @@ is-below-requires c κs = search needs
 
 -- src/state.rt:88:9
 returns : tie.Need-returns
-unfolding isEntry
+unfolding isBuilderEntry
 returns c = simp (← c .before .before .look .ensures, ← c .before .is-below .ensures, not-true (c .before .is-below .result) (c .if1 .taken))
 
 -- src/state.rt:90:31
@@ -36,7 +36,7 @@ is-kind-requires c κs = search needs
 
 -- src/state.rt:91:9
 returns-2 : tie.Need-returns-2
-unfolding isEntry
+unfolding isBuilderEntry
 returns-2 c = simp (← c .before .before .before .before .before .look .ensures, ← c .before .before .before .before .is-below .ensures, not-false (c .before .before .before .before .is-below .result) (c .before .before .before .if1 .left), ← c .before .before .look2 .ensures, ← c .before .is-kind .ensures, not-true (c .before .is-kind .result) (c .if2 .taken))
 
 -- src/state.rt:93:32
@@ -53,7 +53,7 @@ is-target-requires c κs = search needs
 
 -- src/state.rt:82:1
 returns-3 : tie.Need-returns-3
-unfolding isEntry
+unfolding isBuilderEntry
 returns-3 c = simp (← c .before .before .before .before .before .before .before .look .ensures, ← c .before .before .before .before .before .before .is-below .ensures, not-false (c .before .before .before .before .before .before .is-below .result) (c .before .before .before .before .before .if1 .left), ← c .before .before .before .before .look2 .ensures, ← c .before .before .before .is-kind .ensures, not-false (c .before .before .before .is-kind .result) (c .before .before .if2 .left), ← c .before .look3 .ensures, ← c .is-target .ensures)
 
 pub is-entry-spec : {M : Type 1} → statement M

@@ -5,7 +5,7 @@ use mathlib.Core.Bool.{true}
 use native.Mathlib.Omega.{arith}
 use borrow.Author.Needs.{needs}
 use borrow.Author.Tests.{not-true, not-false}
-use Rattle.builder.specs.Rings.{numbers}
+use Rattle.builder.specs.Rings.{ringNumberCount}
 use Rattle.feature.specs.Every.{every}
 use Rattle.desk_state.specs.Standing.{isRing}
 use Rattle.feature.proofs.Every.{every-step, every-fails}
@@ -13,10 +13,10 @@ use Rattle.desk_state.proofs.state.rings_stand.Statement.{statement}
 use Rattle.desk_state.proofs.state.rings_stand.Tie as tie
 
 abbrev Inv-loop : tie.InvT-loop
-Inv-loop b entries rings n₀ n = (n ≤ numbers) × (every (isRing b entries rings) n ≡ true)
+Inv-loop b entries rings n₀ n = (n ≤ ringNumberCount) × (every (isRing b entries rings) n ≡ true)
 
 abbrev μ-loop : tie.MeasureT-loop
-μ-loop b entries rings n₀ n = numbers - n
+μ-loop b entries rings n₀ n = ringNumberCount - n
 
 loop-holds : tie.Need-loop-holds Inv-loop μ-loop
 unfolding every
@@ -27,7 +27,7 @@ is-ring-requires c κs = search needs
 
 returns : tie.Need-returns Inv-loop μ-loop
 returns c =
-    sym (every-fails (isRing (c .before .before .before .before .before .before .args .b) (c .before .before .before .before .before .before .args .entries .now) (c .before .before .before .before .before .before .args .rings .now)) (numbers) (c .before .before .before .loop .n) (c .before .before .loop-test .taken) (sym (c .before .is-ring .ensures) ∙ not-true _ (c .if1 .taken)))
+    sym (every-fails (isRing (c .before .before .before .before .before .before .args .b) (c .before .before .before .before .before .before .args .entries .now) (c .before .before .before .before .before .before .args .rings .now)) (ringNumberCount) (c .before .before .before .loop .n) (c .before .before .loop-test .taken) (sym (c .before .is-ring .ensures) ∙ not-true _ (c .if1 .taken)))
 
 add-n : tie.Need-add-n Inv-loop μ-loop
 add-n c = search needs
@@ -41,7 +41,7 @@ loop-again c =
 
 returns-2 : tie.Need-returns-2 Inv-loop μ-loop
 returns-2 c =
-    let all : c .before .loop .n ≡ numbers = omega (arith, c .before .loop .inv .0, c .loop-test .left) in
+    let all : c .before .loop .n ≡ ringNumberCount = omega (arith, c .before .loop .inv .0, c .loop-test .left) in
     sym (subst (λ (k : ℕ). every (isRing (c .before .before .before .before .args .b) (c .before .before .before .before .args .entries .now) (c .before .before .before .before .args .rings .now)) k ≡ true) all (c .before .loop .inv .1))
 
 pub rings-stand-spec : {M : Type 1} → statement M

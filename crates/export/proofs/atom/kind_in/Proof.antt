@@ -1,5 +1,5 @@
 -- Each answer of reading one atom.
-use Rattle.export.specs.Atom.{kindIn}
+use Rattle.export.specs.Atom.{readKindWords}
 use Rattle.desk_atom.specs.Texts.{kindsIn}
 use borrow.Author.Needs.{needs}
 use Rattle.export.proofs.atom.kind_in.Statement.{statement}
@@ -18,15 +18,15 @@ enum-known-b-2 : tie.Need-enum-known-b-2
 enum-known-b-2 c = search needs
 
 returns : tie.Need-returns
-unfolding kindIn kindsIn
+unfolding readKindWords kindsIn
 returns c = simp (c .before .before .b .given .1, ← c .words .ensures)
 
 returns-2 : tie.Need-returns-2
-unfolding kindIn kindsIn
+unfolding readKindWords kindsIn
 returns-2 c = simp (c .enum-told .given .1)
 
 returns-3 : tie.Need-returns-3
-unfolding kindIn kindsIn
+unfolding readKindWords kindsIn
 returns-3 c = simp (c .before .b2 .given .1)
 
 pub kind-in-spec : {M : Type 1} → statement M

@@ -1,5 +1,5 @@
 -- Words that stand for no atom, and the text of one.
-use Rattle.export.specs.Atom.{atomX, told, unheard}
+use Rattle.export.specs.Atom.{atomX, textReported, spellingUnheard}
 use Rattle.export.specs.Given.{onAtom}
 use borrow.Author.Needs.{needs}
 use Rattle.export.proofs.atom.mavisdrok_spell_atom.Statement.{statement}
@@ -27,7 +27,7 @@ same-length-2 : tie.Need-same-length-2
 same-length-2 c = search needs
 
 returns : tie.Need-returns
-unfolding atomX told unheard onAtom
+unfolding atomX textReported spellingUnheard onAtom
 returns c = simp (← c .before .before .before .before .before .before .before .before .before .before .kind .ensures, c .before .before .before .before .before .before .before .before .enum-told .given .1, ← c .before .before .before .before .before .before .wipe .ensures, ← c .before .before .refuse .ensures)
 
 spell-atom-requires : tie.Need-spell-atom-requires
@@ -46,7 +46,7 @@ same-length-4 : tie.Need-same-length-4
 same-length-4 c = search needs
 
 returns-2 : tie.Need-returns-2
-unfolding atomX told unheard onAtom
+unfolding atomX textReported spellingUnheard onAtom
 returns-2 c = simp (← c .before .before .before .before .before .before .before .before .before .before .before .before .kind .ensures, c .before .before .before .before .before .before .before .before .before .before .held .given .1, ← c .before .before .before .before .before .before .spell-atom .ensures, ← c .before .before .before .of-spelt .ensures, ← c .before .before .lay .ensures)
 
 pub mavisdrok-spell-atom-spec : {M : Type 1} → statement M

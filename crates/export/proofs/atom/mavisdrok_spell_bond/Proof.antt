@@ -1,5 +1,5 @@
 -- A number that stands for no bond, and the text of one.
-use Rattle.export.specs.Atom.{bondX, told, unheard}
+use Rattle.export.specs.Atom.{bondX, textReported, spellingUnheard}
 use Rattle.export.specs.Given.{onBond}
 use borrow.Author.Needs.{needs}
 use Rattle.export.proofs.atom.mavisdrok_spell_bond.Statement.{statement}
@@ -27,7 +27,7 @@ same-length-2 : tie.Need-same-length-2
 same-length-2 c = search needs
 
 returns : tie.Need-returns
-unfolding bondX told unheard onBond
+unfolding bondX textReported spellingUnheard onBond
 returns c = simp (← c .before .before .before .before .before .before .before .before .before .before .decode .ensures, c .before .before .before .before .before .before .before .before .enum-told .given .1, ← c .before .before .before .before .before .before .wipe .ensures, ← c .before .before .refuse .ensures)
 
 spell-bond-requires : tie.Need-spell-bond-requires
@@ -46,7 +46,7 @@ same-length-4 : tie.Need-same-length-4
 same-length-4 c = search needs
 
 returns-2 : tie.Need-returns-2
-unfolding bondX told unheard onBond
+unfolding bondX textReported spellingUnheard onBond
 returns-2 c = simp (← c .before .before .before .before .before .before .before .before .before .before .before .before .decode .ensures, c .before .before .before .before .before .before .before .before .before .before .coded .given .1, ← c .before .before .before .before .before .before .spell-bond .ensures, ← c .before .before .before .of-spelt .ensures, ← c .before .before .lay .ensures)
 
 pub mavisdrok-spell-bond-spec : {M : Type 1} → statement M

@@ -1,5 +1,5 @@
 -- The text of a ring number, and its report.
-use Rattle.export.specs.Atom.{told}
+use Rattle.export.specs.Atom.{textReported}
 use borrow.Author.Needs.{needs}
 use Rattle.export.proofs.atom.mavisdrok_spell_rnum.Statement.{statement}
 use Rattle.export.proofs.atom.mavisdrok_spell_rnum.Tie as tie
@@ -20,7 +20,7 @@ same-length-2 : tie.Need-same-length-2
 same-length-2 c = search needs
 
 returns : tie.Need-returns
-unfolding told
+unfolding textReported
 returns c = simp (← c .before .before .before .before .before .before .spell-rnum .ensures, ← c .before .before .before .of-spelt .ensures, ← c .before .before .lay .ensures)
 
 pub mavisdrok-spell-rnum-spec : {M : Type 1} → statement M

@@ -1,12 +1,12 @@
 -- A refused event keeps the words, an accepted one lays its state.
 use borrow.Author.Tests.{eq-eqb, ne-eqb}
-use Rattle.export.specs.Events.{keptIn}
+use Rattle.export.specs.Events.{builderKept}
 use borrow.Author.Needs.{needs}
 use Rattle.export.proofs.events.keep_state.Statement.{statement}
 use Rattle.export.proofs.events.keep_state.Tie as tie
 
 returns : tie.Need-returns
-unfolding keptIn
+unfolding builderKept
 returns c = simp (ne-eqb _ _ (c .if1 .taken))
 
 lay-builder-requires : tie.Need-lay-builder-requires
@@ -16,7 +16,7 @@ same-length : tie.Need-same-length
 same-length c = search needs
 
 returns-2 : tie.Need-returns-2
-unfolding keptIn
+unfolding builderKept
 returns-2 c = simp (eq-eqb _ _ (c .before .before .before .before .if1 .left), ← c .before .before .lay-builder .ensures)
 
 pub keep-state-spec : {M : Type 1} → statement M

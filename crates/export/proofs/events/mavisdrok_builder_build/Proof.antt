@@ -2,7 +2,7 @@
 use Rattle.export.proofs.Reports.{build-parts}
 use Rattle.export.specs.Events.{buildX}
 -- Words that stand for no state, and the build.
-use Rattle.export.specs.Events.{buildX, told}
+use Rattle.export.specs.Events.{buildX, buildReported}
 use Rattle.export.specs.Given.{onBuilder}
 use borrow.Author.Needs.{needs}
 use Rattle.export.proofs.events.mavisdrok_builder_build.Statement.{statement}
@@ -36,7 +36,7 @@ same-length-3 : tie.Need-same-length-3
 same-length-3 c = search needs
 
 returns : tie.Need-returns
-unfolding buildX told onBuilder
+unfolding buildX buildReported onBuilder
 returns c = simp (← c .before .before .before .before .before .before .before .before .before .before .before .before .before .before .builder-in .ensures, c .before .before .before .before .before .before .before .before .before .before .before .before .enum-told .given .1, ← c .before .before .before .before .before .before .before .before .before .before .clear .ensures, ← c .before .before .before .before .before .before .clear2 .ensures, ← c .before .before .refuse .ensures)
 
 build-requires : tie.Need-build-requires

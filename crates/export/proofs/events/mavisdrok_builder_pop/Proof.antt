@@ -1,5 +1,5 @@
 -- Each way through a pop: words that stand for nothing, and the event.
-use Rattle.export.specs.Events.{popX, event, after, unheard}
+use Rattle.export.specs.Events.{builderPopX, builderEvent, builderAfter, builderUnheard}
 use Rattle.export.specs.Given.{onBuilder}
 use borrow.Author.Needs.{needs}
 use Rattle.export.proofs.events.mavisdrok_builder_pop.Statement.{statement}
@@ -24,7 +24,7 @@ same-length-2 : tie.Need-same-length-2
 same-length-2 c = search needs
 
 returns : tie.Need-returns
-unfolding popX event after unheard onBuilder
+unfolding builderPopX builderEvent builderAfter builderUnheard onBuilder
 returns c = simp (← c .before .before .before .before .before .before .builder-in .ensures, c .before .before .before .before .enum-told .given .1, ← c .before .before .refuse .ensures)
 
 pop-requires : tie.Need-pop-requires
@@ -40,7 +40,7 @@ same-length-4 : tie.Need-same-length-4
 same-length-4 c = search needs
 
 returns-2 : tie.Need-returns-2
-unfolding popX event after unheard onBuilder
+unfolding builderPopX builderEvent builderAfter builderUnheard onBuilder
 returns-2 c = simp (← c .before .before .before .before .before .before .before .before .before .before .before .builder-in .ensures, c .before .before .before .before .before .before .before .before .before .held .given .1, ← c .before .before .before .before .before .pop .ensures, ← c .before .before .before .before .keep .ensures .0, ← c .before .before .before .before .keep .ensures .1)
 
 pub mavisdrok-builder-pop-spec : {M : Type 1} → statement M

@@ -1,6 +1,6 @@
 -- Too few words, and the start.
 use borrow.Author.Tests.{le-ltb, lt-ltb}
-use Rattle.export.specs.Events.{startX, after, unheard}
+use Rattle.export.specs.Events.{startX, builderAfter, builderUnheard}
 use borrow.Author.Needs.{needs}
 use Rattle.export.proofs.events.mavisdrok_builder_start.Statement.{statement}
 use Rattle.export.proofs.events.mavisdrok_builder_start.Tie as tie
@@ -15,7 +15,7 @@ same-length c = search needs
 
 -- src/events.rt:56:9
 returns : tie.Need-returns
-unfolding startX after unheard
+unfolding startX builderAfter builderUnheard
 returns c = simp (lt-ltb _ _ (c .before .before .before .before .if1 .taken), ← c .before .before .refuse .ensures)
 
 -- src/events.rt:58:25
@@ -40,7 +40,7 @@ same-length-4 c = search needs
 
 -- src/events.rt:42:1
 returns-2 : tie.Need-returns-2
-unfolding startX after unheard
+unfolding startX builderAfter builderUnheard
 returns-2 c = simp (le-ltb _ _ (c .before .before .before .before .before .before .before .before .before .before .before .if1 .left), ← c .before .before .before .before .before .before .before .start .ensures, ← c .before .before .before .before .keep .ensures .0, ← c .before .before .before .before .keep .ensures .1)
 
 pub mavisdrok-builder-start-spec : {M : Type 1} → statement M

@@ -1,5 +1,5 @@
 -- Each answer of an event: only the first has a new state.
-use Rattle.export.specs.Lines.{heldBy}
+use Rattle.export.specs.Lines.{writerHeld}
 use borrow.Author.Needs.{needs}
 use Rattle.export.proofs.lines.held_by.Statement.{statement}
 use Rattle.export.proofs.lines.held_by.Tie as tie
@@ -23,27 +23,27 @@ enum-told-3 : tie.Need-enum-told-3
 enum-told-3 c = search needs
 
 returns : tie.Need-returns
-unfolding heldBy
+unfolding writerHeld
 returns c = simp (c .before .said .given .1)
 
 returns-2 : tie.Need-returns-2
-unfolding heldBy
+unfolding writerHeld
 returns-2 c = simp (c .before .said2 .given .1)
 
 returns-3 : tie.Need-returns-3
-unfolding heldBy
+unfolding writerHeld
 returns-3 c = simp (c .before .said3 .given .1)
 
 returns-4 : tie.Need-returns-4
-unfolding heldBy
+unfolding writerHeld
 returns-4 c = simp (c .enum-told .given .1)
 
 returns-5 : tie.Need-returns-5
-unfolding heldBy
+unfolding writerHeld
 returns-5 c = simp (c .enum-told2 .given .1)
 
 returns-6 : tie.Need-returns-6
-unfolding heldBy
+unfolding writerHeld
 returns-6 c = simp (c .enum-told3 .given .1)
 
 pub held-by-spec : {M : Type 1} → statement M

@@ -2,7 +2,7 @@
 use mathlib.Core.Path.{_≡_, _∙_}
 use lib.Seq.{sets}
 use Rattle.desk_report.specs.State.{writerList}
-use Rattle.export.specs.Lines.{heldBy}
+use Rattle.export.specs.Lines.{writerHeld}
 use Rattle.export.proofs.Reports.{writer-kept, writer-laid}
 use Rattle.export.specs.Given.{onWriter}
 use borrow.Author.Needs.{needs}
@@ -21,7 +21,7 @@ enum-told c = search needs
 returns : tie.Need-returns
 unfolding onWriter
 returns c =
-    let e : c .before .before .before .before .args .state .now ≡ onWriter (heldBy (c .before .before .before .before .args .said)) (c .before .before .before .before .args .state .now) (λ w. sets (c .before .before .before .before .args .state .now) 0 (writerList w)) = simp (← c .before .before .held-by .ensures, c .enum-told .given .1) in
+    let e : c .before .before .before .before .args .state .now ≡ onWriter (writerHeld (c .before .before .before .before .args .said)) (c .before .before .before .before .args .state .now) (λ w. sets (c .before .before .before .before .args .state .now) 0 (writerList w)) = simp (← c .before .before .held-by .ensures, c .enum-told .given .1) in
     e ∙ writer-kept (c .before .before .before .before .args .state .now) (c .before .before .before .before .args .said)
 
 lay-writer-requires : tie.Need-lay-writer-requires

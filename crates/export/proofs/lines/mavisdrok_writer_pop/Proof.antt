@@ -1,5 +1,5 @@
 -- Each way through a pop: words that stand for nothing, and the event.
-use Rattle.export.specs.Lines.{popX, event, after, unheard}
+use Rattle.export.specs.Lines.{writerPopX, writerEvent, writerAfter, writerUnheard}
 use Rattle.export.specs.Given.{onWriter}
 use borrow.Author.Needs.{needs}
 use Rattle.export.proofs.lines.mavisdrok_writer_pop.Statement.{statement}
@@ -24,7 +24,7 @@ same-length-2 : tie.Need-same-length-2
 same-length-2 c = search needs
 
 returns : tie.Need-returns
-unfolding popX event after unheard onWriter
+unfolding writerPopX writerEvent writerAfter writerUnheard onWriter
 returns c = simp (← c .before .before .before .before .before .before .writer-in .ensures, c .before .before .before .before .enum-told .given .1, ← c .before .before .refuse .ensures)
 
 pop-requires : tie.Need-pop-requires
@@ -46,7 +46,7 @@ same-length-6 : tie.Need-same-length-6
 same-length-6 c = search needs
 
 returns-2 : tie.Need-returns-2
-unfolding popX event after unheard onWriter
+unfolding writerPopX writerEvent writerAfter writerUnheard onWriter
 returns-2 c = simp (← c .before .before .before .before .before .before .before .before .before .before .before .before .before .before .before .before .before .writer-in .ensures, c .before .before .before .before .before .before .before .before .before .before .before .before .before .before .before .held .given .1, ← c .before .before .before .before .before .before .before .before .before .pop .ensures, ← c .before .before .before .before .keep .ensures .0, ← c .before .before .before .before .keep .ensures .1)
 
 pub mavisdrok-writer-pop-spec : {M : Type 1} → statement M

@@ -1,5 +1,5 @@
 -- Each answer of a call: only the first has a new state.
-use Rattle.export.specs.Rings.{heldBy}
+use Rattle.export.specs.Rings.{poolHeld}
 use borrow.Author.Needs.{needs}
 use Rattle.export.proofs.rings.held_by.Statement.{statement}
 use Rattle.export.proofs.rings.held_by.Tie as tie
@@ -14,15 +14,15 @@ enum-told-2 : tie.Need-enum-told-2
 enum-told-2 c = search needs
 
 returns : tie.Need-returns
-unfolding heldBy
+unfolding poolHeld
 returns c = simp (c .before .handed .given .1)
 
 returns-2 : tie.Need-returns-2
-unfolding heldBy
+unfolding poolHeld
 returns-2 c = simp (c .enum-told .given .1)
 
 returns-3 : tie.Need-returns-3
-unfolding heldBy
+unfolding poolHeld
 returns-3 c = simp (c .enum-told2 .given .1)
 
 pub held-by-spec : {M : Type 1} → statement M

@@ -2,7 +2,7 @@
 use mathlib.Core.Path.{_≡_, _∙_}
 use lib.Seq.{sets}
 use Rattle.desk_report.specs.State.{poolList}
-use Rattle.export.specs.Rings.{heldBy}
+use Rattle.export.specs.Rings.{poolHeld}
 use Rattle.export.proofs.Reports.{pool-kept, pool-laid}
 use Rattle.export.specs.Given.{onPool}
 use borrow.Author.Needs.{needs}
@@ -21,7 +21,7 @@ enum-told c = search needs
 returns : tie.Need-returns
 unfolding onPool
 returns c =
-    let e : c .before .before .before .before .args .state .now ≡ onPool (heldBy (c .before .before .before .before .args .handed)) (c .before .before .before .before .args .state .now) (λ w. sets (c .before .before .before .before .args .state .now) 0 (poolList w)) = simp (← c .before .before .held-by .ensures, c .enum-told .given .1) in
+    let e : c .before .before .before .before .args .state .now ≡ onPool (poolHeld (c .before .before .before .before .args .handed)) (c .before .before .before .before .args .state .now) (λ w. sets (c .before .before .before .before .args .state .now) 0 (poolList w)) = simp (← c .before .before .held-by .ensures, c .enum-told .given .1) in
     e ∙ pool-kept (c .before .before .before .before .args .state .now) (c .before .before .before .before .args .handed)
 
 lay-pool-requires : tie.Need-lay-pool-requires

@@ -1,5 +1,5 @@
 -- Each way through the call: words that stand for no pool, and the answer.
-use Rattle.export.specs.Rings.{hitX, after}
+use Rattle.export.specs.Rings.{hitX, poolAfter}
 use Rattle.export.specs.Given.{onPool}
 use borrow.Author.Needs.{needs}
 use Rattle.export.proofs.rings.mavisdrok_pool_hit.Statement.{statement}
@@ -24,7 +24,7 @@ same-length-2 : tie.Need-same-length-2
 same-length-2 c = search needs
 
 returns : tie.Need-returns
-unfolding hitX after onPool
+unfolding hitX poolAfter onPool
 returns c = simp (← c .before .before .before .before .before .before .pool-in .ensures, c .before .before .before .before .enum-told .given .1, ← c .before .before .refuse .ensures)
 
 hit-requires : tie.Need-hit-requires
@@ -49,7 +49,7 @@ same-length-5 : tie.Need-same-length-5
 same-length-5 c = search needs
 
 returns-2 : tie.Need-returns-2
-unfolding hitX after onPool
+unfolding hitX poolAfter onPool
 returns-2 c = simp (← c .before .before .before .before .before .before .before .before .before .before .before .before .before .before .before .before .pool-in .ensures, c .before .before .before .before .before .before .before .before .before .before .before .before .before .before .held .given .1, ← c .before .before .before .before .before .before .before .before .before .before .before .hit .ensures, ← c .before .before .before .before .before .before .before .keep-state .ensures, ← c .before .before .before .of-handed .ensures, ← c .before .before .lay .ensures)
 
 pub mavisdrok-pool-hit-spec : {M : Type 1} → statement M

@@ -1,7 +1,7 @@
 use Prim.Native.Nat.{ℕ, _/_}
 use mathlib.Core.Path.{ap, _∙_}
 use lib.Dec.{eqb}
-use Rattle.feature.specs.Text.{letter}
+use Rattle.feature.specs.Text.{letterStep}
 use Rattle.feature.proofs.Names.{begun, unbegun, no-byte}
 use borrow.Author.Needs.{needs}
 use Rattle.feature.proofs.element.is_first.Statement.{statement}
@@ -26,7 +26,7 @@ name-requires c κs = search needs
 -- src/element.rt:224:9
 returns-2 : tie.Need-returns-2
 returns-2 c =
-    ap (λ (x : ℕ). eqb (x / letter) (c .before .before .before .before .args .byte)) (c .name .ensures) ∙ begun _ _ (c .before .before .rank .ensures) (c .before .if2 .taken)
+    ap (λ (x : ℕ). eqb (x / letterStep) (c .before .before .before .before .args .byte)) (c .name .ensures) ∙ begun _ _ (c .before .before .rank .ensures) (c .before .if2 .taken)
 
 -- src/element.rt:216:1
 returns-3 : tie.Need-returns-3

@@ -1,4 +1,4 @@
--- `join_pool::lent::hit` meets its contract: a walk of its MIR, by hand. The pool's borrow is opened and its struct read whole; `strike` is called on it, the pool's words, which go to the callee for good, and the two atoms; the pool is written whole, and the answer handed on.
+-- `join_pool::lent::hit` meets its contract: a walk of its MIR, by hand. The pool's borrow is opened and its struct read whole; `hit_by_value` is called on it, the pool's words, which go to the callee for good, and the two atoms; the pool is written whole, and the answer handed on.
 -- Assumes nothing.
 use mathlib.Core.Path.{_≡_, refl, ap}
 use Prim.Native.Nat.{ℕ, _<_, _^_}
@@ -43,19 +43,19 @@ use denote.Triple.Walked.{says, Stays, stay-ref, gave-slice, stay-none, walkOf, 
 use denote.Triple.Clauses.{ensured, lasts}
 use denote.Exit.{yes}
 use Rattle.join_pool.specs.Pairs.{hitOf}
-use Rattle.join_pool.specs.Strokes.{strokeOf}
+use Rattle.join_pool.specs.Strokes.{answerApart}
 use Rattle.join_pool.specs.declared.Pool.{Pool}
-use Rattle.join_pool.specs.declared.lent.Stroke.{Stroke}
+use Rattle.join_pool.specs.declared.lent.PoolAnswer.{PoolAnswer}
 use Rattle.join_pool.proofs.Pool as T
 use Rattle.join_pool.proofs.Pool.Laws as T′
-use Rattle.join_pool.proofs.lent.Stroke as S
-use Rattle.join_pool.proofs.lent.Stroke.Laws as S′
+use Rattle.join_pool.proofs.lent.PoolAnswer as S
+use Rattle.join_pool.proofs.lent.PoolAnswer.Laws as S′
 use Rattle.join_pool.proofs.lent.Told as E
 use Rattle.join_pool.proofs.lent.Told.Laws as E′
-use Rattle.join_pool.proofs.lent.strike as g
-use Rattle.join_pool.proofs.lent.strike.Symbol as g-def
-use Rattle.join_pool.proofs.lent.strike.Symbol.{name as #core}
-use Rattle.join_pool.proofs.lent.strike.Met as g-thm
+use Rattle.join_pool.proofs.lent.hit_by_value as g
+use Rattle.join_pool.proofs.lent.hit_by_value.Symbol as g-def
+use Rattle.join_pool.proofs.lent.hit_by_value.Symbol.{name as #core}
+use Rattle.join_pool.proofs.lent.hit_by_value.Met as g-thm
 use Rattle.join_pool.proofs.lent.hit.Key.{name as #self}
 use Rattle.join_pool.proofs.lent.hit as f
 use Rattle.join_pool.proofs.lent.hit.Statement as stated
@@ -101,13 +101,13 @@ module _ {M : Type 1} (𝓤 : URA M) (H : Heap 𝓤) (A : Atoms 𝓤) (W : Given
   to = (((κ₁, tt), (q₁, tt), tt, arg, passed), tt)
 
   -- what the callee says of its answer r and the last words l
-  abbrev Says : Stroke → List ℕ → Type 0
-  Says r l = (r ≡ strokeOf h (hitOf h (y .now) m n .answer)) × (l ≡ hitOf h (y .now) m n .left)
+  abbrev Says : PoolAnswer → List ℕ → Type 0
+  Says r l = (r ≡ answerApart h (hitOf h (y .now) m n .answer)) × (l ≡ hitOf h (y .now) m n .left)
 
   asked : ent 𝓤 (onEntry 𝓤 H A g.signature (κ₁, tt) (q₁, tt) arg passed) (Core 𝓤 H A at-mem run .pre to)
   asked = qed W ((‵ (flft κ₁ q₁) ⊛ ‵ ftrue) ∷ ‵ (owns (MutSlice (named 0) κ₁ u32 ∷ T.the-row ∷ u32 ∷ u32 ∷ []) arg passed) ∷ []) ∵ join ! $ frame ! $ done !
 
-  exits : (r : Stroke) (va : Val) (l : List ℕ) → Is E.the-row (r .told) (va ∷ []) → Says r l → length l ≡ length (y .now)
+  exits : (r : PoolAnswer) (va : Val) (l : List ℕ) → Is E.the-row (r .told) (va ∷ []) → Says r l → length l ≡ length (y .now)
       → ent 𝓤 (⋆ 𝓤 H A (‵ (fobs γ (T.the-row .coded .code (r .pool))) ∷ ‵ (fbor κ (Body (mem T.the-row) b o γ)) ∷ ‵ (flft κ q) ∷ (‵ (flft κ₁ q₁) ⊛ ‵ ftrue) ∷ ‵ (finally u32 (y .name) l) ∷ [])) (Post va)
   exits r va l isa e same =
       qed W (‵ (fobs γ (T.the-row .coded .code (r .pool))) ∷ ‵ (fbor κ (Body (mem T.the-row) b o γ)) ∷ ‵ (flft κ q) ∷ (‵ (flft κ₁ q₁) ⊛ ‵ ftrue) ∷ ‵ (finally u32 (y .name) l) ∷ []) ∵
@@ -133,7 +133,7 @@ module _ {M : Type 1} (𝓤 : URA M) (H : Heap 𝓤) (A : Atoms 𝓤) (W : Given
         use2 W (raw (Core 𝓤 H A at-mem run .pre to)) asked $
         -- [what the callee asks; the struct's cell; what a Pool owns; the open borrow; obs; auth; _8; …]
         calls-at ! fm (Core 𝓤 H A at-mem run) known to (and-then ! (load ! (from ! (stop !)) (look ! 8 refl)) (and-then ! (load ! (from ! (stop !)) (look ! 6 refl)) (and-then ! (load ! (from ! (stop !)) (look ! 16 refl)) (and-then ! (load ! (from ! (stop !)) (look ! 14 refl)) (no-more !))))) (λ u.
-        use1 W (later (some (λ (r : Stroke). ((‵ (flft κ₁ q₁) ⊛ ‵ ftrue) ⊛ ‵ (S.the-row .own r (u ∷ []))) ⊛ raw (ensured 𝓤 H A g.ended (g.clauses 𝓤 H A at-mem run) (κ₁, tt) arg tt r)))) (id⊢ 𝓤 _) $ await ! tt $ pick ! (λ r.
+        use1 W (later (some (λ (r : PoolAnswer). ((‵ (flft κ₁ q₁) ⊛ ‵ ftrue) ⊛ ‵ (S.the-row .own r (u ∷ []))) ⊛ raw (ensured 𝓤 H A g.ended (g.clauses 𝓤 H A at-mem run) (κ₁, tt) arg tt r)))) (id⊢ 𝓤 _) $ await ! tt $ pick ! (λ r.
         split ! $ move ! (1 ∷ []) $ use1 W (some (λ (zs : List ℕ × (Unit {0} × (Unit {0} × (Unit {0} × Unit {0})))). ‵ (lasts g.ended (κ₁, tt) arg zs) ⊛ raw (fact 𝓤 (Says r (zs .0))))) (id⊢ 𝓤 _) $ pick ! (λ zs.
         split ! $ move ! (1 ∷ []) $ heard ! (Says r (zs .0)) (λ e. fsplit ! $ fsplit ! $ move ! (1 ∷ []) $ feqL ! (λ same. move ! (1 ∷ []) $ drop ! $
         move ! (1 ∷ []) $ split ! $ move ! (1 ∷ []) $
@@ -167,4 +167,4 @@ hit-spec 𝓤 H 𝓜 𝓖 𝓡 =
     entered 𝓤 H (tripleOf 𝓤 H (𝓖 .A) f.signature (f.spec 𝓤 H (𝓖 .A) (𝓜 .mem) (𝓡 .run)))
     (tables 𝓤 H 𝓜 𝓡 code.env .C) (tables 𝓤 H 𝓜 𝓡 code.env .Λ) #self code.function (code.unfolded 𝓤 H 𝓜 𝓡)
     (hit-meets 𝓤 H (𝓖 .A) (givenOf 𝓤 H 𝓜 𝓖) (𝓜 .mem) (𝓡 .run) (tablesOf 𝓤 H 𝓜 (tables 𝓤 H 𝓜 𝓡 code.env))
-    (cited 𝓤 H (Core 𝓤 H (𝓖 .A) (𝓜 .mem) (𝓡 .run)) 𝓜 𝓡 code.env #core g-def.routine code.calls-join-pool·lent·strike (g-thm.met 𝓤 H 𝓜 𝓖 𝓡)))
+    (cited 𝓤 H (Core 𝓤 H (𝓖 .A) (𝓜 .mem) (𝓡 .run)) 𝓜 𝓡 code.env #core g-def.routine code.calls-join-pool·lent·hit-by-value (g-thm.met 𝓤 H 𝓜 𝓖 𝓡)))

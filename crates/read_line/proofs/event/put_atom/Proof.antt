@@ -4,13 +4,13 @@ use Rattle.read_line.proofs.event.put_atom.Statement.{statement}
 use Rattle.read_line.proofs.event.put_atom.Tie as tie
 
 -- src/event.rt:61:9
-put-numb-requires : tie.Need-put-numb-requires
-put-numb-requires c κs = search needs
+put-unstored-requires : tie.Need-put-unstored-requires
+put-unstored-requires c κs = search needs
 
 -- src/event.rt:61:9
 returns : tie.Need-returns
 unfolding enterOf
-returns c = λ s. simp (c .before .if1 .taken, c .put-numb .ensures)
+returns c = λ s. simp (c .before .if1 .taken, c .put-unstored .ensures)
 
 -- src/event.rt:64:27
 enum-told : tie.Need-enum-told
@@ -62,7 +62,7 @@ pub put-atom-spec : {M : Type 1} → statement M
 put-atom-spec =
     tie.close
     (tie.spec
-    put-numb-requires
+    put-unstored-requires
     returns
     enum-told
     root-requires

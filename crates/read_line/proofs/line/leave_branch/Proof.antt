@@ -1,6 +1,6 @@
 use mathlib.Core.Path.{sym, _∙_}
 use borrow.Author.Tests.{eq-eqb, ne-eqb}
-use Rattle.read_line.specs.Post.{cameClosed}
+use Rattle.read_line.specs.Post.{reachedClosed}
 use borrow.Author.Needs.{needs}
 use Rattle.read_line.proofs.line.leave_branch.Statement.{statement}
 use Rattle.read_line.proofs.line.leave_branch.Tie as tie
@@ -23,7 +23,7 @@ add-t9 c = search needs
 
 -- src/line.rt:171:9
 returns : tie.Need-returns
-unfolding cameClosed
+unfolding reachedClosed
 returns c = simp (eq-eqb _ _ (sym (c .before .before .peek .ensures .is) ∙ c .before .if1 .taken), ← c .pop .ensures)
 
 -- src/line.rt:177:5
@@ -32,7 +32,7 @@ stopped-requires c κs = search needs
 
 -- src/line.rt:164:1
 returns-2 : tie.Need-returns-2
-unfolding cameClosed
+unfolding reachedClosed
 returns-2 c = simp (c .stopped .ensures, ne-eqb _ _ (λ e. c .before .if1 .left (c .before .before .peek .ensures .is ∙ e)))
 
 pub leave-branch-spec : {M : Type 1} → statement M

@@ -1,5 +1,5 @@
 use mathlib.Core.Path.{sym, _∙_}
-use Rattle.read_line.specs.Post.{cameMissing}
+use Rattle.read_line.specs.Post.{reachedMissing}
 use Rattle.read_line.proofs.Turn.{atom-none, atom-lacks, atom-made}
 use borrow.Author.Needs.{needs}
 use Rattle.read_line.proofs.line.line_atom.Statement.{statement}
@@ -20,8 +20,8 @@ enum-known-m c = search needs
 put-missing-requires : tie.Need-put-missing-requires
 put-missing-requires c κs = search needs
 
-arrive-requires : tie.Need-arrive-requires
-arrive-requires c κs = search needs
+reach-requires : tie.Need-reach-requires
+reach-requires c κs = search needs
 
 enum-known-k : tie.Need-enum-known-k
 enum-known-k c = search needs
@@ -29,18 +29,18 @@ enum-known-k c = search needs
 put-atom-requires : tie.Need-put-atom-requires
 put-atom-requires c κs = search needs
 
-add-arrive : tie.Need-add-arrive
-add-arrive c = search needs
+add-reach : tie.Need-add-reach
+add-reach c = search needs
 
-arrive-requires-2 : tie.Need-arrive-requires-2
-arrive-requires-2 c κs = search needs
+reach-requires-2 : tie.Need-reach-requires-2
+reach-requires-2 c κs = search needs
 
 returns : tie.Need-returns
-unfolding cameMissing
+unfolding reachedMissing
 returns c = λ s. simp (c .stopped .ensures) (atom-none _ _ _ _ (c .before .before .before .before .before .before .before .before .pre .0) (c .before .before .before .before .before .before .before .before .pre .1) _ (sym (c .before .before .before .first-atom .ensures) ∙ c .before .enum-told .given .1))
 
 returns-2 : tie.Need-returns-2
-returns-2 c = λ s. simp (c .arrive .ensures, c .before .put-missing .ensures) (atom-lacks _ _ _ _ (c .before .before .before .before .before .before .before .before .before .before .pre .0) (c .before .before .before .before .before .before .before .before .before .before .pre .1) _ _ (sym (c .before .before .before .before .before .first-atom .ensures) ∙ c .before .before .before .m .given .1))
+returns-2 c = λ s. simp (c .reach .ensures, c .before .put-missing .ensures) (atom-lacks _ _ _ _ (c .before .before .before .before .before .before .before .before .before .before .pre .0) (c .before .before .before .before .before .before .before .before .before .before .pre .1) _ _ (sym (c .before .before .before .before .before .first-atom .ensures) ∙ c .before .before .before .m .given .1))
 
 same-length : tie.Need-same-length
 same-length c = search needs
@@ -52,7 +52,7 @@ same-length-3 : tie.Need-same-length-3
 same-length-3 c = search needs
 
 returns-3 : tie.Need-returns-3
-returns-3 c = λ s. simp (c .arrive2 .ensures) (atom-made _ _ _ _ (c .before .before .before .before .before .before .before .before .before .before .before .before .before .before .before .before .before .before .before .pre .0) (c .before .before .before .before .before .before .before .before .before .before .before .before .before .before .before .before .before .before .before .pre .1) _ _ _ (sym (c .before .before .before .before .before .before .before .before .before .before .before .before .before .before .first-atom .ensures) ∙ c .before .before .before .before .before .before .before .before .before .before .before .before .k .given .1) _ (c .before .before .before .before .before .before .before .put-atom .ensures s))
+returns-3 c = λ s. simp (c .reach2 .ensures) (atom-made _ _ _ _ (c .before .before .before .before .before .before .before .before .before .before .before .before .before .before .before .before .before .before .before .pre .0) (c .before .before .before .before .before .before .before .before .before .before .before .before .before .before .before .before .before .before .before .pre .1) _ _ _ (sym (c .before .before .before .before .before .before .before .before .before .before .before .before .before .before .first-atom .ensures) ∙ c .before .before .before .before .before .before .before .before .before .before .before .before .k .given .1) _ (c .before .before .before .before .before .before .before .put-atom .ensures s))
 
 pub line-atom-spec : {M : Type 1} → statement M
 line-atom-spec =
@@ -63,11 +63,11 @@ line-atom-spec =
     stopped-requires
     enum-known-m
     put-missing-requires
-    arrive-requires
+    reach-requires
     enum-known-k
     put-atom-requires
-    add-arrive
-    arrive-requires-2
+    add-reach
+    reach-requires-2
     returns
     returns-2
     same-length

@@ -1,5 +1,5 @@
 use mathlib.Core.Path.{sym, _∙_}
-use Rattle.read_line.specs.Post.{cameMissing}
+use Rattle.read_line.specs.Post.{reachedMissing}
 use Rattle.read_line.proofs.Counts.{small}
 use native.Mathlib.Omega.{arith}
 use Rattle.read_token.proofs.Within.{ring-in}
@@ -23,8 +23,8 @@ enum-known-m c = search needs
 put-missing-requires : tie.Need-put-missing-requires
 put-missing-requires c κs = search needs
 
-arrive-requires : tie.Need-arrive-requires
-arrive-requires c κs = search needs
+reach-requires : tie.Need-reach-requires
+reach-requires c κs = search needs
 
 enum-known-number : tie.Need-enum-known-number
 enum-known-number c = search needs
@@ -36,15 +36,15 @@ put-ring-requires : tie.Need-put-ring-requires
 put-ring-requires c κs =
     (small (c .before .before .before .before .before .before .before .before .before .before .pre .0 .counted) (omega (arith, c .before .before .before .before .before .before .before .before .before .before .pre .0 .within, c .before .before .before .before .before .before .before .before .before .before .pre .0 .short)), ring-in _ _ (sym (c .before .before .before .before .before .read-rnum .ensures) ∙ c .before .before .before .number .given .1) .0)
 
-arrive-requires-2 : tie.Need-arrive-requires-2
-arrive-requires-2 c κs = search needs
+reach-requires-2 : tie.Need-reach-requires-2
+reach-requires-2 c κs = search needs
 
 returns : tie.Need-returns
-unfolding cameMissing
+unfolding reachedMissing
 returns c = λ a. simp (c .stopped .ensures) (ring-none _ _ _ _ (c .before .before .before .before .before .before .before .before .pre .0) (c .before .before .before .before .before .before .before .before .pre .1) _ (sym (c .before .before .before .read-rnum .ensures) ∙ c .before .enum-told .given .1))
 
 returns-2 : tie.Need-returns-2
-returns-2 c = λ a. simp (c .arrive .ensures, c .before .put-missing .ensures) (ring-lacks _ _ _ _ (c .before .before .before .before .before .before .before .before .before .before .pre .0) (c .before .before .before .before .before .before .before .before .before .before .pre .1) _ _ (sym (c .before .before .before .before .before .read-rnum .ensures) ∙ c .before .before .before .m .given .1))
+returns-2 c = λ a. simp (c .reach .ensures, c .before .put-missing .ensures) (ring-lacks _ _ _ _ (c .before .before .before .before .before .before .before .before .before .before .pre .0) (c .before .before .before .before .before .before .before .before .before .before .pre .1) _ _ (sym (c .before .before .before .before .before .read-rnum .ensures) ∙ c .before .before .before .m .given .1))
 
 same-length : tie.Need-same-length
 same-length c = search needs
@@ -53,7 +53,7 @@ same-length-2 : tie.Need-same-length-2
 same-length-2 c = search needs
 
 returns-3 : tie.Need-returns-3
-returns-3 c = λ a. simp (c .arrive2 .ensures) (ring-made _ _ _ _ (c .before .before .before .before .before .before .before .before .before .before .before .before .before .before .before .before .pre .0) (c .before .before .before .before .before .before .before .before .before .before .before .before .before .before .before .before .pre .1) _ _ _ (sym (c .before .before .before .before .before .before .before .before .before .before .before .read-rnum .ensures) ∙ c .before .before .before .before .before .before .before .before .before .number .given .1) _ (c .before .before .before .before .before .put-ring .ensures a))
+returns-3 c = λ a. simp (c .reach2 .ensures) (ring-made _ _ _ _ (c .before .before .before .before .before .before .before .before .before .before .before .before .before .before .before .before .pre .0) (c .before .before .before .before .before .before .before .before .before .before .before .before .before .before .before .before .pre .1) _ _ _ (sym (c .before .before .before .before .before .before .before .before .before .before .before .read-rnum .ensures) ∙ c .before .before .before .before .before .before .before .before .before .number .given .1) _ (c .before .before .before .before .before .put-ring .ensures a))
 
 pub line-ring-spec : {M : Type 1} → statement M
 line-ring-spec =
@@ -64,11 +64,11 @@ line-ring-spec =
     stopped-requires
     enum-known-m
     put-missing-requires
-    arrive-requires
+    reach-requires
     enum-known-number
     cast-put-ring
     put-ring-requires
-    arrive-requires-2
+    reach-requires-2
     returns
     returns-2
     same-length

@@ -19,8 +19,8 @@ enum-known-m c = search needs
 put-missing-requires : tie.Need-put-missing-requires
 put-missing-requires c κs = search needs
 
-arrive-requires : tie.Need-arrive-requires
-arrive-requires c κs = search needs
+reach-requires : tie.Need-reach-requires
+reach-requires c κs = search needs
 
 enum-known-k : tie.Need-enum-known-k
 enum-known-k c = search needs
@@ -28,11 +28,11 @@ enum-known-k c = search needs
 put-atom-requires : tie.Need-put-atom-requires
 put-atom-requires c κs = search needs
 
-add-arrive : tie.Need-add-arrive
-add-arrive c = search needs
+add-reach : tie.Need-add-reach
+add-reach c = search needs
 
-arrive-requires-2 : tie.Need-arrive-requires-2
-arrive-requires-2 c κs = search needs
+reach-requires-2 : tie.Need-reach-requires-2
+reach-requires-2 c κs = search needs
 
 same-length : tie.Need-same-length
 same-length c = search needs
@@ -47,7 +47,7 @@ returns : tie.Need-returns
 returns c = union-ring _ _ _ _ (c .before .before .before .before .before .before .before .before .before .before .before .before .before .before .before .before .pre .0) (c .before .before .before .before .before .before .before .before .before .before .before .before .before .before .before .before .pre .1) _ (sym (c .before .before .before .before .before .before .before .before .before .before .first-atom .ensures) ∙ c .before .before .before .before .before .before .before .before .enum-told .given .1) _ _ _ (c .before .before .before .before .line-ring .ensures _)
 
 returns-2 : tie.Need-returns-2
-returns-2 c = simp (c .arrive .ensures, c .before .put-missing .ensures) (union-lacks _ _ _ _ (c .before .before .before .before .before .before .before .before .before .before .before .pre .0) (c .before .before .before .before .before .before .before .before .before .before .before .pre .1) _ _ (sym (c .before .before .before .before .before .first-atom .ensures) ∙ c .before .before .before .m .given .1))
+returns-2 c = simp (c .reach .ensures, c .before .put-missing .ensures) (union-lacks _ _ _ _ (c .before .before .before .before .before .before .before .before .before .before .before .pre .0) (c .before .before .before .before .before .before .before .before .before .before .before .pre .1) _ _ (sym (c .before .before .before .before .before .first-atom .ensures) ∙ c .before .before .before .m .given .1))
 
 same-length-4 : tie.Need-same-length-4
 same-length-4 c = search needs
@@ -59,7 +59,7 @@ same-length-6 : tie.Need-same-length-6
 same-length-6 c = search needs
 
 returns-3 : tie.Need-returns-3
-returns-3 c = simp (c .arrive2 .ensures) (union-made _ _ _ _ (c .before .before .before .before .before .before .before .before .before .before .before .before .before .before .before .before .before .before .before .before .pre .0) (c .before .before .before .before .before .before .before .before .before .before .before .before .before .before .before .before .before .before .before .before .pre .1) _ _ _ (sym (c .before .before .before .before .before .before .before .before .before .before .before .before .before .before .first-atom .ensures) ∙ c .before .before .before .before .before .before .before .before .before .before .before .before .k .given .1) _ (c .before .before .before .before .before .before .before .put-atom .ensures _))
+returns-3 c = simp (c .reach2 .ensures) (union-made _ _ _ _ (c .before .before .before .before .before .before .before .before .before .before .before .before .before .before .before .before .before .before .before .before .pre .0) (c .before .before .before .before .before .before .before .before .before .before .before .before .before .before .before .before .before .before .before .before .pre .1) _ _ _ (sym (c .before .before .before .before .before .before .before .before .before .before .before .before .before .before .first-atom .ensures) ∙ c .before .before .before .before .before .before .before .before .before .before .before .before .k .given .1) _ (c .before .before .before .before .before .before .before .put-atom .ensures _))
 
 pub line-union-spec : {M : Type 1} → statement M
 line-union-spec =
@@ -70,11 +70,11 @@ line-union-spec =
     line-ring-requires
     enum-known-m
     put-missing-requires
-    arrive-requires
+    reach-requires
     enum-known-k
     put-atom-requires
-    add-arrive
-    arrive-requires-2
+    add-reach
+    reach-requires-2
     same-length
     same-length-2
     same-length-3

@@ -1,4 +1,4 @@
-use Rattle.read_line.specs.Post.{cameMissing}
+use Rattle.read_line.specs.Post.{reachedMissing}
 use borrow.Author.Needs.{needs}
 use Rattle.read_line.proofs.line.stopped.Statement.{statement}
 use Rattle.read_line.proofs.line.stopped.Tie as tie
@@ -9,13 +9,13 @@ missing-character-requires c κs = search needs
 put-missing-requires : tie.Need-put-missing-requires
 put-missing-requires c κs = search needs
 
-arrive-requires : tie.Need-arrive-requires
-arrive-requires c κs = search needs
+reach-requires : tie.Need-reach-requires
+reach-requires c κs = search needs
 
 returns : tie.Need-returns
-unfolding cameMissing
-returns c = simp (c .arrive .ensures, ← c .before .before .missing-character .ensures, ← c .before .put-missing .ensures)
+unfolding reachedMissing
+returns c = simp (c .reach .ensures, ← c .before .before .missing-character .ensures, ← c .before .put-missing .ensures)
 
 pub stopped-spec : {M : Type 1} → statement M
 stopped-spec =
-    tie.close (tie.spec missing-character-requires put-missing-requires arrive-requires returns)
+    tie.close (tie.spec missing-character-requires put-missing-requires reach-requires returns)

@@ -1,5 +1,5 @@
 use native.Mathlib.Nat.{add-zero}
-use Rattle.read_token.specs.Scan.{bondOf, markWidth, bondAt}
+use Rattle.read_token.specs.Scan.{signKind, markWidth, bondAt}
 use borrow.Author.Needs.{needs}
 use Rattle.read_token.proofs.read_bond.read_bond.Statement.{statement}
 use Rattle.read_token.proofs.read_bond.read_bond.Tie as tie
@@ -10,7 +10,7 @@ peek-requires c κs = search needs
 
 -- src/read_bond.rt:62:9
 returns : tie.Need-returns
-unfolding bondAt bondOf markWidth
+unfolding bondAt signKind markWidth
 returns c = simp (← c .before .peek .ensures .is, c .if1 .taken, add-zero)
 
 -- src/read_bond.rt:67:9

@@ -1,4 +1,4 @@
--- `walk::lent::walk_in` meets its contract: a walk of its MIR, by hand. The pool's borrow is opened and an empty pool is written whole; it is read whole and `turns::walk_afresh` is called on it, the numbers and the tables, of which those that change go to the callee for good; the pool is written whole from the answer, and the borrow is closed.
+-- `walk::lent::walk_in` meets its contract: a walk of its MIR, by hand. The pool's borrow is opened and an empty pool is written whole; it is read whole and `turns::walk_cleared` is called on it, the numbers and the tables, of which those that change go to the callee for good; the pool is written whole from the answer, and the borrow is closed.
 -- Assumes nothing.
 use mathlib.Core.Path.{_≡_, refl, ap, subst}
 use Prim.Native.Nat.{ℕ, _<_, _^_}
@@ -56,10 +56,10 @@ use Rattle.walk.proofs.turn.Turned.Laws as S′
 use Rattle.walk.proofs.walker.Walker as Z
 use Rattle.walk.proofs.walker.Walker.Laws as Z′
 use Rattle.walk.proofs.Whole.{Whole, mach}
-use Rattle.walk.proofs.turns.walk_afresh as g
-use Rattle.walk.proofs.turns.walk_afresh.Symbol as g-def
-use Rattle.walk.proofs.turns.walk_afresh.Symbol.{name as #core}
-use Rattle.walk.proofs.turns.walk_afresh.Met as g-thm
+use Rattle.walk.proofs.turns.walk_cleared as g
+use Rattle.walk.proofs.turns.walk_cleared.Symbol as g-def
+use Rattle.walk.proofs.turns.walk_cleared.Symbol.{name as #core}
+use Rattle.walk.proofs.turns.walk_cleared.Met as g-thm
 use Rattle.walk.proofs.lent.walk_in.Key.{name as #self}
 use Rattle.walk.proofs.lent.walk_in as f
 use Rattle.walk.proofs.lent.walk_in.Statement as stated
@@ -136,7 +136,7 @@ module _ {M : Type 1} (𝓤 : URA M) (H : Heap 𝓤) (A : Atoms 𝓤) (W : Given
   abbrev Post : Val → SProp 𝓤
   Post = walkOf 𝓤 H A f.ended stayed (f.clauses 𝓤 H A at-mem run) .post (((κp, (κ0, (κ1, (κ2, (κ3, (κ4, (κ5, (κ6, (κ7, (κ8, (κ9, tt))))))))))), (qp, (q0, (q1, (q2, (q3, (q4, (q5, (q6, (q7, (q8, (q9, tt))))))))))), bounds, x, at), tt)
 
-  -- the call of `turns::walk_afresh` with the pool p
+  -- the call of `turns::walk_cleared` with the pool p
   abbrev Arg′ : Type 0
   Arg′ = Pool × (ℕ × (ℕ × (RefT (List ℕ) × (RefT (List ℕ) × (RefT (List ℕ) × (RefT (List ℕ) × (RefT (List ℕ) × (RefT (List ℕ) × (RefT (List ℕ) × (RefT (List ℕ) × (RefT (List ℕ) × (RefT (List ℕ) × Unit {0}))))))))))))
 
@@ -256,4 +256,4 @@ walk-in-spec 𝓤 H 𝓜 𝓖 𝓡 =
     (tables 𝓤 H 𝓜 𝓡 code.env .C) (tables 𝓤 H 𝓜 𝓡 code.env .Λ) #self code.function (code.unfolded 𝓤 H 𝓜 𝓡)
     (meets 𝓤 H (𝓖 .A) (givenOf 𝓤 H 𝓜 𝓖) (𝓜 .mem) (𝓡 .run) (tablesOf 𝓤 H 𝓜 (tables 𝓤 H 𝓜 𝓡 code.env))
     (cited 𝓤 H (Empty 𝓤 H (𝓖 .A) (𝓜 .mem) (𝓡 .run)) 𝓜 𝓡 code.env #empty e-def.routine code.calls-join-pool·Pool·empty (e-thm.met 𝓤 H 𝓜 𝓖 𝓡))
-    (cited 𝓤 H (Core 𝓤 H (𝓖 .A) (𝓜 .mem) (𝓡 .run)) 𝓜 𝓡 code.env #core g-def.routine code.calls-walk·turns·walk-afresh (g-thm.met 𝓤 H 𝓜 𝓖 𝓡)))
+    (cited 𝓤 H (Core 𝓤 H (𝓖 .A) (𝓜 .mem) (𝓡 .run)) 𝓜 𝓡 code.env #core g-def.routine code.calls-walk·turns·walk-cleared (g-thm.met 𝓤 H 𝓜 𝓖 𝓡)))

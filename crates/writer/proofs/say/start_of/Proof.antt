@@ -1,5 +1,5 @@
 -- Where the last pieces start, which is never past the end of the line.
-use Rattle.writer.specs.Tables.{startOf}
+use Rattle.writer.specs.Tables.{lastStart}
 use Rattle.builder.specs.Limits.{lesserOf}
 use borrow.Author.Tests.{eq-eqb, ne-eqb}
 use Prim.Native.Nat.{ℕ}
@@ -10,7 +10,7 @@ use Rattle.writer.proofs.say.start_of.Tie as tie
 
 -- src/say.rt:102:9
 returns : tie.Need-returns
-unfolding startOf
+unfolding lastStart
 returns c = (simp (eq-eqb _ _ (c .if1 .taken)), search needs)
 
 -- src/say.rt:104:32
@@ -31,7 +31,7 @@ lesser-requires c κs = search needs
 
 -- src/say.rt:97:1
 returns-2 : tie.Need-returns-2
-unfolding startOf
+unfolding lastStart
 returns-2 c = (simp (ne-eqb _ _ (c .before .before .before .if1 .left)) (c .lesser .ensures .is ∙ ap (λ (k : ℕ). lesserOf (c .before .before .before .before .before .args .w .len) k) (c .before .look .ensures)), c .lesser .ensures .most)
 
 pub start-of-spec : {M : Type 1} → statement M

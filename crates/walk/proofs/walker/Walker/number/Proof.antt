@@ -44,7 +44,7 @@ use denote.Triple.Walked.{says, Stays, gave-slice, stay-none, walkOf, AllGo, goe
 use denote.Triple.Clauses.{ensured, lasts}
 use denote.Exit.{yes}
 use Rattle.join_pool.specs.Pairs.{hitOf}
-use Rattle.join_pool.specs.Strokes.{stroke, strokeOf}
+use Rattle.join_pool.specs.Strokes.{withAnswer, answerApart}
 use Rattle.join_pool.specs.declared.Pool.{Pool}
 use Rattle.join_pool.specs.declared.lent.Told.{Told}
 use Rattle.join_pool.proofs.Pool as T
@@ -110,13 +110,13 @@ module _ {M : Type 1} (𝓤 : URA M) (H : Heap 𝓤) (A : Atoms 𝓤) (W : Given
 
   -- what the callee says of the last pool, its answer and the last words
   abbrev Says : Pool → Told → List ℕ → Type 0
-  Says p r l = (stroke p r ≡ strokeOf (z .pool) (hitOf (z .pool) (y .now) m n .answer)) × (l ≡ hitOf (z .pool) (y .now) m n .left)
+  Says p r l = (withAnswer p r ≡ answerApart (z .pool) (hitOf (z .pool) (y .now) m n .answer)) × (l ≡ hitOf (z .pool) (y .now) m n .left)
 
   asked : (l α : ℕ) (δ : GName) → ent 𝓤 (onEntry 𝓤 H A g.signature (α ∷ [], (κ, tt)) (fullShare, (q, tt)) (arg l δ) (passed l)) (Core 𝓤 H A at-mem run .pre (to l α δ))
   asked l α δ = qed W ((‵ (flft (α ∷ []) fullShare) ⊛ ‵ (flft κ q) ⊛ ‵ ftrue) ∷ ‵ (owns (MutRef (named 0) (α ∷ []) T.the-row ∷ MutSlice (named 1) κ u32 ∷ u32 ∷ u32 ∷ []) (arg l δ) (passed l)) ∷ []) ∵ join ! $ frame ! $ done !
 
   abbrev made : Pool → Told → Numbered
-  made p r = numberedIn z (stroke p r)
+  made p r = numberedIn z (withAnswer p r)
 
   exits : (p : Pool) (r : Told) (va : Val) (l : List ℕ) → Is S.the-row (made p r) (va ∷ []) → Says p r l → length l ≡ length (y .now)
       → ent 𝓤 (⋆ 𝓤 H A ((‵ (flft κ q) ⊛ ‵ ftrue) ∷ ‵ (finally u32 (y .name) l) ∷ [])) (Post va)

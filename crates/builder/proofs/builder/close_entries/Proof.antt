@@ -1,8 +1,8 @@
 use native.Mathlib.Numerals.{add-one}
 use Rattle.builder.proofs.Sums.{add-two}
 use borrow.Author.Needs.{needs}
-use Rattle.builder.proofs.builder.settle.Statement.{statement}
-use Rattle.builder.proofs.builder.settle.Tie as tie
+use Rattle.builder.proofs.builder.close_entries.Statement.{statement}
+use Rattle.builder.proofs.builder.close_entries.Tie as tie
 
 -- src/builder.rt:243:19
 add-poke : tie.Need-add-poke
@@ -41,8 +41,8 @@ returns : tie.Need-returns
 returns c =
     simp (c .before .before .put-entry .ensures, c .before .before .before .code2 .ensures .is, c .before .before .before .before .before .before .before .poke2 .ensures, c .before .before .before .before .before .before .before .before .before .before .before .poke .ensures, c .before .before .before .before .before .before .before .before .before .before .before .before .code .ensures .is, add-one, add-two)
 
-pub settle-spec : {M : Type 1} → statement M
-settle-spec =
+pub close-entries-spec : {M : Type 1} → statement M
+close-entries-spec =
     tie.close
     (tie.spec
     add-poke

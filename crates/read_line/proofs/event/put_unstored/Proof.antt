@@ -1,7 +1,7 @@
-use Rattle.read_line.specs.Events.{numbOf, judged}
+use Rattle.read_line.specs.Events.{unstoredOf, markJudged}
 use borrow.Author.Needs.{needs}
-use Rattle.read_line.proofs.event.put_numb.Statement.{statement}
-use Rattle.read_line.proofs.event.put_numb.Tie as tie
+use Rattle.read_line.proofs.event.put_unstored.Statement.{statement}
+use Rattle.read_line.proofs.event.put_unstored.Tie as tie
 
 -- src/event.rt:35:22
 enum-told : tie.Need-enum-told
@@ -37,21 +37,21 @@ count-requires-2 c κs = search needs
 
 -- src/event.rt:30:1
 returns : tie.Need-returns
-unfolding numbOf judged
+unfolding unstoredOf markJudged
 returns c = simp (c .before .enum-told .given .1, ← c .count .ensures)
 
 -- src/event.rt:30:1
 returns-2 : tie.Need-returns-2
-unfolding numbOf judged
+unfolding unstoredOf markJudged
 returns-2 c = simp (c .before .before .before .before .enum-told2 .given .1, ← c .before .before .before .invert .ensures, c .before .enum-told3 .given .1, ← c .refused .ensures)
 
 -- src/event.rt:30:1
 returns-3 : tie.Need-returns-3
-unfolding numbOf judged
+unfolding unstoredOf markJudged
 returns-3 c = simp (c .before .before .before .before .enum-told2 .given .1, ← c .before .before .before .invert .ensures, c .before .enum-told4 .given .1, ← c .count2 .ensures)
 
-pub put-numb-spec : {M : Type 1} → statement M
-put-numb-spec =
+pub put-unstored-spec : {M : Type 1} → statement M
+put-unstored-spec =
     tie.close
     (tie.spec
     enum-told

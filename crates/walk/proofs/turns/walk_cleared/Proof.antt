@@ -1,7 +1,7 @@
 -- The turns from words that are cleared first.
 use borrow.Author.Needs.{needs}
-use Rattle.walk.proofs.turns.walk_afresh.Statement.{statement}
-use Rattle.walk.proofs.turns.walk_afresh.Tie as tie
+use Rattle.walk.proofs.turns.walk_cleared.Statement.{statement}
+use Rattle.walk.proofs.turns.walk_cleared.Tie as tie
 
 clear-requires : tie.Need-clear-requires
 clear-requires c κs = search needs
@@ -33,8 +33,8 @@ same-length-7 c = search needs
 returns : tie.Need-returns
 returns c = rw (c .before .before .before .before .before .before .before .before .before .before .before .before .before .before .before .before .before .before .before .before .before .before .before .before .clear .ensures) at (c .before .before .before .before .before .before .before .before .before .before .before .before .before .before .walk .ensures)
 
-pub walk-afresh-spec : {M : Type 1} → statement M
-walk-afresh-spec =
+pub walk-cleared-spec : {M : Type 1} → statement M
+walk-cleared-spec =
     tie.close
     (tie.spec
     clear-requires

@@ -8,19 +8,19 @@ use Rattle.join_pool.specs.declared.Given.{Given}
 use Rattle.join_pool.specs.declared.Given.the-variants.{Number, Full}
 use Rattle.join_pool.specs.declared.lent.Told.the-variants as told
 use Rattle.join_pool.specs.Pairs.{Hits, hits, hitOf}
-use Rattle.join_pool.specs.Strokes.{stroke, strokeOf}
-use Rattle.join_pool.proofs.lent.strike.Statement.{statement}
-use Rattle.join_pool.proofs.lent.strike.Tie as tie
+use Rattle.join_pool.specs.Strokes.{withAnswer, answerApart}
+use Rattle.join_pool.proofs.lent.hit_by_value.Statement.{statement}
+use Rattle.join_pool.proofs.lent.hit_by_value.Tie as tie
 
 number-given : (p : Pool) (pairs pairs′ : List ℕ) (a b : ℕ) (g : Given) → hits g pairs′ ≡ hitOf p pairs a b → (q : Pool) (n : ℕ) → g ≡ Number q n
-    → (stroke q (told.Number n) ≡ strokeOf p (hitOf p pairs a b .answer)) × (pairs′ ≡ hitOf p pairs a b .left)
-unfolding strokeOf
-number-given p pairs pairs′ a b g h q n e = (ap (strokeOf p) (sym e ∙ ap (λ (x : Hits). x .answer) h), ap (λ (x : Hits). x .left) h)
+    → (withAnswer q (told.Number n) ≡ answerApart p (hitOf p pairs a b .answer)) × (pairs′ ≡ hitOf p pairs a b .left)
+unfolding answerApart
+number-given p pairs pairs′ a b g h q n e = (ap (answerApart p) (sym e ∙ ap (λ (x : Hits). x .answer) h), ap (λ (x : Hits). x .left) h)
 
 none-given : (p : Pool) (pairs pairs′ : List ℕ) (a b : ℕ) (g : Given) → hits g pairs′ ≡ hitOf p pairs a b → g ≡ Full
-    → (stroke p told.Full ≡ strokeOf p (hitOf p pairs a b .answer)) × (pairs′ ≡ hitOf p pairs a b .left)
-unfolding strokeOf
-none-given p pairs pairs′ a b g h e = (ap (strokeOf p) (sym e ∙ ap (λ (x : Hits). x .answer) h), ap (λ (x : Hits). x .left) h)
+    → (withAnswer p told.Full ≡ answerApart p (hitOf p pairs a b .answer)) × (pairs′ ≡ hitOf p pairs a b .left)
+unfolding answerApart
+none-given p pairs pairs′ a b g h e = (ap (answerApart p) (sym e ∙ ap (λ (x : Hits). x .answer) h), ap (λ (x : Hits). x .left) h)
 
 hit-requires : tie.Need-hit-requires
 hit-requires c κs = search needs
@@ -43,7 +43,7 @@ same-length-2 c = search needs
 returns-2 : tie.Need-returns-2
 returns-2 c = none-given _ _ _ _ _ _ (c .before .before .before .before .hit .ensures) (c .enum-told .given .1)
 
-pub strike-spec : {M : Type 1} → statement M
-strike-spec =
+pub hit-by-value-spec : {M : Type 1} → statement M
+hit-by-value-spec =
     tie.close
     (tie.spec hit-requires enum-known-q enum-told same-length returns same-length-2 returns-2)
