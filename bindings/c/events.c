@@ -1,7 +1,7 @@
 /* Builds a ring event by event, writes it, and tells a writer the same events. From the project's root:
  *
  *     tools/archive
- *     cc -Ibindings/c bindings/c/events.c target/native/libexport.a -o target/native/events
+ *     cc -Ibindings/c bindings/c/events.c target/native/libmavisdrok.a -o target/native/events
  *     target/native/events */
 #include "mavisdrok.h"
 

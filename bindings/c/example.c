@@ -1,7 +1,7 @@
 /* Reads a line and writes it again. From the project's root:
  *
  *     tools/archive
- *     cc -Ibindings/c bindings/c/example.c target/native/libexport.a -o target/native/example
+ *     cc -Ibindings/c bindings/c/example.c target/native/libmavisdrok.a -o target/native/example
  *     target/native/example 'C1CC[C@H]1F' */
 #include "mavisdrok.h"
 

@@ -3,7 +3,7 @@
  * it stood, and what it zeroes must be zero. From the project's root:
  *
  *     tools/archive
- *     cc -g -Ibindings/c bindings/c/fuzz.c target/native/libexport.a -o target/native/fuzz
+ *     cc -g -Ibindings/c bindings/c/fuzz.c target/native/libmavisdrok.a -o target/native/fuzz
  *     valgrind --error-exitcode=1 target/native/fuzz 1 20000
  *
  * The arguments are a seed and a number of rounds. It prints how often each number was answered. */

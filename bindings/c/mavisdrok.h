@@ -28,6 +28,10 @@
 extern "C" {
 #endif
 
+/* The version of this header, and of the library: mavisdrok_version tells it of a library at hand. */
+#define MAVISDROK_VERSION "0.1.0"
+const char *mavisdrok_version(void);
+
 /* The largest job: bytes of a line, atoms and bond entries; and the words of an atom and of an entry. */
 #define MAVISDROK_TEXT 8192
 #define MAVISDROK_ATOMS 1024
