@@ -17,11 +17,11 @@
 
 static uint64_t report[MAVISDROK_REPORT_WORDS];
 
-/* An answer other than 0 ends the program. */
+/* A refusal ends the program. */
 static void accepted(void)
 {
-    if (report[0] != 0) {
-        printf("refused: %u %u %u\n", (unsigned)report[0], (unsigned)report[1], (unsigned)report[2]);
+    if (report[0] != MAVISDROK_DONE) {
+        printf("refused: %s %u %u\n", mavisdrok_name(report[0]), (unsigned)report[1], (unsigned)report[2]);
         exit(1);
     }
 }

@@ -20,11 +20,11 @@ int main(int argc, char **argv)
 
     mavisdrok_read((const uint8_t *)line, strlen(line), atoms, sizeof atoms / sizeof *atoms,
                    bonds, sizeof bonds / sizeof *bonds, report, MAVISDROK_REPORT_WORDS);
-    if (report[0] == 0)
+    if (report[0] == MAVISDROK_DONE)
         mavisdrok_write(atoms, sizeof atoms / sizeof *atoms, report[1], bonds, sizeof bonds / sizeof *bonds, report[2],
                         out, sizeof out, report, MAVISDROK_REPORT_WORDS);
-    if (report[0] != 0) {
-        printf("refused: %u %u %u\n", (unsigned)report[0], (unsigned)report[1], (unsigned)report[2]);
+    if (report[0] != MAVISDROK_DONE) {
+        printf("refused: %s %u %u\n", mavisdrok_name(report[0]), (unsigned)report[1], (unsigned)report[2]);
         return 1;
     }
     printf("%.*s\n", (int)report[1], (const char *)out);

@@ -3,9 +3,9 @@
  *
  * Every call takes any bytes, any tables, any words and any counts, ends, and writes nothing outside what it is lent.
  *
- * What is lent: a slice is a pointer and a length in elements. The pointer is never null and is aligned for its elements, one
- * byte, four or eight, also where the length is 0. The slices lent to one call do not overlap, but two that are only read may.
- * What is lent to be written holds values already, whichever. A call keeps no pointer.
+ * What is lent: a slice is a pointer and a length in elements. The pointer is aligned for its elements, one byte, four or
+ * eight; it may be null where the length is 0, and nowhere else. The slices lent to one call do not overlap, but two that are
+ * only read may. What is lent to be written holds values already, whichever. A call keeps no pointer.
  *
  * report: three words, as far as there is room: the desk's number, and the two values that it carries, 0 where it carries
  * fewer: crates/desk_report/specs/Report.antt has them for each answer. Words after the third are untouched. So are words of a
@@ -49,6 +49,30 @@ const char *mavisdrok_version(void);
 #define MAVISDROK_POOL_WORDS 2
 #define MAVISDROK_RINGS 100
 #define MAVISDROK_PAIRS 300
+
+/* The desk's numbers: the first word of a report. docs/LABEL.md says in words what each means. */
+enum mavisdrok_number {
+    MAVISDROK_DONE,
+    MAVISDROK_END_OF_LINE,
+    MAVISDROK_CHARACTER,
+    MAVISDROK_JOIN,
+    MAVISDROK_RNUM,
+    MAVISDROK_UNKNOWN_TARGET,
+    MAVISDROK_LOOP,
+    MAVISDROK_HALF_BOND,
+    MAVISDROK_DUPLICATE_BOND,
+    MAVISDROK_INCOMPATIBLE_BOND,
+    MAVISDROK_INVERSION,
+    MAVISDROK_RING_NUMBERS,
+    MAVISDROK_TEXT_TOO_LONG,
+    MAVISDROK_ATOM_ROOM,
+    MAVISDROK_BOND_ROOM,
+    MAVISDROK_NESTING,
+    MAVISDROK_OUT_ROOM,
+    MAVISDROK_BAD_TABLE,
+    MAVISDROK_NO_ATOM,
+    MAVISDROK_OVERPOP
+};
 
 /* A ring number, 0 to 99. One that is larger is answered 17. */
 typedef uint32_t mavisdrok_rnum;
@@ -217,6 +241,137 @@ void mavisdrok_spell_bond(uint8_t *out, size_t out_len, uint32_t bond,
 
 void mavisdrok_spell_rnum(uint8_t *out, size_t out_len, mavisdrok_rnum number,
                           uint64_t *report, size_t report_len);
+
+/* ---- What the words say
+ *
+ * These functions stand in this header alone: the library has proved code, and its version. */
+
+/* The name of one of the desk's numbers. */
+static inline const char *mavisdrok_name(uint64_t number)
+{
+    static const char *const names[] = {
+        "Done", "EndOfLine", "Character", "Join", "Rnum", "UnknownTarget", "Loop", "HalfBond", "DuplicateBond",
+        "IncompatibleBond", "Inversion", "RingNumbers", "TextTooLong", "AtomRoom", "BondRoom", "Nesting", "OutRoom",
+        "BadTable", "NoAtom", "Overpop"
+    };
+    return number <= MAVISDROK_OVERPOP ? names[number] : "NoSuchNumber";
+}
+
+/* What a field of an atom holds where there is none: no isotope, number of hydrogens, charge or map is this number. */
+#define MAVISDROK_NONE (-1000)
+
+/* An atom. A charge of 0, 0 hydrogens and isotope 0 are written in the line, and are not the same as none. */
+struct mavisdrok_atom {
+    int bracket;        /* whether it stands in brackets; if not, each field below is none */
+    const char *symbol; /* "*", an element, or as b c n o p s se where it is aromatic */
+    int isotope;        /* 0 to 999 */
+    int configuration;  /* 0 for none; mavisdrok_configuration names the others */
+    int hydrogens;      /* 0 to 9 */
+    int charge;         /* -15 to 15 */
+    int map;            /* 0 to 999 */
+    uint32_t entries;   /* how many bond entries it has: they follow those of the atoms before it */
+};
+
+/* An entry of a bond, one of its two. */
+struct mavisdrok_bond {
+    int kind;        /* MAVISDROK_ELIDED to MAVISDROK_DOWN */
+    uint32_t target; /* the number of the other atom, from 0 */
+};
+
+/* The numbers of docs/PACKING.md: the first of each sort of atom, and the room of each field but the last of a word. */
+#define MAVISDROK_FIRST_ALIPHATIC 2
+#define MAVISDROK_FIRST_AROMATIC 14
+#define MAVISDROK_FIRST_BRACKET 20
+#define MAVISDROK_SYMBOLS 127
+#define MAVISDROK_CONFIGURATIONS 58
+#define MAVISDROK_KIND_ROOM 256
+#define MAVISDROK_NUMBER_ROOM 1001
+#define MAVISDROK_CHARGE_ROOM 32
+#define MAVISDROK_NO_NUMBER 1000
+#define MAVISDROK_NO_HYDROGENS 10
+#define MAVISDROK_NO_CHARGE 31
+#define MAVISDROK_CHARGE_ZERO 15
+
+/* The name of a configuration, "TH1" to "OH30", "" for none and for a number that is none. */
+static inline const char *mavisdrok_configuration(int configuration)
+{
+    static const char *const names[] = {
+        "", "TH1", "TH2", "AL1", "AL2", "SP1", "SP2", "SP3", "TB1", "TB2", "TB3", "TB4", "TB5", "TB6", "TB7", "TB8", "TB9",
+        "TB10", "TB11", "TB12", "TB13", "TB14", "TB15", "TB16", "TB17", "TB18", "TB19", "TB20", "OH1", "OH2", "OH3", "OH4",
+        "OH5", "OH6", "OH7", "OH8", "OH9", "OH10", "OH11", "OH12", "OH13", "OH14", "OH15", "OH16", "OH17", "OH18", "OH19",
+        "OH20", "OH21", "OH22", "OH23", "OH24", "OH25", "OH26", "OH27", "OH28", "OH29", "OH30"
+    };
+    return 0 < configuration && configuration < MAVISDROK_CONFIGURATIONS ? names[configuration] : "";
+}
+
+/* The name of a symbol of a bracket atom, below MAVISDROK_SYMBOLS: the names in the order of a dictionary. */
+static inline const char *mavisdrok_symbol(uint32_t symbol)
+{
+    static const char *const names[] = {
+        "*", "Ac", "Ag", "Al", "Am", "Ar", "As", "At", "Au", "B", "Ba", "Be", "Bh", "Bi", "Bk", "Br", "C",
+        "Ca", "Cd", "Ce", "Cf", "Cl", "Cm", "Cn", "Co", "Cr", "Cs", "Cu", "Db", "Ds", "Dy", "Er", "Es", "Eu",
+        "F", "Fe", "Fl", "Fm", "Fr", "Ga", "Gd", "Ge", "H", "He", "Hf", "Hg", "Ho", "Hs", "I", "In", "Ir",
+        "K", "Kr", "La", "Li", "Lr", "Lu", "Lv", "Mc", "Md", "Mg", "Mn", "Mo", "Mt", "N", "Na", "Nb", "Nd",
+        "Ne", "Nh", "Ni", "No", "Np", "O", "Og", "Os", "P", "Pa", "Pb", "Pd", "Pm", "Po", "Pr", "Pt", "Pu",
+        "Ra", "Rb", "Re", "Rf", "Rg", "Rh", "Rn", "Ru", "S", "Sb", "Sc", "Se", "Sg", "Si", "Sm", "Sn", "Sr",
+        "Ta", "Tb", "Tc", "Te", "Th", "Ti", "Tl", "Tm", "Ts", "U", "V", "W", "Xe", "Y", "Yb", "Zn", "Zr",
+        "as", "b", "c", "n", "o", "p", "s", "se"
+    };
+    return names[symbol];
+}
+
+/* An atom without brackets: its number, below MAVISDROK_FIRST_BRACKET, is not 0. */
+static inline const char *mavisdrok_plain_symbol(uint32_t kind)
+{
+    static const char *const names[] = {
+        "", "*", "B", "C", "N", "O", "S", "P", "F", "Cl", "Br", "I", "At", "Ts", "b", "c", "n", "o", "p", "s"
+    };
+    return names[kind];
+}
+
+/* The atom that the two words of its kind stand for: 1, or 0 where they stand for none; then nothing is told. */
+static inline int mavisdrok_unpack_kind(const uint32_t *kind, struct mavisdrok_atom *atom)
+{
+    uint32_t rest = kind[0] / MAVISDROK_KIND_ROOM, isotope = rest % MAVISDROK_NUMBER_ROOM;
+    uint32_t hydrogens = rest / MAVISDROK_NUMBER_ROOM / MAVISDROK_CONFIGURATIONS;
+    uint32_t symbol = kind[0] % MAVISDROK_KIND_ROOM, charge = kind[1] % MAVISDROK_CHARGE_ROOM;
+    uint32_t map = kind[1] / MAVISDROK_CHARGE_ROOM;
+    int bracket = kind[0] >= MAVISDROK_FIRST_BRACKET;
+
+    if (!bracket && (kind[0] == 0 || kind[1] != 0))
+        return 0;
+    if (bracket && (symbol < MAVISDROK_FIRST_BRACKET || symbol >= MAVISDROK_FIRST_BRACKET + MAVISDROK_SYMBOLS ||
+                    hydrogens > MAVISDROK_NO_HYDROGENS || map > MAVISDROK_NO_NUMBER))
+        return 0;
+    atom->bracket = bracket;
+    atom->symbol = bracket ? mavisdrok_symbol(symbol - MAVISDROK_FIRST_BRACKET) : mavisdrok_plain_symbol(kind[0]);
+    atom->isotope = bracket && isotope != MAVISDROK_NO_NUMBER ? (int)isotope : MAVISDROK_NONE;
+    atom->configuration = (int)(rest / MAVISDROK_NUMBER_ROOM % MAVISDROK_CONFIGURATIONS);
+    atom->hydrogens = bracket && hydrogens != MAVISDROK_NO_HYDROGENS ? (int)hydrogens : MAVISDROK_NONE;
+    atom->charge = bracket && charge != MAVISDROK_NO_CHARGE ? (int)charge - MAVISDROK_CHARGE_ZERO : MAVISDROK_NONE;
+    atom->map = bracket && map != MAVISDROK_NO_NUMBER ? (int)map : MAVISDROK_NONE;
+    atom->entries = 0;
+    return 1;
+}
+
+/* The atom of the three words of its record. */
+static inline int mavisdrok_unpack_atom(const uint32_t *record, struct mavisdrok_atom *atom)
+{
+    if (!mavisdrok_unpack_kind(record, atom))
+        return 0;
+    atom->entries = record[MAVISDROK_KIND_WORDS];
+    return 1;
+}
+
+/* The bond entry of the two words of its record: 1, or 0 where they stand for none; then nothing is told. */
+static inline int mavisdrok_unpack_bond(const uint32_t *record, struct mavisdrok_bond *bond)
+{
+    if (record[0] < MAVISDROK_ELIDED || record[0] > MAVISDROK_DOWN)
+        return 0;
+    bond->kind = (int)record[0];
+    bond->target = record[1];
+    return 1;
+}
 
 #ifdef __cplusplus
 }
