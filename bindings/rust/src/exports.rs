@@ -1,6 +1,7 @@
 //! The library's functions, as `bindings/c/mavisdrok.h` declares them: a lent slice is its first cell and its length.
 
 extern "C" {
+    pub fn mavisdrok_version() -> *const std::ffi::c_char;
     pub fn mavisdrok_read(
         text: *const u8, text_len: usize, atoms: *mut u32, atoms_len: usize, bonds: *mut u32, bonds_len: usize,
         report: *mut u64, report_len: usize,

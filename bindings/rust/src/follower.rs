@@ -5,7 +5,8 @@ use crate::exports::{
     mavisdrok_builder_root, mavisdrok_builder_start, mavisdrok_pool_hit, mavisdrok_writer_extend,
     mavisdrok_writer_join, mavisdrok_writer_pop, mavisdrok_writer_root,
 };
-use crate::{told, AtomKind, BondKind, Error, Graph, Rnum, ATOMS, ATOM_WORDS, BONDS, BOND_WORDS};
+use crate::error::told;
+use crate::{AtomKind, BondKind, Error, Graph, Rnum, ATOMS, ATOM_WORDS, BONDS, BOND_WORDS};
 
 /// The words of an entry in the making, of the open ring numbers and of a pool's table.
 const ENTRY_WORDS: usize = 3;
@@ -18,7 +19,7 @@ const HELD: usize = 5;
 /// The room that a writer begins with.
 const LINE: usize = 256;
 
-/// What can be told of a line.
+/// What can be told of a line, by `read_into`, by `Graph::walk` or by anyone. What a follower refuses ends the telling.
 pub trait Follower {
     /// A first atom of a component.
     fn root(&mut self, root: AtomKind) -> Result<(), Error>;
@@ -102,9 +103,7 @@ impl Builder {
             );
         }
         let (n, m) = told(report)?;
-        self.atoms.truncate(n * ATOM_WORDS);
-        bonds.truncate(m * BOND_WORDS);
-        Ok(Graph { atoms: self.atoms, bonds })
+        Ok(Graph::held(self.atoms, n, bonds, m))
     }
 }
 

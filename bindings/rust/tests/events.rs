@@ -1,38 +1,9 @@
 // Compares with the stored answers of purr: the lists of events told to a builder and to a writer, and of calls to the pool.
-// An empty line stands in them as `!-`, no answers as `-`, a blank in a line as `!20`.
+// No answers stand in them as `-`.
 use mavisdrok::{AtomKind, BondKind, Builder, Error, Follower, JoinPool, Rnum, Writer};
 
-/// The words of a charge of none, of charge 0, and where the map begins (docs/PACKING.md).
-const NO_CHARGE: i32 = 31;
-const CHARGE_ZERO: i32 = 15;
-
-/// An atom in the lists' form: `C`, or `[isotope,symbol,configuration,hydrogens,charge,map]` with `~` for none. A charge is
-/// set in the words, since not every charge is read.
-fn kind(form: &str) -> AtomKind {
-    let Some(inner) = form.strip_prefix('[') else { return form.parse().expect(form) };
-    let fields: Vec<&str> = inner.trim_end_matches(']').split(',').collect();
-    let part = |mark: &str, field: &str| if field == "~" { String::new() } else { format!("{mark}{field}") };
-    let text = format!(
-        "[{}{}{}{}{}]",
-        part("", fields[0]), fields[1], part("@", fields[2]), part("H", fields[3]), part(":", fields[5])
-    );
-    let [first, second] = text.parse::<AtomKind>().expect(form).words();
-    let charge = fields[4].parse().map_or(NO_CHARGE, |charge: i32| charge + CHARGE_ZERO);
-    AtomKind::from_words([first, second - NO_CHARGE as u32 + charge as u32]).expect(form)
-}
-
-fn bond(form: char) -> BondKind {
-    match form {
-        'e' => BondKind::Elided,
-        '-' => BondKind::Single,
-        '=' => BondKind::Double,
-        '#' => BondKind::Triple,
-        '$' => BondKind::Quadruple,
-        ':' => BondKind::Aromatic,
-        '/' => BondKind::Up,
-        _ => BondKind::Down,
-    }
-}
+mod form;
+use form::{bond, graph, kind, number, parts, rows, text};
 
 /// Tells an event: a root `rC`, an extend `x=C`, a join `je1` or a pop `p1`.
 fn tell(follower: &mut impl Follower, event: &str) -> Result<(), Error> {
@@ -43,15 +14,6 @@ fn tell(follower: &mut impl Follower, event: &str) -> Result<(), Error> {
         'j' => follower.join(bond(rest.next().unwrap()), number(rest.as_str())),
         _ => follower.pop(rest.as_str().parse().unwrap()),
     }
-}
-
-/// The parts of a row, which may have none.
-fn parts(row: &str, mark: char) -> impl Iterator<Item = &str> {
-    row.split(mark).filter(|part| !part.is_empty())
-}
-
-fn number(form: &str) -> Rnum {
-    Rnum::try_from(form.parse::<u16>().unwrap()).expect(form)
 }
 
 /// Tells a row of events to the first that is refused, by its place in the row, in the lists' form.
@@ -65,31 +27,14 @@ fn tell_all(follower: &mut impl Follower, events: &str) -> Result<(), String> {
     Ok(())
 }
 
-/// The rows of a list: what is asked, and the answer, ours where we differ from purr.
-fn rows(name: &str) -> Vec<(String, String)> {
-    let path = format!("{}/../../crates/replay/data/{name}.txt", env!("CARGO_MANIFEST_DIR"));
-    let list = std::fs::read_to_string(path).expect("a list");
-    let rows: Vec<(String, String)> = list
-        .lines()
-        .map(|line| {
-            let (request, answers) = line.split_once('\t').expect("an answer");
-            let events = request.split_once(' ').expect("a request").1;
-            (events.to_string(), answers.split('\t').last().unwrap().to_string())
-        })
-        .collect();
-    assert!(rows.len() >= 300, "only {} rows", rows.len());
-    rows
-}
-
 #[test]
 fn a_writer_writes_as_listed() {
-    for (events, expected) in rows("writer") {
+    for (events, expected) in rows("writer", "writer") {
         let mut writer = Writer::new();
         let answer = match tell_all(&mut writer, &events) {
             Ok(()) => {
                 let line = writer.write();
-                let form = if line.is_empty() { "!-".to_string() } else { line.replace(' ', "!20") };
-                format!("0 {} {form}", line.len())
+                format!("0 {} {}", line.len(), text(&line))
             }
             Err(refused) => refused,
         };
@@ -97,36 +42,16 @@ fn a_writer_writes_as_listed() {
     }
 }
 
-/// The words of a graph in the lists' form: for each atom its kind and its bonds.
-fn tables(graph: &str) -> (Vec<u32>, Vec<u32>) {
-    let (mut atoms, mut bonds) = (Vec::new(), Vec::new());
-    for atom in parts(graph, ';') {
-        let mut parts = atom.split(' ');
-        atoms.extend(kind(parts.next().unwrap()).words());
-        let before = bonds.len();
-        for entry in parts {
-            let mut rest = entry.chars();
-            bonds.push(bond(rest.next().unwrap()) as u32);
-            bonds.push(rest.as_str().parse().unwrap());
-        }
-        atoms.push(((bonds.len() - before) / 2) as u32);
-    }
-    (atoms, bonds)
-}
-
 #[test]
 fn a_builder_builds_as_listed() {
-    for (events, expected) in rows("builder") {
+    for (events, expected) in rows("builder", "builder") {
         let mut builder = Builder::new();
         if let Err(refused) = tell_all(&mut builder, &events) {
             assert_eq!(refused, expected, "{events}");
             continue;
         }
         match builder.build() {
-            Ok(graph) => {
-                let form = expected.splitn(4, ' ').nth(3).expect("a graph");
-                assert_eq!((graph.atoms, graph.bonds), tables(form), "{events}");
-            }
+            Ok(built) => assert_eq!(built, graph(expected.splitn(4, ' ').nth(3).expect("a graph")), "{events}"),
             Err(Error::Join(closing, opening)) => assert_eq!(format!("3 {closing} {opening}"), expected, "{events}"),
             Err(Error::Rnum(join)) => assert_eq!(format!("4 {join}"), expected, "{events}"),
             Err(error) => panic!("{events}: {error:?}"),
@@ -136,7 +61,7 @@ fn a_builder_builds_as_listed() {
 
 #[test]
 fn a_pool_hands_out_as_listed() {
-    for (calls, expected) in rows("pool") {
+    for (calls, expected) in rows("pool", "pool") {
         let mut pool = JoinPool::new();
         let mut answers = Vec::new();
         for call in parts(&calls, ',') {

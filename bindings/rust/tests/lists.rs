@@ -1,65 +1,62 @@
-// Compares with the stored answers of purr: every line of the list of rewritten lines that holds plain ASCII.
-use mavisdrok::{read, Error};
+// Compares with the stored answers of purr: lines read, with every field of their atoms and bonds, and lines and graphs written.
+use mavisdrok::{read, rewrite, Error, Graph};
 
-/// Our answer in the list's form: the number, what it carries, and the line, a blank in it as `!20`.
-fn answer(text: &str) -> String {
-    let written = read(text.as_bytes()).and_then(|graph| graph.write());
-    match written {
-        Ok(line) => format!("0 {} {}", line.len(), line.replace(' ', "!20")),
-        Err(error) => refused(error),
-    }
+mod form;
+use form::{bytes, graph, graph_form, refused, rows, text};
+
+fn written(line: Result<String, Error>) -> String {
+    line.map_or_else(refused, |line| format!("0 {} {}", line.len(), text(&line)))
 }
 
-fn refused(error: Error) -> String {
-    let carried = match error {
-        Error::EndOfLine | Error::NoAtom | Error::Overpop => String::new(),
-        Error::Join(a, b)
-        | Error::UnknownTarget(a, b)
-        | Error::HalfBond(a, b)
-        | Error::DuplicateBond(a, b)
-        | Error::IncompatibleBond(a, b)
-        | Error::RingNumbers(a, b) => format!(" {a} {b}"),
-        Error::Character(a)
-        | Error::Rnum(a)
-        | Error::Loop(a)
-        | Error::Inversion(a)
-        | Error::TextTooLong(a)
-        | Error::AtomRoom(a)
-        | Error::BondRoom(a)
-        | Error::Nesting(a)
-        | Error::OutRoom(a)
-        | Error::BadTable(a) => format!(" {a}"),
-    };
-    format!("{}{}", error.number(), carried)
+fn graph_answer(graph: &Graph) -> String {
+    let entries: usize = graph.iter().map(|atom| atom.bonds().count()).sum();
+    format!("0 {} {entries} {}", graph.len(), graph_form(graph))
 }
 
 #[test]
-fn rewrites_as_listed() {
-    let path = concat!(env!("CARGO_MANIFEST_DIR"), "/../../crates/replay/data/rewrite.txt");
-    let list = std::fs::read_to_string(path).expect("the list of rewritten lines");
-    let mut compared = 0;
-    for line in list.lines() {
-        let mut columns = line.split('\t');
-        let request = columns.next().unwrap();
-        let Some(text) = request.strip_prefix("rewrite ") else { continue };
-        if text.contains('!') {
-            continue;
+fn lines_are_read_as_listed() {
+    for name in ["lines", "damaged", "short"] {
+        for (asked, expected) in rows(name, "read") {
+            let answer = read(&bytes(&asked)).as_ref().map_or_else(|&error| refused(error), graph_answer);
+            assert_eq!(answer, expected, "{asked}");
         }
-        // The third column is ours where we differ from purr.
-        let expected = columns.last().expect("an answer");
-        assert_eq!(answer(text), expected, "{text}");
-        compared += 1;
     }
-    assert!(compared > 300, "only {compared} lines were compared");
 }
 
 #[test]
-fn any_tables_may_be_handed_in() {
-    for words in [vec![], vec![7; 5], vec![u32::MAX; 300]] {
-        let graph = mavisdrok::Graph { atoms: words.clone(), bonds: words };
-        match graph.write() {
-            Ok(line) => assert_eq!(line, ""),
-            Err(error) => assert_eq!(error, Error::BadTable(0)),
+fn lines_are_rewritten_as_listed() {
+    for (asked, expected) in rows("rewrite", "rewrite") {
+        assert_eq!(written(rewrite(&bytes(&asked))), expected, "{asked}");
+    }
+}
+
+#[test]
+fn graphs_are_written_as_listed() {
+    for name in ["graphs", "broken"] {
+        for (asked, expected) in rows(name, "write") {
+            assert_eq!(written(graph(&asked).write()), expected, "{asked}");
         }
     }
+}
+
+#[test]
+fn words_that_stand_for_nothing_are_refused() {
+    assert_eq!(Graph::from_words(vec![], vec![]).unwrap().write().unwrap(), "");
+    assert_eq!(Graph::from_words(vec![7; 6], vec![]), Err(Error::BadTable(0)));
+    assert_eq!(Graph::from_words(vec![3, 0, 0, 3], vec![]), Err(Error::BadTable(1)));
+    assert_eq!(Graph::from_words(vec![3, 0, 0], vec![1, 0]), Err(Error::BadTable(1)));
+    assert_eq!(Graph::from_words(vec![u32::MAX; 300], vec![u32::MAX; 300]), Err(Error::BadTable(0)));
+    assert_eq!(Graph::from_words(vec![3, 0, 0].repeat(1025), vec![]), Err(Error::AtomRoom(1025)));
+    let alone = Graph::from_words(vec![3, 0, 1], vec![1, 7]).unwrap();
+    assert_eq!(alone.write(), Err(Error::UnknownTarget(0, 7)));
+}
+
+#[test]
+fn a_refusal_is_an_error_with_its_number_its_name_and_its_place() {
+    fn labelled(line: &str) -> Result<String, Box<dyn std::error::Error>> {
+        Ok(read(line.as_bytes())?.write()?)
+    }
+    assert_eq!(labelled("OCC").unwrap(), "OCC");
+    assert_eq!(labelled("C)").unwrap_err().to_string(), "2 Character: the character at place 1 cannot stand there");
+    assert_eq!(labelled("C1C1").unwrap_err().to_string(), "8 DuplicateBond: atoms 0 and 1 are bonded twice");
 }
