@@ -9,7 +9,8 @@ use lib.Dec.{leb}
 use borrow.Author.Tests.{le-leb, lt-leb, leb-true, leb-false}
 use Rattle.packing.specs.Words.{bondWords}
 use Rattle.builder.specs.State.{unclosed}
-use Rattle.builder.specs.Build.{firstOpen, FirstAt}
+use Rattle.builder.specs.Build.{firstOpen}
+use Rattle.builder.specs.Steps.{FirstAt}
 
 -- past the first entry the targets are those of the rest
 later : (k t e : ℕ) (bs : List ℕ) → getD (k ∷ t ∷ bs) (suc e * bondWords + 1) 0 ≡ getD bs (e * bondWords + 1) 0

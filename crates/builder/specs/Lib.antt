@@ -2,3 +2,4 @@ pub mod Limits
 pub mod Rings
 pub mod State
 pub mod Build
+pub mod Steps

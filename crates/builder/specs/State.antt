@@ -1,7 +1,7 @@
 -- What each event makes of a builder's tables and the numbers beside them. An extend takes two entries, an opened ring
 -- number one, its closing one more; a closing whose kinds fail takes none and is remembered. Refusals in order: 18 with no
 -- atom standing, 13 with no room for the atom, 14 with none for its entries, 10 for a mark that can't be turned.
-use Prim.Native.Nat.{ℕ, _+_, _*_, _-_, _≤_}
+use Prim.Native.Nat.{ℕ, _+_, _*_, _-_}
 use mathlib.Core.List.{List, [], _∷_}
 use mathlib.Core.Bool.{Bool, true, false}
 use lib.ListN.{getD, set}
@@ -50,16 +50,6 @@ pub record Bld : Type 0 where
 
 abbrev pub bld : List ℕ → List ℕ → List ℕ → List ℕ → Builder → Bld
 bld a e p r s = record { atoms = a; entries = e; path = p; rings = r; st = s }
-
--- counts so small that no sum with them wraps
-abbrev pub enough : ℕ
-enough = 1_000_000
-
-pub record SmallCounts (s : Builder) : Type 0 where
-  pub atoms : s .atoms ≤ enough
-  pub entries : s .entries ≤ enough
-  pub top : s .top ≤ enough
-  pub joins : s .joins ≤ enough
 
 -- a state, field by field
 abbrev pub state : ℕ → ℕ → ℕ → ℕ → ℕ → ℕ → ℕ → ℕ → Bool → ℕ → ℕ → Builder

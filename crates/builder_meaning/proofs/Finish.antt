@@ -10,7 +10,8 @@ use Rattle.packing.specs.Words.{atomWords, bondWords}
 use Rattle.builder.specs.State.{Bld, unclosed, entryWords}
 use Rattle.builder.specs.declared.build.Built.{Built}
 use Rattle.builder.specs.declared.build.Built.the-variants as built
-use Rattle.builder.specs.Build.{upto, degree, Sources, tallied, firstOpen, Tables, tables, BuildOutcome, zeroed, buildOf, entriesTold, BuildReady}
+use Rattle.builder.specs.Build.{upto, tallied, firstOpen, Tables, tables, BuildOutcome, zeroed, buildOf, entriesTold}
+use Rattle.builder.specs.Steps.{degree, Sources, BuildReady}
 use Rattle.builder.proofs.Degrees.{tallied-length, words-kept, upto-length}
 use Rattle.builder.proofs.Laws.{built-failed, total, degree-at, built-done, built-open}
 use Rattle.builder_meaning.specs.Sketch.{Node, Failure, None, Failed, Sketch, firstOpenS, ringsSay, saysS, finishS, atomTable, bondTable, padded, leftS}

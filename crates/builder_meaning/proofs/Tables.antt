@@ -16,7 +16,8 @@ use Rattle.feature.specs.declared.atom_kind.AtomKind.{AtomKind}
 use Rattle.feature.specs.declared.atom_kind.AtomKind.the-variants.{Star}
 use Rattle.packing.specs.Words.{atomWords, wordsOf, listOf}
 use Rattle.builder.specs.State.{unclosed}
-use Rattle.builder.specs.Build.{of, upto, degree, Sources, firstOpen}
+use Rattle.builder.specs.Build.{of, upto, firstOpen}
+use Rattle.builder.specs.Steps.{degree, Sources}
 use Rattle.builder_meaning.specs.Sketch.{Target, To, Open, Edge, Node, edge, openHere, openIn, firstOpenS, atomTable, targetOf, edgeTable, bondTable, padded}
 use Rattle.builder_meaning.proofs.Rows.{Row, noRow, edgesOf, flat, nodesOf, three-more}
 

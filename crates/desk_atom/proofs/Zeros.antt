@@ -16,7 +16,8 @@ use Rattle.feature.specs.declared.atom_kind.AtomKind.{AtomKind}
 use Rattle.spell.specs.Spell.{Laid, atomText, rnumText}
 use Rattle.spell.proofs.Laws.{in-front}
 use Rattle.desk_atom.specs.declared.Spelt.the-variants.{Written, OutRoom, BadTable}
-use Rattle.desk_atom.specs.Texts.{zeros, Spells, spelt, answeredLength, texted, atomD, rnumD}
+use Rattle.desk_atom.specs.Texts.{zeros, Spells, spelt, texted, atomD, rnumD}
+use Rattle.desk_atom.specs.Steps.{answeredLength}
 
 -- ---- zeros one at a time
 

@@ -75,10 +75,6 @@ spelt r out = record { told = speltTold r; out = out }
 abbrev pub zeros : ℕ → List ℕ
 zeros n = replicate n 0
 
--- an output after a text of so many bytes was laid in it as far as there was room
-unfoldable pub answeredLength : List ℕ → ℕ → Spells
-answeredLength out need = pick (ltb (length out) need) (spelt (OutRoom need) (zeros (length out))) (spelt (Written need) out)
-
 -- a text in an output of n bytes
 unfoldable pub texted : List ℕ → ℕ → Spells
 texted text n =

@@ -3,7 +3,8 @@
 ghost use mathlib.Core.Path.{_≡_};
 ghost use lib.ListN.{length, replicate};
 ghost use Rattle.spell.specs.Spell.{bondText};
-ghost use Rattle.desk_atom.specs.Texts.{lackedOf, tellsAtom, firstAtom, spelt, answeredLength, texted, atomD, rnumD};
+ghost use Rattle.desk_atom.specs.Texts.{lackedOf, tellsAtom, firstAtom, spelt, texted, atomD, rnumD};
+ghost use Rattle.desk_atom.specs.Steps.{answeredLength};
 use builder::opens::NUMBERS;
 use feature::atom_kind::AtomKind;
 use feature::atom_kind::in_range;

@@ -17,7 +17,8 @@ use Rattle.feature.specs.Bonds.{codeOf, reverseOf}
 use Rattle.packing.specs.Words.{atomWords, bondWords}
 use Rattle.builder.specs.Limits.{atomLimit}
 use Rattle.builder.specs.State.{Bld, entryWords, unclosed}
-use Rattle.builder.specs.Build.{of, upto, Sources, BuildOutcome, Tables, tables, zeroed, firstOpen, entriesTold, BuildReady, buildOf}
+use Rattle.builder.specs.Build.{of, upto, BuildOutcome, Tables, tables, zeroed, firstOpen, entriesTold, buildOf}
+use Rattle.builder.specs.Steps.{Sources, BuildReady}
 use Rattle.builder.proofs.Laws.{built-failed, built-done, built-open}
 use Rattle.feature.specs.Every.{every}
 use Rattle.packing.specs.Words.{isAtom}

@@ -4,7 +4,8 @@ use mathlib.Core.Path.{_≡_, ap, sym, _∙_}
 use mathlib.Core.Bool.{Bool, true, false, not}
 use lib.ListN.{length}
 use borrow.Author.Tests.{not-true, not-false}
-use Rattle.builder.specs.State.{Bld, bld, refusedSt, refuse, SmallCounts}
+use Rattle.builder.specs.State.{Bld, bld, refusedSt, refuse}
+use Rattle.builder.specs.Steps.{SmallCounts}
 use Rattle.builder.specs.declared.builder.Builder.{Builder}
 use Rattle.desk_numbers.specs.Numbers.{badTable}
 use Rattle.desk_builder.specs.Events.{anew, judged}

@@ -30,10 +30,11 @@ use Rattle.packing.specs.Words.{isAtom, entryOfWords, entryCoded}
 use Rattle.packing.proofs.Laws.{bond-only}
 use Rattle.builder.specs.Limits.{atomLimit, bondLimit}
 use Rattle.builder.specs.Rings.{ringNumberCount}
-use Rattle.builder.specs.State.{Bld, bld, unclosed, SmallCounts, refuse, lastOf, entered, rootOf, bonded, extendedBy, extendOf, openedOf, openedAt, openingOf, openingKind, failedSt, closedBy, joinOf, popOf}
+use Rattle.builder.specs.State.{Bld, bld, unclosed, refuse, lastOf, entered, rootOf, bonded, extendedBy, extendOf, openedOf, openedAt, openingOf, openingKind, failedSt, closedBy, joinOf, popOf}
+use Rattle.builder.specs.Steps.{SmallCounts}
 use Rattle.builder.specs.declared.builder.Builder.{Builder}
 use Rattle.desk_state.specs.Standing.{also, isKind, sourceAt, entryKindAt, targetAt, isTarget, isBuilderEntry, bondsCounted, turnedOf, isOwn, isMatched, isPaired, leastOpen, isLater, isStep, isApart, isRing, openRings, joinsStand, placesIn, entrySlotsIn, countsStand, failureStands, isState}
-use Rattle.desk_state.specs.Chains.{Between}
+use Rattle.desk_state.specs.Steps.{Between}
 use Rattle.desk_state.proofs.Counts.{no, first, second, counts}
 use Rattle.desk_state.proofs.Ends.{turned-code, reverse-twice, to-matched, both-ends, even-ends}
 use Rattle.desk_state.proofs.Grown.{same-code, Plain, Pairs}

@@ -19,7 +19,7 @@ use Rattle.feature.specs.declared.bond_kind.BondKind.the-variants as bonds
 use Rattle.builder.specs.Limits.{atomLimit, bondLimit}
 use Rattle.builder.specs.State.{unclosed}
 use Rattle.desk_state.specs.Standing.{also, sourceAt, entryKindAt, targetAt, bondsCounted, turnedOf, isOwn, isMatched, isPaired}
-use Rattle.desk_state.specs.Chains.{isOf, lastAt, Linked, bondKindCount, cellOf, HasCount, Sound, ownAt, outCell, backCell, moreOf, putOf, canTake, takeOf, valAt, CountedAfter, Taken, NoneCounted, BondsMatch}
+use Rattle.desk_state.specs.Steps.{isOf, lastAt, Linked, bondKindCount, cellOf, HasCount, Sound, ownAt, outCell, backCell, moreOf, putOf, canTake, takeOf, valAt, CountedAfter, Taken, NoneCounted, BondsMatch}
 use Rattle.desk_state.proofs.Counts.{no, first, second}
 use Rattle.desk_state.proofs.Ends.{turned-code, reverse-twice, to-matched}
 use Rattle.desk_state.proofs.Grown.{by-eq, same-code}

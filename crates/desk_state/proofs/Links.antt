@@ -15,7 +15,7 @@ use borrow.Author.Tests.{eqb-true, eq-eqb, ne-eqb, ltb-true, ltb-false, lt-ltb, 
 use Rattle.feature.specs.Pick.{pick}
 use Rattle.builder.specs.State.{unclosed, entryWords}
 use Rattle.desk_state.specs.Standing.{sourceAt, entryKindAt, targetAt, isEntryTo, bondsCounted}
-use Rattle.desk_state.specs.Chains.{wordAt, isOf, lastAt, Linked, Loose, headWith, nextWith}
+use Rattle.desk_state.specs.Steps.{wordAt, isOf, lastAt, Linked, Loose, headWith, nextWith}
 use Rattle.desk_state.proofs.Counts.{no, first, second}
 use Rattle.desk_state.proofs.Grown.{by-eq}
 

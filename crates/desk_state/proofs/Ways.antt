@@ -13,7 +13,7 @@ use Rattle.feature.specs.Every.{every}
 use Rattle.builder.specs.Limits.{atomLimit, bondLimit}
 use Rattle.builder.specs.State.{unclosed}
 use Rattle.desk_state.specs.Standing.{sourceAt, entryKindAt, targetAt, turnedOf, isOwn, isPaired}
-use Rattle.desk_state.specs.Chains.{wordAt, Linked, Loose, bondKindCount, cellOf, Sound, ownAt, outCell, backCell, moreOf, putOf, canTake, takeOf, CountedAfter, Taken, NoneCounted, BondsMatch, Judged, Between, ChainsReady}
+use Rattle.desk_state.specs.Steps.{wordAt, Linked, Loose, bondKindCount, cellOf, Sound, ownAt, outCell, backCell, moreOf, putOf, canTake, takeOf, CountedAfter, Taken, NoneCounted, BondsMatch, Judged, Between, ChainsReady}
 use Rattle.desk_state.proofs.Counts.{no}
 use Rattle.desk_state.proofs.Grown.{by-eq}
 use Rattle.desk_state.proofs.Links.{word-source}

@@ -1,3 +1,3 @@
 -- Definitions that the contracts cite.
 pub mod Standing
-pub mod Chains
+pub mod Steps

@@ -3,7 +3,7 @@
 ghost use mathlib.Core.Path.{_≡_};
 ghost use Prim.Native.Nat.{_≤_};
 ghost use Rattle.builder.specs.Limits.{bondLimit};
-ghost use Rattle.desk_state.specs.Chains.{headWith, nextWith, Loose, Linked};
+ghost use Rattle.desk_state.specs.Steps.{headWith, nextWith, Loose, Linked};
 use crate::state::TARGET;
 use builder::builder::ENTRY_WORDS;
 use builder::builder::OPEN;

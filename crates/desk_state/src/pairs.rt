@@ -11,7 +11,7 @@ ghost use Rattle.feature.specs.Bonds.{kindOf};
 ghost use Rattle.feature.specs.Every.{every};
 ghost use Rattle.builder.specs.Limits.{atomLimit, bondLimit, fewAtoms};
 ghost use Rattle.desk_state.specs.Standing.{turnedOf, isOwn, isPaired};
-ghost use Rattle.desk_state.specs.Chains.{outCell, moreOf, putOf, canTake, takeOf, Linked, Sound, CountedAfter, Taken, NoneCounted, BondsMatch, Judged, Between, ChainsReady, fewBonds};
+ghost use Rattle.desk_state.specs.Steps.{outCell, moreOf, putOf, canTake, takeOf, Linked, Sound, CountedAfter, Taken, NoneCounted, BondsMatch, Judged, Between, ChainsReady, fewBonds};
 use crate::chains::link;
 use crate::state::KIND;
 use crate::state::TARGET;

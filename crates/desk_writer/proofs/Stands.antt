@@ -15,7 +15,8 @@ use Rattle.writer.specs.declared.Writer.{Writer}
 use Rattle.writer.specs.declared.Wrote.{Wrote}
 use Rattle.writer.specs.declared.Wrote.the-variants as wrote
 use Rattle.writer.specs.Line.{Event}
-use Rattle.writer.specs.Tables.{Spoken, toldWith, pieceRoom, eventOf, far, LineNear}
+use Rattle.writer.specs.Tables.{Spoken, toldWith, pieceRoom, eventOf, far}
+use Rattle.writer.specs.Steps.{LineNear}
 use Rattle.desk_writer.specs.declared.Said.{Said}
 use Rattle.desk_writer.specs.declared.Said.the-variants as said
 use Rattle.desk_writer.specs.Pieces.{isWriter, clearedFrom, tailOf, wroteSaid, eventLeaves, toldLeaves, eventD}

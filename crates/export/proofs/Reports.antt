@@ -36,8 +36,7 @@ use Rattle.desk_report.specs.declared.state.AsBuilder.the-variants as state
 use Rattle.export.specs.Atom.{kindSize, readKindWords, reading, taken, readAtomX}
 use Rattle.export.specs.Calls.{readCells, readBy, writeCells, writtenBy, orderCells, orderedBy}
 use Rattle.export.specs.Given.{onBuilder, onWriter, onPool}
-use Rattle.export.specs.Lines as Lines
-use Rattle.export.specs.Rings as Rings
+use Rattle.export.specs.Steps as Steps
 use Rattle.export.specs.Events.{Made, made, buildReported}
 use Rattle.desk_report.specs.Report.{bad, ofRead, ofWritten, ofBuilt, ofBegins, laidInto}
 use Rattle.desk_report.specs.State.{writerList, poolList}
@@ -73,8 +72,8 @@ module _ (k t text : List ℕ) where
       ∙ simp (le-ltb _ _ h)
 
 -- ---- the states' words after a call
-pub writer-kept : (words : List ℕ) (r : lines.Said) → onWriter (Lines.writerHeld r) words (λ w. sets words 0 (writerList w)) ≡ Lines.writerKept words r
-unfolding onWriter Lines.writerHeld writerWords writerList
+pub writer-kept : (words : List ℕ) (r : lines.Said) → onWriter (Steps.writerHeld r) words (λ w. sets words 0 (writerList w)) ≡ Steps.writerKept words r
+unfolding onWriter Steps.writerHeld writerWords writerList
 writer-kept words (said.Held w) = refl
 writer-kept words (said.AtomRoom n) = refl
 writer-kept words (said.OutRoom n) = refl
@@ -82,20 +81,20 @@ writer-kept words said.NoPiece = refl
 writer-kept words said.Overpop = refl
 writer-kept words said.BadTable = refl
 
-pub writer-laid : (words left : List ℕ) (r : lines.Said) (h : AsWriter) (w : Writer) → h ≡ Lines.writerHeld r → h ≡ writer.Is w → left ≡ sets words 0 (writerList w) → left ≡ Lines.writerKept words r
+pub writer-laid : (words left : List ℕ) (r : lines.Said) (h : AsWriter) (w : Writer) → h ≡ Steps.writerHeld r → h ≡ writer.Is w → left ≡ sets words 0 (writerList w) → left ≡ Steps.writerKept words r
 unfolding onWriter
 writer-laid words left r h w e f g =
     g
     ∙ ap (λ (x : AsWriter). onWriter x words (λ v. sets words 0 (writerList v))) (sym f ∙ e)
     ∙ writer-kept words r
 
-pub pool-kept : (words : List ℕ) (r : Handed) → onPool (Rings.poolHeld r) words (λ p. sets words 0 (poolList p)) ≡ Rings.poolKept words r
-unfolding onPool Rings.poolHeld slots.poolWords poolList
+pub pool-kept : (words : List ℕ) (r : Handed) → onPool (Steps.poolHeld r) words (λ p. sets words 0 (poolList p)) ≡ Steps.poolKept words r
+unfolding onPool Steps.poolHeld slots.poolWords poolList
 pool-kept words (handed.Number p n) = refl
 pool-kept words handed.RingNumbers = refl
 pool-kept words handed.BadTable = refl
 
-pub pool-laid : (words left : List ℕ) (r : Handed) (h : AsPool) (w : Pool) → h ≡ Rings.poolHeld r → h ≡ pool.Is w → left ≡ sets words 0 (poolList w) → left ≡ Rings.poolKept words r
+pub pool-laid : (words left : List ℕ) (r : Handed) (h : AsPool) (w : Pool) → h ≡ Steps.poolHeld r → h ≡ pool.Is w → left ≡ sets words 0 (poolList w) → left ≡ Steps.poolKept words r
 unfolding onPool
 pool-laid words left r h w e f g =
     g

@@ -12,11 +12,7 @@ use Rattle.packing.specs.Words.{loadOf}
 use Rattle.builder.specs.Rings.{ringNumberCount}
 use Rattle.writer.specs.Line.{Event}
 use Rattle.writer.specs.Tables.{spoken}
-use Rattle.desk_writer.specs.Pieces.{writerWords, EventLeft, eventD}
-use Rattle.desk_writer.specs.declared.Said.{Said}
-use Rattle.desk_writer.specs.declared.Said.the-variants.{Held, AtomRoom, OutRoom, NoPiece, Overpop, BadTable}
-use Rattle.desk_report.specs.declared.state.AsWriter.{AsWriter}
-use Rattle.desk_report.specs.declared.state.AsWriter.the-variants as writer
+use Rattle.desk_writer.specs.Pieces.{EventLeft, eventD}
 use Rattle.export.specs.Given.{onAtom, onBond, onWriter}
 use Rattle.desk_report.specs.Report.{bad, telling, laidInto}
 use Rattle.desk_report.specs.State.{writerIn}
@@ -30,19 +26,6 @@ pub record WriterCells : Type 0 where
 
 abbrev pub cellsOfWriter : List ℕ → List ℕ → List ℕ → List ℕ → WriterCells
 cellsOfWriter o b s t = record { out = o; starts = b; state = s; report = t }
-
--- the new state, where an event was accepted
-unfoldable pub writerHeld : Said → AsWriter
-writerHeld (Held w) = writer.Is w
-writerHeld (AtomRoom n) = writer.Bad
-writerHeld (OutRoom n) = writer.Bad
-writerHeld NoPiece = writer.Bad
-writerHeld Overpop = writer.Bad
-writerHeld BadTable = writer.Bad
-
--- the state's words after an event
-abbrev pub writerKept : List ℕ → Said → List ℕ
-writerKept words said = sets words 0 (writerWords said)
 
 -- what an event leaves
 unfoldable pub writerAfter : WriterCells → EventLeft → WriterCells

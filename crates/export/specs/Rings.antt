@@ -3,11 +3,7 @@
 use Prim.Native.Nat.{ℕ}
 use mathlib.Core.List.{List}
 use lib.Seq.{sets}
-use Rattle.desk_pool.specs.Slots.{poolWords, Gives, hitD}
-use Rattle.desk_pool.specs.declared.Handed.{Handed}
-use Rattle.desk_pool.specs.declared.Handed.the-variants.{Number, RingNumbers, BadTable}
-use Rattle.desk_report.specs.declared.state.AsPool.{AsPool}
-use Rattle.desk_report.specs.declared.state.AsPool.the-variants as pool
+use Rattle.desk_pool.specs.Slots.{Gives, hitD}
 use Rattle.export.specs.Given.{onPool}
 use Rattle.desk_report.specs.Report.{bad, telling, laidInto}
 use Rattle.desk_report.specs.State.{poolIn}
@@ -20,16 +16,6 @@ pub record PoolCells : Type 0 where
 
 abbrev pub cellsOfPool : List ℕ → List ℕ → List ℕ → PoolCells
 cellsOfPool p s t = record { pairs = p; state = s; report = t }
-
--- the new state, where a number was handed out or closed
-unfoldable pub poolHeld : Handed → AsPool
-poolHeld (Number p n) = pool.Is p
-poolHeld RingNumbers = pool.Bad
-poolHeld BadTable = pool.Bad
-
--- the state's words after a call
-abbrev pub poolKept : List ℕ → Handed → List ℕ
-poolKept words handed = sets words 0 (poolWords handed)
 
 -- what a call leaves
 unfoldable pub poolAfter : PoolCells → Gives → PoolCells

@@ -2,7 +2,8 @@
 // atom or no bond are answered 17. An event that is refused changes nothing but the report.
 ghost use mathlib.Core.Path.{_≡_};
 ghost use Rattle.desk_report.specs.Report.{ofSaid, laidInto};
-ghost use Rattle.export.specs.Lines.{cellsOfWriter, writerHeld, writerKept, writerRootX, writerExtendX, writerJoinX, writerPopX};
+ghost use Rattle.export.specs.Lines.{cellsOfWriter, writerRootX, writerExtendX, writerJoinX, writerPopX};
+ghost use Rattle.export.specs.Steps.{writerHeld, writerKept};
 use desk_report::answer::lay;
 use desk_report::answer::of_said;
 use desk_report::answer::refuse;

@@ -1,7 +1,8 @@
 // A ring number from the pool, over its table, the words of its state and a report. Words that stand for no pool are answered
 // 17. A call that is refused changes nothing but the report.
 ghost use mathlib.Core.Path.{_≡_};
-ghost use Rattle.export.specs.Rings.{cellsOfPool, poolHeld, poolKept, hitX};
+ghost use Rattle.export.specs.Rings.{cellsOfPool, hitX};
+ghost use Rattle.export.specs.Steps.{poolHeld, poolKept};
 use desk_pool::Handed;
 use desk_report::answer::lay;
 use desk_report::answer::of_handed;

@@ -10,7 +10,8 @@ use lib.Dec.{T, ltb, leb, ltb→lt, leb→le, eqb}
 use borrow.Author.Tests.{eq-eqb, ne-eqb, ltb-true, ltb-false, leb-true, eqb-true, eqb-false}
 use Rattle.feature.specs.Pick.{both, either}
 use Rattle.feature.specs.Text.{letterStep}
-use Rattle.feature.specs.Names.{symbols, names, placeOf, begins, Begun, Ranked}
+use Rattle.feature.specs.Names.{symbols, names, placeOf, begins}
+use Rattle.feature.specs.Steps.{Begun, Ranked}
 use Rattle.feature.proofs.Table.{at, every, both-left, both-right, rising}
 
 pub names-length : length names ≡ symbols

@@ -7,7 +7,8 @@ use lib.Dec.{ltb, leb}
 use borrow.Author.Tests.{lt-ltb, le-ltb, lt-leb, ltb-true, ltb-false, leb-false}
 use Rattle.feature.specs.Pick.{pick}
 use Rattle.feature.specs.Names.{symbols}
-use Rattle.feature.specs.Kinds.{aliphaticCount, aromaticCount, noNumber, noHydrogens, noCharge, configurations, bracketInRange, inRange, Within, GoodKind}
+use Rattle.feature.specs.Kinds.{aliphaticCount, aromaticCount, noNumber, noHydrogens, noCharge, configurations, bracketInRange, inRange}
+use Rattle.feature.specs.Steps.{Within, GoodKind}
 use Rattle.feature.specs.declared.atom_kind.BracketAtom.{BracketAtom}
 use Rattle.feature.specs.declared.atom_kind.AtomKind.{AtomKind}
 use Rattle.feature.specs.declared.atom_kind.AtomKind.the-variants.{Star, Aliphatic, Aromatic, Bracket}

@@ -1,5 +1,5 @@
 -- An atom's kind: which numbers stand for one, and what turning its mark makes of it.
-use Prim.Native.Nat.{ℕ, _≤_, _<_}
+use Prim.Native.Nat.{ℕ}
 use mathlib.Core.Bool.{Bool, true, false}
 use lib.Dec.{ltb, leb, eqb}
 use Rattle.feature.specs.Pick.{pick}
@@ -71,21 +71,6 @@ inRange Star = true
 inRange (Aliphatic n) = ltb n aliphaticCount
 inRange (Aromatic n) = ltb n aromaticCount
 inRange (Bracket b) = bracketInRange b
-
--- the same as facts
-pub record Within (b : BracketAtom) : Type 0 where
-  pub isotope : b .isotope ≤ noNumber
-  pub symbol : b .symbol < symbols
-  pub configuration : b .configuration < configurations
-  pub hydrogens : b .hydrogens ≤ noHydrogens
-  pub charge : b .charge ≤ noCharge
-  pub map : b .map ≤ noNumber
-
-abbrev pub GoodKind : AtomKind → Type 0
-GoodKind Star = Unit {0}
-GoodKind (Aliphatic n) = n < aliphaticCount
-GoodKind (Aromatic n) = n < aromaticCount
-GoodKind (Bracket b) = Within b
 
 abbrev pub withConfiguration : BracketAtom → ℕ → BracketAtom
 withConfiguration b c = bracketOfSix (b .isotope) (b .symbol) c (b .hydrogens) (b .charge) (b .map)

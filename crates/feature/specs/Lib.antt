@@ -4,3 +4,4 @@ pub mod Text
 pub mod Names
 pub mod Kinds
 pub mod Bonds
+pub mod Steps

@@ -1,9 +1,8 @@
 -- The names that stand in a bracket atom: the star, the 118 elements, and the aromatic as b c n o p s se. They stand in
 -- the order of a dictionary; a symbol is the place of its name.
-use Prim.Native.Nat.{ℕ, suc, _*_, _/_, _≤_, _<_}
+use Prim.Native.Nat.{ℕ, suc, _*_, _/_}
 use mathlib.Core.List.{List, [], _∷_, _++_}
 use mathlib.Core.Bool.{Bool, false}
-use lib.ListN.{getD}
 use lib.Dec.{eqb}
 use Rattle.feature.specs.Pick.{pick, either}
 use Rattle.feature.specs.Text.{letterStep, columns}
@@ -69,14 +68,3 @@ placeOf k (x ∷ xs) = pick (eqb x k) 0 (suc (placeOf k xs))
 unfoldable pub begins : ℕ → List ℕ → Bool
 begins a [] = false
 begins a (x ∷ xs) = either (eqb (x / letterStep) a) (begins a xs)
-
--- a place before which each name begins with a lower byte
-pub record Begun (byte r : ℕ) : Type 0 where
-  pub small : r ≤ symbols
-  pub lower : (j : ℕ) → j < r → getD names j 0 < byte * letterStep
-
--- how many names stand before a number
-pub record Ranked (key r : ℕ) : Type 0 where
-  pub small : r ≤ symbols
-  pub below : (j : ℕ) → j < r → getD names j 0 < key
-  pub above : (j : ℕ) → r ≤ j → j < symbols → key ≤ getD names j 0

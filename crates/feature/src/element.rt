@@ -2,7 +2,8 @@
 ghost use mathlib.Core.Path.{_≡_};
 ghost use Prim.Native.Nat.{_*_, _/_, _<_};
 ghost use lib.ListN.{getD};
-ghost use Rattle.feature.specs.Names.{names, placeOf, begins, Begun, Ranked};
+ghost use Rattle.feature.specs.Names.{names, placeOf, begins};
+ghost use Rattle.feature.specs.Steps.{Begun, Ranked};
 
 // How many names there are. A symbol is the place of its name, from 0.
 pub const SYMBOLS: u32 = 127;

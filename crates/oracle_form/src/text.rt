@@ -2,7 +2,7 @@
 ghost use Prim.Native.Nat.{_<_, _≤_};
 ghost use lib.ListN.{length};
 ghost use mathlib.Core.Path.{_≡_};
-ghost use Rattle.oracle_form.specs.Place.{nowhere};
+ghost use Rattle.oracle_form.specs.Steps.{nowhere};
 use crate::byte::NOWHERE;
 use crate::byte::pass;
 use crate::byte::peek;

@@ -12,7 +12,8 @@ use lib.Seq.{sets, set-out, getD-set-same, getD-set-other}
 use lib.Dec.{ltb, leb, eqb, lit<}
 use borrow.Author.Tests.{lt-ltb, le-ltb, lt-leb, le-leb, ltb-true, ltb-false, eqb-true}
 use Rattle.feature.specs.Pick.{pick}
-use Rattle.feature.specs.Kinds.{aliphaticCount, aromaticCount, configurations, inRange, Within, GoodKind}
+use Rattle.feature.specs.Kinds.{aliphaticCount, aromaticCount, configurations, inRange}
+use Rattle.feature.specs.Steps.{Within, GoodKind}
 use Rattle.feature.specs.Bonds.{codeOf, kindOf}
 use Rattle.feature.specs.declared.atom_kind.AtomKind.{AtomKind}
 use Rattle.feature.specs.declared.atom_kind.AtomKind.the-variants.{Star, Aliphatic, Aromatic, Bracket}

@@ -6,7 +6,7 @@ ghost use mathlib.Core.Path.{_≡_};
 ghost use Prim.Native.Nat.{_^_, _<_};
 ghost use lib.ListN.{getD, set};
 ghost use lib.Seq.{sets};
-ghost use Rattle.feature.specs.Kinds.{GoodKind, Within};
+ghost use Rattle.feature.specs.Steps.{GoodKind, Within};
 ghost use Rattle.packing.specs.Words.{isAtom, bracketPair, pairOf, wordsOf, listOf, plainOf, bracketOf, loadOf, loadAt, bondList, entryStored, entryOfWords};
 use feature::atom_kind::AtomKind;
 use feature::atom_kind::BracketAtom;

@@ -19,8 +19,8 @@ use Rattle.builder.proofs.Laws.{zero-at}
 use Rattle.builder_meaning.proofs.Text.{Reads, text-reads, lesser-most, lesser-held}
 use Rattle.read.specs.declared.Answer.{Answer}
 use Rattle.read.specs.declared.Answer.the-variants.{Done, TextTooLong}
-use Rattle.read.specs.Read.{Said, said, readRefusal, builtAnswer, builtSaid, stateOf, stateSaid, within, readOf}
-use Rattle.read.specs.Rooms.{Few, fewBonds}
+use Rattle.read.specs.Read.{Said, said, readRefusal, builtAnswer}
+use Rattle.read.specs.Steps.{builtSaid, stateOf, stateSaid, within, readOf, Few, fewBonds}
 use Rattle.read.specs.Line.{readRefusing, wholeOf, wholeOrRefused, readText}
 
 -- a state and a sketch that agree are answered alike

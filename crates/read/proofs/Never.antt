@@ -35,7 +35,8 @@ use Rattle.builder.specs.declared.build.Built.{Built}
 use Rattle.builder.specs.declared.build.Built.the-variants as built
 use Rattle.read.specs.declared.Answer.{Answer}
 use Rattle.read.specs.declared.Answer.the-variants.{NoAtom}
-use Rattle.read.specs.Read.{Said, readRefusal, builtAnswer, builtSaid, stateOf, stateSaid, within, readOf}
+use Rattle.read.specs.Read.{Said, readRefusal, builtAnswer}
+use Rattle.read.specs.Steps.{builtSaid, stateOf, stateSaid, within, readOf}
 use Rattle.read.specs.Line.{readText}
 use Rattle.read_line.proofs.Counts.{by-test, missing-not}
 use Rattle.read_line.proofs.Turn.{run-stuck}

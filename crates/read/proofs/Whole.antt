@@ -18,10 +18,11 @@ use Rattle.read_token.specs.declared.scanner.Missing.the-variants.{Character}
 use Rattle.read_line.specs.declared.lead.Lead.the-variants.{Dot}
 use Rattle.read_line.specs.Events.{Miss, on, character, missingSt, run}
 use Rattle.read_line.specs.Parse.{parse, endP}
-use Rattle.read_line.specs.Post.{reachedAt, LineRead, ReadReady}
+use Rattle.read_line.specs.Steps.{reachedAt, LineRead, ReadReady}
 use Rattle.read_line.proofs.Turn.{run-stuck, run-miss}
 use Rattle.read.specs.declared.Answer.{Answer}
-use Rattle.read.specs.Read.{said, endedSt, readRefusal, builtAnswer, builtSaid, stateOf, stateSaid, within}
+use Rattle.read.specs.Read.{said, readRefusal, builtAnswer}
+use Rattle.read.specs.Steps.{endedSt, builtSaid, stateOf, stateSaid, within}
 
 run-none : (b : Bld) → run b [] ≡ b
 unfolding run

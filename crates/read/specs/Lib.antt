@@ -1,4 +1,4 @@
 pub mod Read
 pub mod Line
 pub mod Numbers
-pub mod Rooms
+pub mod Steps

@@ -18,11 +18,12 @@ use Rattle.read_token.specs.declared.scanner.Missing.{Missing}
 use Rattle.read_token.specs.declared.scanner.Missing.the-variants.{EndOfLine, Character}
 use Rattle.builder.specs.declared.builder.Builder.{Builder}
 use Rattle.builder.specs.Limits.{textLimit}
-use Rattle.builder.specs.State.{Bld, SmallCounts, refuse, refusedSt, entered, bonded, rootOf, extendOf, extendedBy, openedOf, openingOf, openingKind, lastOf, failedSt, closedBy, joinOf, poppedSt}
+use Rattle.builder.specs.State.{Bld, refuse, refusedSt, entered, bonded, rootOf, extendOf, extendedBy, openedOf, openingOf, openingKind, lastOf, failedSt, closedBy, joinOf, poppedSt}
+use Rattle.builder.specs.Steps.{SmallCounts}
 use Rattle.read_line.specs.declared.lead.Lead.{Lead}
 use Rattle.read_line.specs.declared.lead.Lead.the-variants.{Dot, Bond}
 use Rattle.read_line.specs.Events.{countedSt, markJudged, unstoredOf, ledOf, enterOf, ringOf, missingSt}
-use Rattle.read_line.specs.Post.{Counted}
+use Rattle.read_line.specs.Steps.{Counted}
 
 -- a choice by a test has what both of its outcomes have
 pub by-test : {A : Type 0} (P : A → Type 0) (b : Bool) {x y : A} → P x → P y → P (pick b x y)

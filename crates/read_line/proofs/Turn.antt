@@ -25,7 +25,7 @@ use Rattle.read_line.specs.declared.lead.Lead.the-variants.{Dot, Bond}
 use Rattle.read_line.specs.declared.lead.Led.{Led}
 use Rattle.read_line.specs.Events.{ReadEvent, Pop, Miss, Nest, on, nesting, enterOf, ringOf, missingSt, step, run}
 use Rattle.read_line.specs.Parse.{Rest, ledAt, oneOf, bodyOf, bodyAt, missP, foundP, atomP, ringP, unionBy, unionP, unitBy, unitP, lineP, closeP, branchP, bodies}
-use Rattle.read_line.specs.Post.{reachedAt, reachedMissing, reachedClosed, Counted, ReadReady, Moved, AtomRead, RingRead, UnionRead, UnitRead, RestRead, LineRead, BranchRead}
+use Rattle.read_line.specs.Steps.{reachedAt, reachedMissing, reachedClosed, Counted, ReadReady, Moved, AtomRead, RingRead, UnionRead, UnitRead, RestRead, LineRead, BranchRead}
 use Rattle.read_line.proofs.Counts.{counted-more, enter-at, ring-at, pop-at, refused-at, missing-at, missing-not}
 
 -- ---- running

@@ -1,3 +1,3 @@
 pub mod Events
 pub mod Parse
-pub mod Post
+pub mod Steps

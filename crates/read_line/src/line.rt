@@ -7,7 +7,7 @@ ghost use Rattle.feature.specs.Text.{byte};
 ghost use Rattle.read_token.specs.Scan.{peekAt};
 ghost use Rattle.builder.specs.State.{bld};
 ghost use Rattle.builder.specs.Limits.{textLimit};
-ghost use Rattle.read_line.specs.Post.{reachedAt, reachedMissing, reachedClosed, ReadReady, AtomRead, RingRead, UnionRead, UnitRead, RestRead, LineRead, BranchRead};
+ghost use Rattle.read_line.specs.Steps.{reachedAt, reachedMissing, reachedClosed, ReadReady, AtomRead, RingRead, UnionRead, UnitRead, RestRead, LineRead, BranchRead};
 use crate::event::put_atom;
 use crate::event::put_missing;
 use crate::event::put_ring;

@@ -1,4 +1,5 @@
--- What the contracts of the reading of a list cite. Assumes nothing.
+-- Steps of the proofs: no public claim rests on these definitions.
+-- What the functions that read a list promise each other.
 use Prim.Native.Nat.{ℕ}
 use Rattle.replay.specs.declared.list.Step.{Step}
 use Rattle.replay.specs.declared.list.Step.the-variants.{More, Ended, Failed}

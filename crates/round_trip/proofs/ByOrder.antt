@@ -6,7 +6,7 @@ use Rattle.walk.specs.Walk.{Walk}
 use Rattle.write.specs.declared.answer.Written.the-variants.{Done}
 use Rattle.write.specs.Write.{walkOf, WriteLeft, writeLeaves, writeOf}
 use Rattle.write.specs.Order.{Order, orderOf}
-use Rattle.write.specs.Lengths.{Looks, asOrder}
+use Rattle.write.specs.Steps.{Looks, asOrder}
 use Rattle.write.proofs.Lengths.{order-looks, order-answer}
 use Rattle.trip_graph.specs.Renumbered.{byWalk}
 use Rattle.round_trip.specs.RoundTrip.{byOrder}

@@ -21,13 +21,13 @@ use Rattle.write.specs.declared.answer.Written.the-variants.{Done}
 use Rattle.write.specs.Write.{graphOf, walkEvents, lineSaid, writeLeaves, writeOf}
 use Rattle.trip_text.specs.Retell.{placeless, unplaced, hasNest, retoldOne, retold, depth, SaysWithin, all, cut}
 use Rattle.trip_text.proofs.Retold.{retold-line}
-use Rattle.trip_graph.specs.Renumber as trip-graph
+use Rattle.trip_graph.specs.Steps as graph-steps
 use Rattle.trip_graph.proofs.Lists.{by-bool}
 use Rattle.trip_graph.proofs.Follows.{run-refused, run-app, run-one}
 use Rattle.trip_graph.proofs.Places.{places-free}
 use Rattle.trip_graph.proofs.Written.{was-done, table-trip}
 use Rattle.round_trip.specs.RoundTrip.{Plain, readAs}
-use Rattle.round_trip.specs.Turns.{backByTurns}
+use Rattle.round_trip.specs.Steps.{backByTurns}
 use Rattle.round_trip.proofs.Law.{told-same, places-same, walk-told, walk-spelled, walk-accepted, walk-says, line-nests, line-is, turns-trip}
 
 clash : {X : Type 0} → _≡_ {A = ℕ} 0 1 → X
@@ -115,9 +115,9 @@ unfolding stepS
 nest-refused d x A B f h e =
     let r = ends-at A x e in
     let k : hasNest (r .front) ≡ false = sym (nests-placeless (r .front)) ∙ ap hasNest (r .same) ∙ nests-front A B f in
-    let s : map trip-graph.placeless (r .front) ≡ A = places-same (r .front) k ∙ r .same in
+    let s : map graph-steps.placeless (r .front) ≡ A = places-same (r .front) k ∙ r .same in
     let z : runS d A .refusal ≡ 0 = fine-before (runS d A) B (ap (λ (c : Sketch). c .refusal) (sym (run-app d A B)) ∙ h) in
-    let y : runS d (map trip-graph.placeless (r .front)) .refusal ≡ 0 = ap (λ (c : List reader.ReadEvent). runS d c .refusal) s ∙ z in
+    let y : runS d (map graph-steps.placeless (r .front)) .refusal ≡ 0 = ap (λ (c : List reader.ReadEvent). runS d c .refusal) s ∙ z in
     let o : runS d (r .front) .refusal ≡ 0 = ap (λ (c : Sketch). c .refusal) (places-free d (r .front) y) ∙ y in
     ap (λ (c : List reader.ReadEvent). runS d c .refusal) (r .is)
     ∙ ap (λ (c : Sketch). c .refusal) (run-app d (r .front) (reader.Nest (r .place) ∷ []))

@@ -25,13 +25,14 @@ use Rattle.trip_text.specs.Retell.{Sayable, Spellable, placeless, unplaced, has
 use Rattle.trip_text.proofs.Passes.{passes}
 use Rattle.trip_text.proofs.Retold.{retold-shallow, retold-nests}
 use Rattle.trip_graph.specs.Renumber as trip-graph
+use Rattle.trip_graph.specs.Steps as graph-steps
 use Rattle.trip_graph.specs.Renumbered.{Numbers, byWalk, renumbered}
 use Rattle.walk_entry.specs.Graph.{Graph, kindAt}
 use Rattle.trip_graph.proofs.Written.{was-done, table-numbers, table-numbered, table-count}
 use Rattle.trip_graph.proofs.Trip.{renumbered-length}
 use Rattle.trip_graph.proofs.ComesBack.{text-comes-back, tables-hold}
 use Rattle.round_trip.specs.RoundTrip.{Plain, Readable, readAs, Same}
-use Rattle.round_trip.specs.Turns.{backByTurns, TripByTurns, OneLineByTurns}
+use Rattle.round_trip.specs.Steps.{backByTurns, TripByTurns, OneLineByTurns}
 use Rattle.round_trip.proofs.Ordered.{told-walk, some-said}
 use Rattle.round_trip.proofs.Spelling.{kept-spelled, kept-turns}
 
@@ -45,8 +46,8 @@ told-same (Join b n ∷ es) = ap (λ (x : List reader.ReadEvent). retoldOne (Joi
 told-same (Pop d ∷ es) = ap (λ (x : List reader.ReadEvent). retoldOne (Pop d) ∷ x) (told-same es)
 
 -- and to forget the places, where no branch too many is met
-pub places-same : (x : List reader.ReadEvent) → hasNest x ≡ false → map trip-graph.placeless x ≡ unplaced x
-unfolding hasNest unplaced placeless trip-graph.placeless
+pub places-same : (x : List reader.ReadEvent) → hasNest x ≡ false → map graph-steps.placeless x ≡ unplaced x
+unfolding hasNest unplaced placeless graph-steps.placeless
 places-same [] h = refl
 places-same (reader.Enter l k p ∷ x) h = ap (λ (y : List reader.ReadEvent). reader.Enter l k 0 ∷ y) (places-same x h)
 places-same (reader.Join b n p ∷ x) h = ap (λ (y : List reader.ReadEvent). reader.Join b n 0 ∷ y) (places-same x h)
@@ -96,7 +97,7 @@ module _ (room : ℕ) (atoms : List ℕ) (n : ℕ) (bonds : List ℕ) (m len : �
 
   -- the line is read as what the walk said
   pub line-says : hasNest (parse (lineSaid (walkEvents atoms n bonds m))) ≡ false
-      → map trip-graph.placeless (parse (lineSaid (walkEvents atoms n bonds m))) ≡ trip-graph.asReadEvents (walkEvents atoms n bonds m)
+      → map graph-steps.placeless (parse (lineSaid (walkEvents atoms n bonds m))) ≡ trip-graph.asReadEvents (walkEvents atoms n bonds m)
   line-says h =
       places-same (parse (lineSaid (walkEvents atoms n bonds m))) h
       ∙ retold-shallow atomLimit (walkEvents atoms n bonds m) walk-says walk-told walk-spelled walk-accepted (ltb-false branchLimit (depth (walkEvents atoms n bonds m)) (sym line-nests ∙ h))
@@ -104,7 +105,7 @@ module _ (room : ℕ) (atoms : List ℕ) (n : ℕ) (bonds : List ℕ) (m len : �
 
 -- ---- what is read of it
 -- a text whose builder is done is read, and leaves what the builder made
-read-back : (g : Graph) (p : Numbers) (s : List ℕ) (n m la lb : ℕ) → length s ≤ textLimit → trip-graph.ComesBack g p (sketchOf s la lb) n m
+read-back : (g : Graph) (p : Numbers) (s : List ℕ) (n m la lb : ℕ) → length s ≤ textLimit → graph-steps.ComesBack g p (sketchOf s la lb) n m
     → read.readText s la lb ≡ readAs n m la lb (renumbered g p)
 unfolding read.readText read.wholeOrRefused read.wholeOf builtAnswer leftS
 read-back g p s n m la lb short c =
@@ -121,12 +122,12 @@ line-is room atoms n bonds m len out e =
 line-comes-back : (room : ℕ) (atoms : List ℕ) (n : ℕ) (bonds : List ℕ) (m len : ℕ) (out : List ℕ) → Plain (graphOf n atoms bonds)
     → writeOf room atoms n bonds m ≡ writeLeaves (Done len) out → hasNest (parse (take len out)) ≡ false
     → (la lb : ℕ) → n ≤ lesserOf atomLimit (la / atomWords) → m ≤ lesserOf bondLimit (lb / bondWords)
-    → trip-graph.ComesBack (graphOf n atoms bonds) (byWalk (walkOf atoms n bonds m)) (sketchOf (take len out) la lb) n m
+    → graph-steps.ComesBack (graphOf n atoms bonds) (byWalk (walkOf atoms n bonds m)) (sketchOf (take len out) la lb) n m
 line-comes-back room atoms n bonds m len out P e flat la lb ra rb =
     let l : take len out ≡ lineSaid (walkEvents atoms n bonds m) = line-is room atoms n bonds m len out e in
     let f : hasNest (parse (lineSaid (walkEvents atoms n bonds m))) ≡ false = ap (λ (x : List ℕ). hasNest (parse x)) (sym l) ∙ flat in
-    let h : map trip-graph.placeless (parse (take len out)) ≡ trip-graph.asReadEvents (walkEvents atoms n bonds m) =
-    ap (λ (x : List ℕ). map trip-graph.placeless (parse x)) l ∙ line-says room atoms n bonds m len out P e f in
+    let h : map graph-steps.placeless (parse (take len out)) ≡ trip-graph.asReadEvents (walkEvents atoms n bonds m) =
+    ap (λ (x : List ℕ). map graph-steps.placeless (parse x)) l ∙ line-says room atoms n bonds m len out P e f in
     text-comes-back room atoms n bonds m len out (P .simple) (P .marks) e (take len out) h la lb ra rb
 
 -- ---- the laws

@@ -20,7 +20,7 @@ use Rattle.trip_text.specs.Retell.{hasNest}
 use Rattle.trip_graph.specs.Renumbered.{Numbers, byWalk, renumbered}
 use Rattle.round_trip.specs.RoundTrip.{Plain, Readable, readAs, byOrder, backOf, RoundTrip, OneLine, Same}
 use Rattle.round_trip.specs.ByOrder.{Lent, TripByOrder}
-use Rattle.round_trip.specs.Turns.{backByTurns}
+use Rattle.round_trip.specs.Steps.{backByTurns}
 use Rattle.round_trip.proofs.Law.{turns-trip, turns-trip-wide, turns-same, turns-one-line, turns-one-count}
 use Rattle.round_trip.proofs.ByOrder.{order-done, order-numbers}
 use Rattle.round_trip.proofs.Deep.{turns-too-deep, turns-trip-answer}

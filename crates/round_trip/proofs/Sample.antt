@@ -37,7 +37,7 @@ use Rattle.trip_graph.specs.Renumber.{Backed, Simple}
 use Rattle.trip_graph.specs.Renumbered.{othersOf, parentEntry, doneOf, edgeOf, nodeOf, firstAtoms, renumbered}
 use Rattle.trip_graph.specs.Marks.{Tetrahedral, bearsHydrogen, otherMark, toggled, oddIndex, backKind}
 use Rattle.round_trip.specs.RoundTrip.{Plain, Readable, readAs}
-use Rattle.round_trip.specs.Turns.{backByTurns}
+use Rattle.round_trip.specs.Steps.{backByTurns}
 use Rattle.round_trip.specs.ByOrder.{ReadByOrder}
 use Rattle.round_trip.proofs.Law.{turns-trip, turns-one-line}
 use Rattle.round_trip.proofs.RoundTrip.{trip-by-order}

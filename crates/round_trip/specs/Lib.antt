@@ -1,3 +1,3 @@
 pub mod RoundTrip
 pub mod ByOrder
-pub mod Turns
+pub mod Steps

@@ -10,7 +10,8 @@ use borrow.Author.Tests.{lt-ltb, ltb-true}
 use Rattle.feature.specs.Pick.{pick}
 use Rattle.feature.specs.Text.{byte, letterStep}
 use Rattle.feature.specs.Names.{names, symAc, symCs}
-use Rattle.feature.specs.Kinds.{aliphaticCount, noNumber, noHydrogens, neutralCharge, noCharge, noConfiguration, th2, al, sp, tb, oh, configurations, inRange, Within, GoodKind}
+use Rattle.feature.specs.Kinds.{aliphaticCount, noNumber, noHydrogens, neutralCharge, noCharge, noConfiguration, th2, al, sp, tb, oh, configurations, inRange}
+use Rattle.feature.specs.Steps.{Within, GoodKind}
 use Rattle.feature.specs.declared.atom_kind.BracketAtom.{BracketAtom}
 use Rattle.feature.specs.declared.atom_kind.AtomKind.{AtomKind}
 use Rattle.feature.specs.declared.atom_kind.AtomKind.the-variants.{Star, Aliphatic, Aromatic, Bracket}

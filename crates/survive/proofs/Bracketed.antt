@@ -6,7 +6,7 @@ use mathlib.Core.Bool.{true}
 use native.Mathlib.Omega.{arith}
 use lib.ListN.{length, drop}
 use Rattle.feature.specs.Text.{byte}
-use Rattle.feature.specs.Kinds.{Within}
+use Rattle.feature.specs.Steps.{Within}
 use Rattle.feature.specs.declared.atom_kind.BracketAtom.{BracketAtom}
 use Rattle.feature.specs.declared.atom_kind.AtomKind.the-variants.{Bracket}
 use Rattle.read_token.specs.declared.scanner.Part.{Part}

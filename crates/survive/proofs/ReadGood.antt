@@ -11,7 +11,8 @@ use borrow.Author.Tests.{ltb-true, ltb-false}
 use Rattle.feature.specs.Pick.{pick}
 use Rattle.feature.specs.Text.{byte, oneLetter, twoLetters}
 use Rattle.feature.specs.Names.{symbols, names, placeOf, begins}
-use Rattle.feature.specs.Kinds.{aliphaticCount, aromaticCount, noConfiguration, al, sp, tb, oh, configurations, inRange, Within, GoodKind}
+use Rattle.feature.specs.Kinds.{aliphaticCount, aromaticCount, noConfiguration, al, sp, tb, oh, configurations, inRange}
+use Rattle.feature.specs.Steps.{Within, GoodKind}
 use Rattle.feature.proofs.Ranges.{ranged}
 use Rattle.feature.specs.declared.atom_kind.BracketAtom.{BracketAtom}
 use Rattle.feature.specs.declared.atom_kind.AtomKind.{AtomKind}

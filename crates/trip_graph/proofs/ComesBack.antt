@@ -13,7 +13,8 @@ use Rattle.builder_meaning.specs.Sketch.{nextNumber, countOf, startS, runS, ske
 use Rattle.walk_entry.specs.Graph.{kindAt}
 use Rattle.write.specs.declared.answer.Written.the-variants.{Done}
 use Rattle.write.specs.Write.{graphOf, walkOf, walkEvents, writeLeaves, writeOf}
-use Rattle.trip_graph.specs.Renumber.{Simple, asReadEvents, placeless, Renumbers, ComesBack}
+use Rattle.trip_graph.specs.Renumber.{Simple, asReadEvents, Renumbers}
+use Rattle.trip_graph.specs.Steps.{placeless, ComesBack}
 use Rattle.trip_graph.specs.Renumbered.{byWalk, renumbered}
 use Rattle.trip_graph.specs.Marks.{Tetrahedral}
 use Rattle.trip_graph.proofs.Trip.{renumbered-length}

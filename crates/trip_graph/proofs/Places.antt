@@ -18,7 +18,7 @@ use Rattle.read_line.specs.declared.lead.Lead.{Lead}
 use Rattle.read_line.specs.declared.lead.Lead.the-variants.{Dot, Bond}
 use Rattle.read_line.specs.Events.{ReadEvent, Enter, Join, Pop, Miss, Nest}
 use Rattle.builder_meaning.specs.Sketch.{Sketch, Held, Failure, None, Failed, refused, nextNumber, countOf, rootS, extendS, bondedS, openedS, closedS, ringS, joinS, enterS, numberS, stepS, runS, lookup}
-use Rattle.trip_graph.specs.Renumber.{placeless}
+use Rattle.trip_graph.specs.Steps.{placeless}
 use Rattle.trip_graph.proofs.Lists.{by-bool}
 use Rattle.trip_graph.proofs.Follows.{run-refused}
 

@@ -25,7 +25,8 @@ use Rattle.write.specs.Write.{zeros, graphOf, walkIn, saidIn, walkOf, walkEvent
 use Rattle.walk_laws.specs.Trek.{Room, degrees}
 use Rattle.feature.proofs.Cases.{by-test}
 use Rattle.walk_laws.proofs.Judged.{judged-degrees}
-use Rattle.trip_graph.specs.Renumber.{Simple, Known, asReadEvents, placeless, Numbering, Built}
+use Rattle.trip_graph.specs.Renumber.{Simple, Known, asReadEvents, Numbering, Built}
+use Rattle.trip_graph.specs.Steps.{placeless}
 use Rattle.trip_graph.specs.Renumbered.{byWalk, renumbered}
 use Rattle.trip_graph.specs.Marks.{Tetrahedral}
 use Rattle.trip_graph.specs.Opened.{RingsHaveText}

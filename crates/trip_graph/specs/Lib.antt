@@ -2,3 +2,4 @@ pub mod Renumber
 pub mod Renumbered
 pub mod Opened
 pub mod Marks
+pub mod Steps

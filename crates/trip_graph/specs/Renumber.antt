@@ -10,10 +10,10 @@ use Rattle.read_line.specs.declared.lead.Lead.the-variants as lead
 use Rattle.read_line.specs.Events as reader
 use Rattle.writer.specs.Line as writer
 use Rattle.builder.specs.declared.build.Built.the-variants.{Done}
-use Rattle.builder_meaning.specs.Sketch.{Node, None, Sketch, nextNumber, countOf, finishS}
+use Rattle.builder_meaning.specs.Sketch.{Node, None, Sketch, finishS}
 use Rattle.walk_entry.specs.Graph.{BondEntry, Graph, kindAt, degreeAt, bondOf, entryTo}
 use Rattle.trip_graph.specs.Marks.{backKind}
-use Rattle.trip_graph.specs.Renumbered.{Numbers, entriesOf, renumbered}
+use Rattle.trip_graph.specs.Renumbered.{Numbers, entriesOf}
 
 -- ---- what is asked of a graph
 -- an entry of t that leads back to a, and is the reverse of the entry e
@@ -43,14 +43,6 @@ toldAs (writer.Pop d) = reader.Pop d
 
 unfoldable pub asReadEvents : List writer.Event → List reader.ReadEvent
 asReadEvents es = map toldAs es
-
--- a reader's event with its place in the text forgotten
-unfoldable pub placeless : reader.ReadEvent → reader.ReadEvent
-placeless (reader.Enter l k place) = reader.Enter l k 0
-placeless (reader.Join b n place) = reader.Join b n 0
-placeless (reader.Pop n) = reader.Pop n
-placeless (reader.Miss m) = reader.Miss m
-placeless (reader.Nest place) = reader.Nest place
 
 -- ---- what is left
 -- the numbers of a walk renumber the atoms: each atom has one, the atom of each number has that number, and a parent's entry is one
@@ -82,10 +74,3 @@ pub record Renumbers (g h : Graph) (p : Numbers) : Type 0 where
   pub degree : (v : ℕ) → v < g .size → degreeAt h v ≡ degreeAt g (p .atom v)
   pub entry : (v i : ℕ) → v < g .size → i < degreeAt g (p .atom v)
       → bondOf h v i ≡ numberedAs (p .number) (getD (entriesOf g (p .atom v) (p .parent (p .atom v))) i (entryTo Elided 0))
-
--- What a builder d made of n atoms and m entries is the graph g renumbered: the builder is done, it made the renumbered atoms, and it
--- counted the atoms and entries.
-pub record ComesBack (g : Graph) (p : Numbers) (d : Sketch) (n m : ℕ) : Type 0 where
-  pub built : Built d (renumbered g p)
-  pub atoms : nextNumber d ≡ n
-  pub entries : countOf (d .nodes) ≡ m

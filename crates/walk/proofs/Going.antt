@@ -10,7 +10,8 @@ use Rattle.writer.specs.Tables.{Spoken, spoken, writer, sayAll}
 use Rattle.walk_entry.specs.Graph.{Graph}
 use Rattle.walk.specs.declared.walker.Walker.{Walker}
 use Rattle.join_pool.specs.declared.Pool.{Pool}
-use Rattle.walk.specs.Walk.{Walk, walk, freshWalker, Turn, turnOf, stepOf, walkTo, eventsOf, turnsOf, Did, TurnNear, TurnGrows}
+use Rattle.walk.specs.Walk.{Walk, walk, freshWalker, Turn, turnOf, stepOf, walkTo, eventsOf, turnsOf}
+use Rattle.walk.specs.Steps.{Did, TurnNear, TurnGrows}
 use Rattle.walk.proofs.Moves.{say-append}
 
 -- all of a walk is t turns from w₀ on, told to s₀; n of them are left from w on, told to s

@@ -14,14 +14,15 @@ use Rattle.join_pool.specs.Pairs.{hitOf}
 use Rattle.join_pool.specs.declared.lent.PoolAnswer.{PoolAnswer}
 use Rattle.writer.specs.declared.Writer.{Writer}
 use Rattle.writer.specs.Line.{Event, Join, Pop}
-use Rattle.writer.specs.Tables as writer
-use Rattle.writer.specs.Tables.{Spoken, sayT, sayAll}
+use Rattle.writer.specs.Steps.{LineGrows}
+use Rattle.writer.specs.Tables.{Spoken, sayT, sayAll, far}
 use Rattle.walk_entry.specs.Graph.{bondIn}
 use Rattle.walk.specs.declared.walker.Walker.{Walker}
 use Rattle.join_pool.specs.Strokes.{answerApart}
 use Rattle.join_pool.specs.declared.lent.Told.the-variants as told
 use Rattle.walk.specs.declared.walker.Numbered.{Numbered}
-use Rattle.walk.specs.Walk.{Walk, walk, Turn, quiet, numberedIn, refusedAs, rootPassed, standingAt, backAt, atEnd, ringSaid, popsOf, popsThen, leftIn, numberedOf, ringTurn, ringNumbers, far, Did, TurnOnward, TurnGrows}
+use Rattle.walk.specs.Walk.{Walk, walk, Turn, quiet, numberedIn, refusedAs, rootPassed, standingAt, backAt, atEnd, ringSaid, popsOf, popsThen, leftIn, numberedOf, ringTurn, ringNumbers}
+use Rattle.walk.specs.Steps.{Did, TurnOnward, TurnGrows}
 
 -- ---- how far
 pub onward-as : {z y r : Walker} → r ≡ y → TurnOnward z y → TurnOnward z r
@@ -60,10 +61,10 @@ onward-back z a = record { next = omega arith; pend = omega arith; count = omega
 pub grows-quiet : {y z : Walker} (line : Writer) → TurnOnward y z → TurnGrows y z line line
 grows-quiet line o = record { onward = o; pieces = omega arith; len = omega arith }
 
-pub grows-one : {y z : Walker} {line said : Writer} → TurnOnward y z → writer.LineGrows line said → TurnGrows y z line said
+pub grows-one : {y z : Walker} {line said : Writer} → TurnOnward y z → LineGrows line said → TurnGrows y z line said
 grows-one o a = record { onward = o; pieces = omega (arith, a .pieces); len = omega (arith, a .len) }
 
-pub grows-two : {y z : Walker} {line popped said : Writer} → TurnOnward y z → writer.LineGrows line popped → writer.LineGrows popped said → TurnGrows y z line said
+pub grows-two : {y z : Walker} {line popped said : Writer} → TurnOnward y z → LineGrows line popped → LineGrows popped said → TurnGrows y z line said
 grows-two o a b =
     record { onward = o; pieces = omega (arith, a .pieces, b .pieces); len = omega (arith, a .len, b .len) }
 

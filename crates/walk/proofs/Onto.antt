@@ -15,7 +15,8 @@ use Rattle.walk_entry.specs.declared.entry.Way.the-variants.{Enters, Refuses}
 use Rattle.walk_entry.specs.Graph.{BondEntry, Graph, kindAt, degreeAt, bondOf}
 use Rattle.walk_entry.specs.Ways.{saidAs, wayOf}
 use Rattle.walk.specs.declared.walker.Walker.{Walker}
-use Rattle.walk.specs.Walk.{Walk, walk, refusedAs, rootPassed, standingAt, metAt, tookAt, popsOf, leftIn, rootTurn, ringTurn, enteredOf, enterTurn, bondTurn, entryTurn, atomOf, turnOf, unknownTarget, loop, Did}
+use Rattle.walk.specs.Walk.{Walk, walk, refusedAs, rootPassed, standingAt, metAt, tookAt, popsOf, leftIn, rootTurn, ringTurn, enteredOf, enterTurn, bondTurn, entryTurn, atomOf, turnOf, unknownTarget, loop}
+use Rattle.walk.specs.Steps.{Did}
 use Rattle.walk.proofs.Moves.{did-as, did-quiet, say-one, say-then}
 
 -- what marking an atom leaves

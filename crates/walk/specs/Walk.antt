@@ -4,8 +4,7 @@
 -- new, `Ways` says whether it can be entered: 10, 8, 7 and 9. If it was met before, a ring number is asked for and nothing is
 -- compared; 11 if there is none left. Atoms that were left since the last event are popped before the next one; those left at
 -- the end of a component never are.
-use Prim.Native.Nat.{ℕ, zero, suc, _+_, _-_, _*_, _^_, _≤_, _<_}
-use mathlib.Core.Path.{_≡_}
+use Prim.Native.Nat.{ℕ, zero, suc, _+_, _-_, _*_}
 use mathlib.Core.List.{List, [], _∷_, _++_}
 use mathlib.Core.Bool.{Bool, true, false}
 use lib.ListN.{getD, set}
@@ -24,8 +23,6 @@ use Rattle.walk_entry.specs.Graph.{BondEntry, Graph, kindAt, degreeAt, bondIn, 
 use Rattle.walk_entry.specs.Ways.{saidAs, wayOf}
 use Rattle.walk.specs.declared.walker.Walker.{Walker}
 use Rattle.walk.specs.declared.walker.Numbered.{Numbered}
-use Rattle.writer.specs.declared.Writer.{Writer}
-use Rattle.writer.specs.Tables.{Spoken, sayAll}
 
 -- the desk's numbers of the refusals that are met here; those of a new atom's entries stand in `Ways`
 abbrev pub unknownTarget : ℕ
@@ -208,30 +205,3 @@ eventsOf g (suc n) w = stepOf g w .said ++ eventsOf g n (stepOf g w .after)
 -- each atom is tried as a root and left once, and each entry is taken once: so many turns are a whole walk
 unfoldable pub turnsOf : ℕ → ℕ → ℕ
 turnsOf atoms entries = 2 * atoms + entries
-
--- ---- what a function of the walk does: it leaves the walk that a turn leaves, and the writer has said what the turn says
-pub record Did (x : Turn) (w : Walk) (s n : Spoken) : Type 0 where
-  pub after : w ≡ x .after
-  pub said : n ≡ sayAll s (x .said)
-
--- far from where a number ends
-abbrev pub far : ℕ
-far = 2 ^ 31
-
-pub record TurnNear (z : Walker) (line : Writer) : Type 0 where
-  pub next : z .next < far
-  pub pend : z .pend < far
-  pub count : z .count < far
-  pub pieces : line .pieces + 10 < far
-  pub len : line .len + 100 < far
-
--- a turn goes on by at most so much
-pub record TurnOnward (y z : Walker) : Type 0 where
-  pub next : z .next ≤ y .next + 1
-  pub pend : z .pend ≤ y .pend + 1
-  pub count : z .count ≤ y .count + 1
-
-pub record TurnGrows (y z : Walker) (line said : Writer) : Type 0 where
-  pub onward : TurnOnward y z
-  pub pieces : said .pieces ≤ line .pieces + 2
-  pub len : said .len ≤ line .len + 50

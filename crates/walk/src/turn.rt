@@ -4,10 +4,11 @@ ghost use mathlib.Core.Path.{_≡_};
 ghost use mathlib.Core.List.{List};
 ghost use Prim.Native.Nat.{ℕ, _+_, _<_};
 ghost use lib.ListN.{set};
-ghost use Rattle.writer.specs.Tables.{spoken, sayAll};
+ghost use Rattle.writer.specs.Tables.{spoken, sayAll, far};
 ghost use Rattle.walk_entry.specs.Graph.{graph, entryTo};
-ghost use Rattle.writer.specs.Tables as writer;
-ghost use Rattle.walk.specs.Walk.{walk, standingAt, popsOf, rootTurn, leftIn, ringTurn, enterTurn, bondTurn, atomOf, turnOf, Did, far, TurnNear, TurnOnward, TurnGrows};
+ghost use Rattle.writer.specs.Steps.{LineNear, LineGrows};
+ghost use Rattle.walk.specs.Walk.{walk, standingAt, popsOf, rootTurn, leftIn, ringTurn, enterTurn, bondTurn, atomOf, turnOf};
+ghost use Rattle.walk.specs.Steps.{Did, TurnNear, TurnOnward, TurnGrows};
 use crate::walker::LOOP;
 use crate::walker::RING_NUMBERS;
 use crate::walker::UNKNOWN_TARGET;
@@ -38,9 +39,9 @@ pub struct Turned {
 
 // The atoms left since the last event, if any, popped.
 fn say_pops(out: &mut [u8], starts: &mut [u32], line: Writer, pend: usize) -> Writer
-    requires { ⌜ writer.LineNear line ⌝ }
+    requires { ⌜ LineNear line ⌝ }
     ensures { λ r. ⌜ spoken r (now (out .exit)) (now (starts .exit)) ≡ sayAll (spoken line (now (out .entry)) (now (starts .entry))) (popsOf pend) ⌝ }
-    ensures { λ r. ⌜ writer.LineGrows line r ⌝ }
+    ensures { λ r. ⌜ LineGrows line r ⌝ }
 {
     if pend == 0 {
         return line;

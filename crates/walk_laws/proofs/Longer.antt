@@ -23,8 +23,8 @@ use Rattle.packing.specs.Words.{bondWords}
 use Rattle.walk_entry.specs.Ways.{saidAs, scanIn, scanOf, judgedBack, wayOf}
 use Rattle.walk.specs.declared.walker.Walker.{Walker}
 use Rattle.walk.specs.Walk.{Walk, Turn, turn, quiet, rootPassed, withWalker, metAt, tookAt, popsThen, leftIn, rootTurn, leaveOf, numberedOf, ringTurn, enteredOf, enterTurn, bondTurn, entryTurn, atomOf, turnOf, stepOf, walkTo, eventsOf}
-use Rattle.walk_laws.specs.Trek.{Room, fresh, Accepts, AllAccepted}
-use Rattle.walk_laws.specs.Longer.{longer, longerGraph, longerWalk, Alike, Lengths, leastWalk, AnyLength, ExactWalk}
+use Rattle.walk_laws.specs.Trek.{Room, fresh, Accepts, AllAccepted, leastWalk}
+use Rattle.walk_laws.specs.Steps.{longer, longerGraph, longerWalk, Alike, Lengths, AnyLength, ExactWalk}
 use Rattle.feature.proofs.Cases.{by-test}
 use Rattle.walk_laws.proofs.Moves.{Move, still, skip, root, ends, leaves, takes, refuses, joins, enters, turn-moves}
 use Rattle.walk_laws.proofs.Sound.{Sound, up-within, sound-start, step-sound}

@@ -27,8 +27,7 @@ use Rattle.walk_entry.specs.Graph.{BondEntry, Graph, kindAt, degreeAt, bondIn, 
 use Rattle.walk_entry.specs.Ways.{saidAs, judgedBack, scanOf, wayOf}
 use Rattle.walk.specs.declared.walker.Walker.{Walker}
 use Rattle.walk.specs.Walk.{Walk, Turn, turn, quiet, refuseTurn, rootPassed, backAt, atEnd, withWalker, metAt, tookAt, pooled, popsThen, leftIn, rootTurn, leaveOf, numberedOf, ringTurn, enteredOf, enterTurn, bondTurn, entryTurn, atomOf, turnOf, stepOf, walkTo, eventsOf, turnsOf, unknownTarget, loop, ringNumbers}
-use Rattle.walk_laws.specs.Trek.{fresh, degrees, Finished}
-use Rattle.walk_laws.specs.Longer.{leastWalk, leastSaid}
+use Rattle.walk_laws.specs.Trek.{fresh, degrees, Finished, leastWalk, leastSaid}
 use Rattle.walk_laws.specs.Plain.{Trail, Outcome, Goes, Refused, Visit, andThen, numberFrom, numberIn, meets, leaves, joins, rings, enters, follows, entriesFrom, visitOf, rootsFrom, startTrail, plainWalk}
 use Rattle.walk_laws.specs.OneWalk.{trailOf, refusalIn, HoldTrail, OneWalk}
 use Rattle.walk_laws.proofs.Moves.{EntersBy, way-back}

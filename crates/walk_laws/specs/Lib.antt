@@ -1,4 +1,4 @@
 pub mod Trek
-pub mod Longer
+pub mod Steps
 pub mod Plain
 pub mod OneWalk

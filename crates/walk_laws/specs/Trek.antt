@@ -7,7 +7,7 @@ use mathlib.Core.Bool.{false}
 use lib.ListN.{length, getD, replicate}
 use Rattle.writer.specs.Line.{Event, Root, Extend, Join, Pop, writeEvent}
 use Rattle.walk_entry.specs.Graph.{Graph, degreeAt}
-use Rattle.walk.specs.Walk.{Walk, walk, startWalker}
+use Rattle.walk.specs.Walk.{Walk, walk, startWalker, walkTo, eventsOf}
 
 -- A walk before its first turn, on lent tables of these lengths that hold zeros; what the pool was lent is any list.
 abbrev pub fresh : ℕ → ℕ → ℕ → ℕ → List ℕ → Walk
@@ -43,3 +43,10 @@ pub record Finished (g : Graph) (w : Walk) : Type 0 where
   pub next : g .size ≤ w .at .next
   pub met : (a : ℕ) → a < g .size → getD (w .met) a 0 ≢ 0
   pub count : w .at .count ≡ g .size
+
+-- a walk on tables with no word more than there are atoms
+abbrev pub leastWalk : Graph → ℕ → List ℕ → Walk
+leastWalk g turns pairs = walkTo g turns (fresh (g .size) (g .size) (g .size) (g .size) pairs)
+
+abbrev pub leastSaid : Graph → ℕ → List ℕ → List Event
+leastSaid g turns pairs = eventsOf g turns (fresh (g .size) (g .size) (g .size) (g .size) pairs)

@@ -28,8 +28,7 @@ use Rattle.write.specs.declared.answer.Written.{Written}
 use Rattle.write.specs.declared.answer.Written.the-variants.{Done, OutRoom}
 use Rattle.write.specs.Write.{zeros, pairWords, startIn, walkIn, writeRefusal, WriteLeft, writeLeaves, lineRefusing, putLine, outputEnded, lineConcluded, graphWritten}
 use Rattle.write.specs.Order as made
-use Rattle.write.specs.Rooms.{WorkCleared}
-use Rattle.write.specs.Lengths.{graphIn, smallWalk, smallSaid, smallWritten}
+use Rattle.write.specs.Steps.{WorkCleared, graphIn, smallWalk, smallSaid, smallWritten}
 use Rattle.write.proofs.Lengths.{small-written}
 
 -- ---- each way out

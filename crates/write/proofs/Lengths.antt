@@ -18,8 +18,8 @@ use Rattle.walk_entry.specs.Graph.{Graph, graph}
 use Rattle.walk_entry.specs.Ways.{halfBond, duplicateBond, incompatibleBond, inversion}
 use Rattle.walk.specs.declared.walker.Walker.{Walker}
 use Rattle.walk.specs.Walk.{Walk, walkTo, eventsOf, turnsOf, unknownTarget, loop}
-use Rattle.walk_laws.specs.Trek.{Room, fresh}
-use Rattle.walk_laws.specs.Longer.{longer, longerGraph, longerWalk, Lengths, leastWalk, leastSaid, ExactWalk}
+use Rattle.walk_laws.specs.Trek.{Room, fresh, leastWalk, leastSaid}
+use Rattle.walk_laws.specs.Steps.{longer, longerGraph, longerWalk, Lengths, ExactWalk}
 use Rattle.feature.proofs.Cases.{by-test}
 use Rattle.walk_laws.proofs.Accepted.{accepted}
 use Rattle.walk_laws.proofs.Longer.{getD-longer, set-longer, longer-zeros, least-exact, any-length, pieces-alike}
@@ -27,7 +27,7 @@ use Rattle.write.specs.declared.answer.Written.{Written}
 use Rattle.write.specs.declared.answer.Written.the-variants.{Done}
 use Rattle.write.specs.Write.{zeros, pairWords, graphOf, walkIn, walkOf, saidIn, walkEvents, lineSaid, writeRefusal, atomPlaces, bondSlots, WriteLeft, putLine, lineConcluded, graphWritten, writeOf}
 use Rattle.write.specs.Order as made
-use Rattle.write.specs.Lengths.{cutTo, Handed, Looks, asOrder, graphIn, smallWalk, smallSaid, smallWritten}
+use Rattle.write.specs.Steps.{cutTo, Handed, Looks, asOrder, graphIn, smallWalk, smallSaid, smallWritten}
 use Rattle.write.proofs.Tables.{length-lowered}
 
 -- ---- the starts

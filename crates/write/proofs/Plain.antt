@@ -17,8 +17,8 @@ use Rattle.writer.specs.Line.{Event}
 use Rattle.walk_entry.specs.Graph.{Graph, graph}
 use Rattle.walk.specs.declared.walker.Walker.{Walker}
 use Rattle.walk.specs.Walk.{Walk, walkTo, eventsOf, turnsOf}
-use Rattle.walk_laws.specs.Trek.{fresh, degrees}
-use Rattle.walk_laws.specs.Longer.{longer, longerGraph, longerWalk, Lengths, leastWalk, leastSaid, ExactWalk}
+use Rattle.walk_laws.specs.Trek.{fresh, degrees, leastWalk, leastSaid}
+use Rattle.walk_laws.specs.Steps.{longer, longerGraph, longerWalk, Lengths, ExactWalk}
 use Rattle.walk_laws.specs.Plain.{Outcome, Goes, Refused, numberIn}
 use Rattle.walk_laws.specs.OneWalk.{trailOf, refusalIn, firstIn, secondIn, RefusalNumbered, OneWalk}
 use Rattle.walk_laws.proofs.Judged.{judged-few}

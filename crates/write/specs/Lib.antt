@@ -1,7 +1,6 @@
 pub mod Write
 pub mod Order
-pub mod Lengths
-pub mod Rooms
+pub mod Steps
 pub mod Plain
 pub mod Numbers
 pub mod Bound

@@ -9,7 +9,7 @@ ghost use Rattle.builder.specs.Limits.{fewAtoms};
 ghost use Rattle.write.specs.Write.{writeLeaves, outputEnded, graphWritten};
 ghost use Rattle.write.specs.Plain.{writePlain};
 ghost use Rattle.write.specs.Numbers.{writeInNumbers};
-ghost use Rattle.write.specs.Rooms.{Writable, WorkCleared};
+ghost use Rattle.write.specs.Steps.{Writable, WorkCleared};
 use answer::Written;
 use answer::refusal;
 use builder::build::lay_starts;

@@ -5,7 +5,8 @@ use lib.ListN.{length, length-append}
 use lib.Dec.{leb, eqb}
 use Rattle.spell.proofs.Lengths.{either-short, atom-short, bond-short, rnum-short}
 use Rattle.writer.specs.Line.{Event, Root, Extend, Join, Pop, dotText}
-use Rattle.writer.specs.Tables.{Spoken, pieceRoom, added, pieceT, lengthened, joinT, wrapT, popT, sayT, LineGrows}
+use Rattle.writer.specs.Tables.{Spoken, pieceRoom, added, pieceT, lengthened, joinT, wrapT, popT, sayT}
+use Rattle.writer.specs.Steps.{LineGrows}
 use Rattle.writer.proofs.Pieces.{pick-both}
 
 pub dot-short : (n : ℕ) → length (dotText n) ≤ 1

@@ -1,3 +1,4 @@
 pub mod Line
 pub mod Tables
 pub mod Pieces
+pub mod Steps

@@ -1,6 +1,6 @@
 -- The same on a lent output and a lent table of the pieces' starts: what each event makes of them. A byte that finds no room
 -- in the output is not laid and still counted, so the length is the line's whatever was lent.
-use Prim.Native.Nat.{ℕ, _+_, _-_, _^_, _≤_, _<_}
+use Prim.Native.Nat.{ℕ, _+_, _-_, _^_}
 use mathlib.Core.List.{List, [], _∷_, _++_}
 use lib.ListN.{length, take, drop, getD, set}
 use lib.Seq.{sets}
@@ -108,12 +108,3 @@ eventOf s (Pop d) = pick (leb (s .at .pieces) d) (eventRefusing s Overpop) (fitt
 -- far from where a number ends
 abbrev pub far : ℕ
 far = 2 ^ 31
-
-pub record LineNear (w : Writer) : Type 0 where
-  pub pieces : w .pieces < far
-  pub len : w .len < far
-
--- at most one piece and 25 bytes
-pub record LineGrows (v w : Writer) : Type 0 where
-  pub pieces : w .pieces ≤ v .pieces + 1
-  pub len : w .len ≤ v .len + 25

@@ -3,7 +3,7 @@
 use mathlib.Core.Path.{subst}
 use native.Mathlib.Omega.{arith}
 use borrow.Author.Needs.{needs}
-use Rattle.feature.specs.Kinds.{GoodKind}
+use Rattle.feature.specs.Steps.{GoodKind}
 use Rattle.packing.specs.Words.{pairOf}
 use Rattle.packing.proofs.packed.Statement.{statement}
 use Rattle.packing.proofs.packed.Tie as tie

@@ -10,7 +10,7 @@ use Rattle.builder.specs.State.{refusedSt}
 use Rattle.builder.specs.declared.builder.Builder.{Builder}
 use Rattle.read_line.specs.Events.{character}
 use Rattle.read_line.specs.declared.line.Reached.{Reached}
-use Rattle.read.specs.Read.{endedSt}
+use Rattle.read.specs.Steps.{endedSt}
 use borrow.Author.Needs.{needs}
 use Rattle.read.proofs.end_line.Statement.{statement}
 use Rattle.read.proofs.end_line.Tie as tie

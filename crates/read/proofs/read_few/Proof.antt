@@ -6,8 +6,7 @@ use lib.ListN.{length, replicate}
 use Rattle.builder.specs.Rings.{ringNumberCount}
 use Rattle.builder.specs.State.{entryWords}
 use Rattle.builder.specs.Limits.{fewAtoms}
-use Rattle.read.specs.Rooms.{fewBonds}
-use Rattle.read.specs.Read.{within}
+use Rattle.read.specs.Steps.{fewBonds, within}
 use Rattle.read.proofs.Lines.{within-few}
 use borrow.Author.Needs.{needs}
 use Rattle.read.proofs.read_few.Statement.{statement}

@@ -6,7 +6,7 @@ use lib.ListN.{length, replicate}
 use Rattle.builder.specs.Rings.{ringNumberCount}
 use Rattle.builder.specs.State.{entryWords}
 use Rattle.builder.specs.Limits.{atomLimit, bondLimit}
-use Rattle.read.specs.Read.{within}
+use Rattle.read.specs.Steps.{within}
 use Rattle.read.proofs.Lines.{within-many}
 use borrow.Author.Needs.{needs}
 use Rattle.read.proofs.read_many.Statement.{statement}

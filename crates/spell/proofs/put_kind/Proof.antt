@@ -1,6 +1,6 @@
 use mathlib.Core.Path.{subst}
 use native.Mathlib.Omega.{arith}
-use Rattle.feature.specs.Kinds.{GoodKind}
+use Rattle.feature.specs.Steps.{GoodKind}
 use Rattle.spell.proofs.Laws.{laid-as}
 use Rattle.spell.specs.Spell.{kindText}
 use borrow.Author.Needs.{needs}

@@ -4,7 +4,7 @@ use mathlib.Core.Path.{_≡_, refl, _∙_, subst}
 use native.Mathlib.Omega.{arith}
 use lib.ListN.{length}
 use borrow.Author.Needs.{needs}
-use Rattle.desk_state.specs.Chains.{Linked}
+use Rattle.desk_state.specs.Steps.{Linked}
 use Rattle.desk_state.proofs.Links.{linked-none, linked-next}
 use Rattle.desk_state.proofs.chains.link.Statement.{statement}
 use Rattle.desk_state.proofs.chains.link.Tie as tie

@@ -5,7 +5,7 @@ use mathlib.Core.Path.{_≡_, refl, sym, _∙_, subst}
 use native.Mathlib.Omega.{arith}
 use lib.ListN.{length}
 use borrow.Author.Tests.{not-true, not-false}
-use Rattle.desk_state.specs.Chains.{NoneCounted, BondsMatch}
+use Rattle.desk_state.specs.Steps.{NoneCounted, BondsMatch}
 use Rattle.desk_state.proofs.Ways.{ready-again, good-next, all-stand}
 use Rattle.desk_state.proofs.pairs.are_level.Statement.{statement}
 use Rattle.desk_state.proofs.pairs.are_level.Tie as tie

@@ -2,7 +2,7 @@
 use Prim.Native.Nat.{_+_, _*_}
 use native.Mathlib.Omega.{arith}
 use Rattle.builder.specs.Limits.{atomLimit, bondLimit}
-use Rattle.desk_state.specs.Chains.{bondKindCount}
+use Rattle.desk_state.specs.Steps.{bondKindCount}
 use Rattle.desk_state.proofs.Ways.{loose-from, loose-to, ready}
 use borrow.Author.Needs.{needs}
 use Rattle.desk_state.proofs.pairs.many_stand.Statement.{statement}

@@ -1,6 +1,6 @@
 -- Each way out of `more`, from the tests passed.
 use borrow.Author.Tests.{not-true, not-false, eq-eqb, ne-eqb}
-use Rattle.desk_state.specs.Chains.{moreOf}
+use Rattle.desk_state.specs.Steps.{moreOf}
 use borrow.Author.Needs.{needs}
 use Rattle.desk_state.proofs.pairs.more.Statement.{statement}
 use Rattle.desk_state.proofs.pairs.more.Tie as tie

@@ -3,7 +3,7 @@ use borrow.Author.Needs.{needs}
 use Prim.Native.Nat.{ℕ}
 use mathlib.Core.Path.{_≡_, refl, _∙_, subst}
 use lib.ListN.{length}
-use Rattle.desk_state.specs.Chains.{CountedAfter}
+use Rattle.desk_state.specs.Steps.{CountedAfter}
 use Rattle.desk_state.proofs.Levels.{Stands, stands-head, laid-first}
 use Rattle.desk_state.proofs.Ways.{sized, goes-on, put-room, put-turn}
 use Rattle.desk_state.proofs.pairs.put.Statement.{statement}

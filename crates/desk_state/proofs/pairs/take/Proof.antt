@@ -4,7 +4,7 @@ use Prim.Native.Nat.{ℕ}
 use mathlib.Core.Path.{_≡_, refl, sym, _∙_, subst}
 use borrow.Author.Tests.{not-true, not-false}
 use lib.ListN.{length}
-use Rattle.desk_state.specs.Chains.{Taken}
+use Rattle.desk_state.specs.Steps.{Taken}
 use Rattle.desk_state.proofs.Levels.{Stands, stands-head, taken-first}
 use Rattle.desk_state.proofs.Ways.{sized, says-yes, goes-on, entry-below, take-turn, take-stops}
 use Rattle.desk_state.proofs.pairs.take.Statement.{statement}

@@ -1,5 +1,5 @@
 -- Each answer of an event: only the first has a new state.
-use Rattle.export.specs.Lines.{writerHeld}
+use Rattle.export.specs.Steps.{writerHeld}
 use borrow.Author.Needs.{needs}
 use Rattle.export.proofs.lines.held_by.Statement.{statement}
 use Rattle.export.proofs.lines.held_by.Tie as tie

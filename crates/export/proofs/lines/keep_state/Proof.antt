@@ -2,7 +2,7 @@
 use mathlib.Core.Path.{_≡_, _∙_}
 use lib.Seq.{sets}
 use Rattle.desk_report.specs.State.{writerList}
-use Rattle.export.specs.Lines.{writerHeld}
+use Rattle.export.specs.Steps.{writerHeld}
 use Rattle.export.proofs.Reports.{writer-kept, writer-laid}
 use Rattle.export.specs.Given.{onWriter}
 use borrow.Author.Needs.{needs}

@@ -1,5 +1,5 @@
 -- Each answer of a call: only the first has a new state.
-use Rattle.export.specs.Rings.{poolHeld}
+use Rattle.export.specs.Steps.{poolHeld}
 use borrow.Author.Needs.{needs}
 use Rattle.export.proofs.rings.held_by.Statement.{statement}
 use Rattle.export.proofs.rings.held_by.Tie as tie

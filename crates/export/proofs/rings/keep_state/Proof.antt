@@ -2,7 +2,7 @@
 use mathlib.Core.Path.{_≡_, _∙_}
 use lib.Seq.{sets}
 use Rattle.desk_report.specs.State.{poolList}
-use Rattle.export.specs.Rings.{poolHeld}
+use Rattle.export.specs.Steps.{poolHeld}
 use Rattle.export.proofs.Reports.{pool-kept, pool-laid}
 use Rattle.export.specs.Given.{onPool}
 use borrow.Author.Needs.{needs}

@@ -1,6 +1,7 @@
 -- `feature::element::first_of` meets its contract: each arm by a look at the names before its place. Assumes nothing.
 use mathlib.Core.Path.{sym, subst}
-use Rattle.feature.specs.Names.{names, Begun}
+use Rattle.feature.specs.Names.{names}
+use Rattle.feature.specs.Steps.{Begun}
 use Rattle.feature.proofs.Names.{isBefore, begun-at, begun-nowhere}
 use Rattle.feature.proofs.element.first_of.Statement.{statement}
 use Rattle.feature.proofs.element.first_of.Tie as tie

@@ -1,6 +1,6 @@
 use mathlib.Core.Path.{sym, _∙_}
 use borrow.Author.Tests.{eq-eqb, ne-eqb}
-use Rattle.read_line.specs.Post.{reachedClosed}
+use Rattle.read_line.specs.Steps.{reachedClosed}
 use borrow.Author.Needs.{needs}
 use Rattle.read_line.proofs.line.leave_branch.Statement.{statement}
 use Rattle.read_line.proofs.line.leave_branch.Tie as tie

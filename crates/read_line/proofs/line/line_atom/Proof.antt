@@ -1,5 +1,5 @@
 use mathlib.Core.Path.{sym, _∙_}
-use Rattle.read_line.specs.Post.{reachedMissing}
+use Rattle.read_line.specs.Steps.{reachedMissing}
 use Rattle.read_line.proofs.Turn.{atom-none, atom-lacks, atom-made}
 use borrow.Author.Needs.{needs}
 use Rattle.read_line.proofs.line.line_atom.Statement.{statement}

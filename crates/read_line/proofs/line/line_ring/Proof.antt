@@ -1,5 +1,5 @@
 use mathlib.Core.Path.{sym, _∙_}
-use Rattle.read_line.specs.Post.{reachedMissing}
+use Rattle.read_line.specs.Steps.{reachedMissing}
 use Rattle.read_line.proofs.Counts.{small}
 use native.Mathlib.Omega.{arith}
 use Rattle.read_token.proofs.Within.{ring-in}

@@ -1,4 +1,4 @@
-use Rattle.read_line.specs.Post.{reachedMissing}
+use Rattle.read_line.specs.Steps.{reachedMissing}
 use borrow.Author.Needs.{needs}
 use Rattle.read_line.proofs.line.stopped.Statement.{statement}
 use Rattle.read_line.proofs.line.stopped.Tie as tie

@@ -1,12 +1,12 @@
+-- Steps of the proofs: no public claim rests on these definitions.
 -- Tables with more room: zeros follow what they hold. A look past a table is 0, so a walk cannot tell the one from the other.
 use Prim.Native.Nat.{ℕ, _-_, _≤_}
 use mathlib.Core.Path.{_≡_}
 use mathlib.Core.List.{List, _++_}
 use lib.ListN.{length, getD, replicate}
-use Rattle.writer.specs.Line.{Event}
 use Rattle.walk_entry.specs.Graph.{Graph, graph}
 use Rattle.walk.specs.Walk.{Walk, walk, walkTo, eventsOf}
-use Rattle.walk_laws.specs.Trek.{fresh}
+use Rattle.walk_laws.specs.Trek.{fresh, leastSaid, leastWalk}
 
 -- room for j words more
 abbrev pub longer : ℕ → List ℕ → List ℕ
@@ -36,13 +36,6 @@ pub record Lengths (g : Graph) (lm lw lb lt : ℕ) : Type 0 where
   pub walked : g .size ≤ lw
   pub back : g .size ≤ lb
   pub taken : g .size ≤ lt
-
--- a walk on tables with no word more than there are atoms
-abbrev pub leastWalk : Graph → ℕ → List ℕ → Walk
-leastWalk g turns pairs = walkTo g turns (fresh (g .size) (g .size) (g .size) (g .size) pairs)
-
-abbrev pub leastSaid : Graph → ℕ → List ℕ → List Event
-leastSaid g turns pairs = eventsOf g turns (fresh (g .size) (g .size) (g .size) (g .size) pairs)
 
 -- So many turns on tables of these lengths leave what they leave on the least tables, with zeros after it, and say the same. The
 -- table of where each atom's entries begin is longer too.

@@ -1,3 +1,4 @@
+-- Steps of the proofs: no public claim rests on these definitions.
 -- What the reading functions ensure, as records with named parts.
 use mathlib.Core.Path.{_≡_}
 use Prim.Native.Nat.{ℕ, _+_, _*_, _≤_, _<_}

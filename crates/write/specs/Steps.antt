@@ -1,9 +1,12 @@
--- Tables of other lengths. The walk order walks on the tables that its caller lent, the write call on the largest: what the one
--- hands out is the other's, cut to the atoms and with zeros after them. And a write on smaller work tables writes the same.
-use Prim.Native.Nat.{ℕ, _-_}
+-- Steps of the proofs: no public claim rests on these definitions.
+-- The rooms of a write: what it may rely on before its work tables are chosen. Their lengths do not matter, as long as they have
+-- room for the atoms.
+use Prim.Native.Nat.{ℕ, _≤_, _-_}
 use mathlib.Core.Path.{_≡_}
 use mathlib.Core.List.{List, [], _++_}
-use lib.ListN.{getD, take}
+use lib.ListN.{length, getD, take}
+use Rattle.builder.specs.Limits.{atomLimit, bondLimit}
+use Rattle.write.specs.Write.{zeros, pairWords, WriteLeft, lineConcluded}
 use Rattle.builder.specs.Build.{entryStarts}
 use Rattle.writer.specs.Line.{Event, lineOf, writeEvents}
 use Rattle.walk_entry.specs.Graph.{Graph, graph}
@@ -11,8 +14,28 @@ use Rattle.walk.specs.Walk.{Walk, walkTo, eventsOf, turnsOf}
 use Rattle.walk_laws.specs.Trek.{fresh}
 use Rattle.write.specs.declared.answer.Written.{Written}
 use Rattle.write.specs.declared.answer.Written.the-variants.{Done, UnknownTarget, Loop, HalfBond, DuplicateBond, IncompatibleBond, Inversion, RingNumbers, AtomRoom, BondRoom, OutRoom, BadTable}
-use Rattle.write.specs.Write.{zeros, pairWords, WriteLeft, lineConcluded}
 use Rattle.write.specs.Order.{lowered, Order}
+
+-- counts within the limits, and an output of zeros
+pub record Writable (n m : ℕ) (out : List ℕ) : Type 0 where
+  pub atoms : n ≤ atomLimit
+  pub bonds : m ≤ bondLimit
+  pub empty : out ≡ zeros (length out)
+
+-- work tables of zeros, each with room for the atoms, and a pool's
+pub record WorkCleared (n : ℕ) (first met walked back taken pairs starts : List ℕ) : Type 0 where
+  pub room : n ≤ length first
+  pub most : length first ≤ atomLimit
+  pub firsts : first ≡ zeros (length first)
+  pub marks : met ≡ zeros (length first)
+  pub order : walked ≡ zeros (length first)
+  pub backs : back ≡ zeros (length first)
+  pub takes : taken ≡ zeros (length first)
+  pub slots : pairs ≡ zeros pairWords
+  pub pieces : starts ≡ zeros (length first)
+
+-- ---- tables of other lengths. The walk order walks on the tables that its caller lent, the write call on the largest: what the
+-- one hands out is the other's, cut to the atoms and with zeros after them. And a write on smaller work tables writes the same.
 
 -- ---- what the walk order hands out
 -- the first n words of a table in one of l words, zeros after them

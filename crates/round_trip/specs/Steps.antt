@@ -1,4 +1,5 @@
--- The round trip over the walk by turns. No public claim rests on these words: `RoundTrip` says the same of what the calls promise.
+-- Steps of the proofs: no public claim rests on these definitions.
+-- The round trip over the walk by turns. `RoundTrip` says the same of what the calls promise.
 use Prim.Native.Nat.{ℕ}
 use mathlib.Core.Path.{_≡_}
 use mathlib.Core.List.{List}

@@ -1,5 +1,6 @@
+-- Steps of the proofs: no public claim rests on these definitions.
 -- What the judge of pairs keeps to on its way: the closed entries in chains, by the atom that each is from and by the one that
--- it is to, and counts along them. No claim cites this; pairs are what `isPaired` says.
+-- it is to, and counts along them. What pairs are, `isPaired` says.
 use Prim.Native.Nat.{ℕ, zero, suc, _+_, _*_, _-_, _%_, _<_, _≤_}
 use mathlib.Core.Path.{_≡_}
 use mathlib.Core.List.{List}
