@@ -7,6 +7,6 @@ use Rattle.feature.specs.Pick.{pick}
 use Rattle.desk_atom.specs.declared.Spelt.the-variants.{Written, OutRoom}
 use Rattle.desk_atom.specs.Texts.{Spells, spelt, zeros}
 
--- an output after a text of so many bytes was laid in it as far as there was room
+-- an output after a text of so many bytes was written into it as far as there was room: cleared where there was too little
 unfoldable pub answeredLength : List ℕ → ℕ → Spells
 answeredLength out need = pick (ltb (length out) need) (spelt (OutRoom need) (zeros (length out))) (spelt (Written need) out)

@@ -2,9 +2,9 @@
 -- and carries 0, and nothing changes; else the pool gives its own answer, a number or 11.
 --
 -- A table and numbers stand for a pool if the table has a slot for each number to 99, the counter is from 1 to 100 and the
--- spare below it, and each slot is free, with three zeros, or open for a pair whose lower atom stands first. The slots of 0,
--- of the spare and of the numbers from the counter on are free. A pair is looked for from the counter down, so that of 100 is
--- one of these; a table that ends before it has it free. And no pair is open under two numbers: the search for the pair of an
+-- spare below it, and each slot is free, with three zeros, or open for a pair whose lower atom comes first. The slots of 0,
+-- of the spare and of the numbers from the counter on are free. The search for a pair goes down from the counter, so the slot of
+-- 100 is judged too; where the table ends before it, it is free. No pair is open under two numbers: the search for the pair of an
 -- open number finds that number.
 use Prim.Native.Nat.{ℕ, _+_, _*_}
 use mathlib.Core.List.{List, [], _∷_}
@@ -21,7 +21,7 @@ use Rattle.desk_pool.specs.declared.Handed.the-variants.{Number, RingNum
 use Rattle.feature.specs.Every.{every}
 use Rattle.desk_numbers.specs.Numbers.{Told, told, done, ringNumbers, badTable}
 
--- what the counter is kept at once there
+-- the highest value of the counter
 abbrev pub top : ℕ
 top = 100
 

@@ -1,4 +1,4 @@
-// What the calls for programs in other languages lay into lent words: an answer as three words, and a state.
+// What the calls for programs in other languages write into lent words: an answer as three words, and a state.
 //
 // answer: an answer as a number and what it carries.
 // state: a state as words.

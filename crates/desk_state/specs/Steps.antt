@@ -1,5 +1,5 @@
 -- Steps of the proofs: no public claim rests on these definitions.
--- What the judge of pairs keeps to on its way: the closed entries in chains, by the atom that each is from and by the one that
+-- What the loops of the judge of pairs keep: the closed entries in chains, by the atom that each is from and by the one that
 -- it is to, and counts along them. What pairs are, `isPaired` says.
 use Prim.Native.Nat.{ℕ, zero, suc, _+_, _*_, _-_, _%_, _<_, _≤_}
 use mathlib.Core.Path.{_≡_}
@@ -20,7 +20,7 @@ use Rattle.desk_state.specs.Standing.{also, sourceAt, entryKindAt, targe
 abbrev pub wordAt : List ℕ → ℕ → ℕ → ℕ
 wordAt e column i = getD e (i * entryWords + column) 0
 
--- entry i is closed, and a stands in the column
+-- entry i is closed, and its word in the column is a
 abbrev pub isOf : List ℕ → ℕ → ℕ → ℕ → Bool
 isOf e column a i = also (ltb (targetAt e i) unclosed) (eqb (wordAt e column i) a)
 
@@ -62,7 +62,7 @@ cellOf t k = t * bondKindCount + k
 abbrev pub HasCount : ℕ → ℕ → Type 0
 HasCount size t = (t < atomLimit) × (cellOf t bondKindCount < size)
 
--- what is known of n entries where there are so many counts
+-- n entries whose kinds are bonds and whose atoms have counts
 pub record Sound (e : List ℕ) (n size : ℕ) : Type 0 where
   pub few : n ≤ bondLimit
   pub kind : (i : ℕ) → i < n → (k : BondKind) × (entryKindAt e i ≡ codeOf k)
@@ -77,7 +77,7 @@ outCell e i = cellOf (targetAt e i) (entryKindAt e i)
 abbrev pub backCell : List ℕ → ℕ → ℕ
 backCell e i = cellOf (sourceAt e i) (turnedOf (kindOf (entryKindAt e i)))
 
--- one bond more: where it is its own reverse, only whether their number is odd is counted
+-- one bond more; of bonds that are their own reverse only whether their number is odd is kept
 unfoldable pub moreOf : Bool → ℕ → ℕ
 moreOf own v = pick own (pick (eqb v 0) 1 0) (v + 1)
 
@@ -116,7 +116,7 @@ pub record BondsMatch (e : List ℕ) (n a size : ℕ) : Type 0 where
   pub own : (t : ℕ) (k : BondKind) → HasCount size t → isOwn a (codeOf k) t ≡ true → bondsCounted e a (codeOf k) t n % 2 ≡ 0
   pub other : (t : ℕ) (k : BondKind) → HasCount size t → isOwn a (codeOf k) t ≡ false → bondsCounted e a (codeOf k) t n ≡ bondsCounted e t (codeOf (reverseOf k)) a n
 
--- a judgement: a no is right, and a yes says so much
+-- a judgement: where it is no, the entries are not paired; where it is yes, X holds
 pub record Judged (r : Bool) (e : List ℕ) (n : ℕ) (X : Type 0) : Type 0 where
   pub bad : r ≡ false → every (isPaired e n) n ≡ false
   pub good : r ≡ true → X
@@ -129,7 +129,7 @@ pub record Between (e : List ℕ) (n atoms : ℕ) : Type 0 where
   pub source : (i : ℕ) → i < n → sourceAt e i < atoms
   pub target : (i : ℕ) → i < n → targetAt e i < unclosed → targetAt e i < atoms
 
--- so many entries are few
+-- up to so many entries less work room is taken
 abbrev pub fewBonds : ℕ
 fewBonds = 256
 

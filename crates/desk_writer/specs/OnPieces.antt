@@ -1,4 +1,4 @@
--- An event of a writer as a single call, in the words of pieces. A state that stands holds pieces, the parts of its line
+-- An event of a writer as a single call, in the words of pieces. What stands for a state holds pieces, the parts of its line
 -- between their starts; an event answers 18, 19, 13 or 16 by them and changes nothing, or makes of them what `writeEvent`
 -- says, and the output and the starts hold those.
 use Prim.Native.Nat.{ℕ, zero, suc, _-_}

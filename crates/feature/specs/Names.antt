@@ -1,4 +1,4 @@
--- The names that stand in a bracket atom: the star, the 118 elements, and the aromatic as b c n o p s se. They stand in
+-- The names that a bracket atom can have: the star, the 118 elements, and the aromatic as b c n o p s se. They are in
 -- the order of a dictionary; a symbol is the place of its name.
 use Prim.Native.Nat.{ℕ, suc, _*_, _/_}
 use mathlib.Core.List.{List, [], _∷_, _++_}

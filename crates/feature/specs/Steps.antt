@@ -30,7 +30,7 @@ pub record Begun (byte r : ℕ) : Type 0 where
   pub small : r ≤ symbols
   pub lower : (j : ℕ) → j < r → getD names j 0 < byte * letterStep
 
--- how many names stand before a number
+-- how many names come before a number
 pub record Ranked (key r : ℕ) : Type 0 where
   pub small : r ≤ symbols
   pub below : (j : ℕ) → j < r → getD names j 0 < key

@@ -24,7 +24,7 @@ oneLetter a = a * letterStep
 abbrev pub twoLetters : ℕ → ℕ → ℕ
 twoLetters a b = a * letterStep + b + 1
 
--- the numbers of names that stand in columns of three: two letters, or one and a blank, and a blank after them
+-- the numbers of names in columns of three: two letters, or one and a blank, and a blank after them
 abbrev pub columns : String → List ℕ
 columns [] = list.[]
 columns (a ∷ []) = list.[]

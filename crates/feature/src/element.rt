@@ -1,4 +1,4 @@
-// The names that stand in a bracket atom: the star, the 118 elements and the eight aromatic ones, in one ordered table.
+// The names that a bracket atom can have: the star, the 118 elements and the eight aromatic ones, in one ordered table.
 ghost use mathlib.Core.Path.{_≡_};
 ghost use Prim.Native.Nat.{_*_, _/_, _<_};
 ghost use lib.ListN.{getD};
@@ -8,7 +8,7 @@ ghost use Rattle.feature.specs.Steps.{Begun, Ranked};
 // How many names there are. A symbol is the place of its name, from 0.
 pub const SYMBOLS: u32 = 127;
 
-// A name's number is this many times its first byte, and one more than its second byte where it has one. So names stand
+// A name's number is this many times its first byte, and one more than its second byte where it has one. So names are
 // in the order of a dictionary, and neither the byte 0 nor the end of a line after a first byte makes a name.
 pub const LETTER: u32 = 512;
 
@@ -35,8 +35,8 @@ pub const SE: u32 = 96;
 // The aromatic ones: as b c n o p s se, the last eight of the table.
 pub const AROMATIC: u32 = 119;
 
-// A symbol's name, or 0 where the number is no symbol. The arms become a table that is not laid anew for each call, as an
-// array's words would be.
+// A symbol's name, or 0 where the number is no symbol. The arms of the match become a constant table; the words of an array
+// would be stored again at each call.
 pub fn name(symbol: u32) -> u32
     ensures { λ r. ⌜ r ≡ getD names symbol 0 ⌝ }
 {
@@ -212,7 +212,7 @@ fn first_of(byte: u32) -> u32
     }
 }
 
-// How many names stand before a number: the table is ordered, and few names share a first byte.
+// How many names come before a number: the table is ordered, and few names share a first byte.
 fn rank(key: u32) -> u32
     ensures { λ r. ⌜ Ranked key r ⌝ }
 {

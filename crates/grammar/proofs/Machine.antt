@@ -1,4 +1,4 @@
--- Reading as a machine: a state is a tree in the making, and a byte moves it on or is refused. It stands between the trees
+-- Reading as a machine: a state is a tree in the making, and a byte moves it on or is refused. It is between the trees
 -- and the reader's definition: what is proved of it by its trees carries over.
 use mathlib.Core.List.{List, [], _∷_}
 use mathlib.Core.Option.{Option, none, some}
@@ -152,7 +152,7 @@ pub data Around : Type 0 where
   top : Around
   inside : Around → Line → Link → Around
 
--- where an atom is to stand: it begins a line, or goes on with one
+-- where an atom is to come: it begins a line, or goes on with one
 pub data Where : Type 0 where
   begin : Around → Where
   after : Around → Line → Link → Where
@@ -166,7 +166,7 @@ put (begin k) a = start a
 put (after k c l) a = link c l a
 
 pub data State : Type 0 where
-  want : Where → State  -- an atom must stand here
+  want : Where → State  -- an atom must come here
   inAtom : Where → Part → State
   body : Around → Line → State  -- after an atom, a ring number or a branch
   percent : Around → Line → Option BondSign → State

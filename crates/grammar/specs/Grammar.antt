@@ -1,6 +1,6 @@
 -- The grammar of the lines that are read: syntax as trees, how each tree is spelled, and what it says. No reading here.
 -- Trees are left-recursive, as the rules of OpenSMILES are. Atoms hold what is written, so "H" and "H1" are different
--- trees of one meaning. What OpenSMILES itself has, and where these trees depart from it, stands in OpenSmiles.
+-- trees of one meaning. What OpenSMILES itself has, and where these trees depart from it, is in OpenSmiles.
 use Prim.Native.Nat.{ℕ, _+_, _-_, _*_}
 use mathlib.Core.List.{List, [], _∷_, _++_}
 use mathlib.Core.Option.{Option, none, some}
@@ -109,7 +109,7 @@ pub data Hcount : Type 0 where
   H : Hcount
   Hn : Digit → Hcount
 
--- What stands in brackets before the charge.
+-- What is in brackets before the charge.
 pub data Head : Type 0 where
   head : Isotope → Symbol → Chiral → Hcount → Head
 
@@ -148,7 +148,7 @@ pub data Rnum : Type 0 where
   ring1 : Digit → Rnum
   ring2 : Digit → Digit → Rnum
 
--- What stands before an atom is nothing, a bond, or a dot.
+-- What comes before an atom is nothing, a bond, or a dot.
 pub data Link : Type 0 where
   elided : Link
   bond : BondSign → Link
@@ -366,7 +366,7 @@ atomK (bracket x q m) = bracketK x q m
 unfoldable pub enter : Link → Atom → ℕ → ReadEvent
 enter l a n = Enter (linkK l) (atomK a) n
 
--- A ring number stands at its first byte, after its bond.
+-- A ring number's place is its first byte, after its bond.
 unfoldable pub joinEvent : Option BondSign → Rnum → ℕ → ReadEvent
 joinEvent b r n = Join (bond?K b) (rnumK r) n
 
@@ -377,7 +377,7 @@ atoms (link c l a) = atoms c + 1
 atoms (ring c b r) = atoms c
 atoms (branch c l d) = atoms c
 
--- The events of a line that stands after a text and is entered by a link; a branch ends by leaving its atoms.
+-- The events of a line that comes after a text and is entered by a link; a branch ends by leaving its atoms.
 unfoldable pub tells : List ℕ → Link → Line → List ReadEvent
 tells w l (start a) = enter l a (length w) ∷ []
 tells w l (link c k a) = tells w l c ++ (enter k a (length (w ++ (spell c ++ linkS k))) ∷ [])

@@ -13,7 +13,7 @@ pub data Name : Type 0 where
   one : ℕ → Name
   two : ℕ → ℕ → Name
 
--- The names that stand in columns of three: two letters, or one and a blank, and a blank after them.
+-- The names in columns of three: two letters, or one and a blank, and a blank after them.
 abbrev pub table : String → List Name
 table [] = list.[]
 table (a ∷ []) = list.[]
@@ -31,7 +31,7 @@ has2 a b list.[] = false
 has2 a b (list._∷_ (one x) l) = has2 a b l
 has2 a b (list._∷_ (two x y) l) = pick (eqb a x) (pick (eqb b y) true (has2 a b l)) (has2 a b l)
 
--- How many names of a table stand before a letter, and before two.
+-- How many names of a table come before a letter, and before two.
 unfoldable pub place1 : ℕ → List Name → ℕ
 place1 a list.[] = 0
 place1 a (list._∷_ (one x) l) = pick (eqb a x) 0 (suc (place1 a l))

@@ -1,6 +1,6 @@
 -- OpenSMILES, rule by rule: its own tables, its own trees, their spelling and what they say; and where the lines that are
 -- read depart from it, each departure by its name in the list of differences. Written from a summary of its rules. What both have
--- stands once, in Grammar, and is taken from there: digits, bonds, links, ring numbers, hydrogen counts, signs, the letters of the
+-- is in Grammar alone, and is taken from there: digits, bonds, links, ring numbers, hydrogen counts, signs, the letters of the
 -- templates, how each of these is spelled, and which kind a name or a number stands for. The names, the templates' last numbers and
 -- the digits of numbers and charges are its own.
 use Prim.Native.Nat.{ℕ, _+_, _-_, _*_, _≤_}
@@ -109,7 +109,7 @@ mutual
     no-branches : Branches
     and-branch : Branches → Link → Chain → Branches
 
--- line ::= chain? terminator, and what stands after it is no part of the line. Departures "empty line" and "terminator": the
+-- line ::= chain? terminator, and what comes after it is no part of the line. Departures "empty line" and "terminator": the
 -- reader wants a chain, and nothing after it but the end.
 pub data Terminator : Type 0 where
   space tab feed return : Terminator
@@ -266,7 +266,7 @@ unfoldable mutual
   FitsBranches room (and-branch bs l c) = FitsBranches room bs × (1 ≤ room) × FitsChain (room - 1) c
 
 -- ---- WHAT THE READER HAS AND OPENSMILES LACKS
--- Departure "ring after branch": a ring number stands before an atom's branches.
+-- Departure "ring after branch": a ring number comes before an atom's branches.
 unfoldable pub NoBranch : Line → Type 0
 NoBranch (start a) = Unit {0}
 NoBranch (link c l a) = Unit {0}

@@ -1,6 +1,6 @@
 -- The pool of ring numbers: an unordered pair of atoms opens a number with its first call and closes it with the next.
 --
--- It holds a counter from 1, kept at 100 once there, and at most one spare. Opening takes the spare, else the counter, which
+-- It holds a counter from 1 that stops at 100, and at most one spare. Opening takes the spare, else the counter, which
 -- then grows by 1; a number over 99 is refused. Closing r: without a spare the counter grows by 1; any old spare is lost; r
 -- becomes the spare.
 use Prim.Native.Nat.{ℕ, zero, suc, _+_, _*_}

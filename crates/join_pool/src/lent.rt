@@ -1,4 +1,4 @@
-// A call of a pool that is lent and changed in its own place, as purr's pool changes its own. It is thin, over the call by
+// A call of a pool that is lent and changed in place, as purr's pool changes itself. It is a thin layer over the call by
 // value.
 ghost use mathlib.Core.Path.{_≡_};
 ghost use Rattle.join_pool.specs.Pairs.{hitOf};

@@ -34,7 +34,7 @@ pub record Molecule : Type 0 where
 abbrev pub molecule : List Node → List ℕ → List Held → ℕ → Molecule
 molecule ns at os j = record { atoms = ns; path = at; opens = os; joins = j }
 
--- An atom after a dot has no neighbour yet. Else the atom that stands is its first neighbour, and it is that one's last.
+-- An atom after a dot has no neighbour yet. Else the current atom is its first neighbour, and it is that one's last.
 unfoldable pub atomPlaced : Molecule → Lead → AtomKind → List ℕ → Option Molecule
 atomPlaced m Dot k at = some (molecule (m .atoms ++ (node k [] ∷ [])) (length (m .atoms) ∷ at) (m .opens) (m .joins))
 atomPlaced m (Bond e) k [] = none
@@ -53,7 +53,7 @@ agreed k l =
     (pick (sameKind l (reverseOf k)) (some k)
     none))
 
--- A number's second use: the opening atom's neighbour stands where the number did.
+-- A number's second use: the opening atom's neighbour is where the number was.
 unfoldable pub closed : Molecule → ℕ → ℕ → Held → Option BondKind → Option Molecule
 closed m n s h none = none
 closed m n s h (some k) =
@@ -154,7 +154,7 @@ pub record Allowed (ns : List Node) : Type 0 where
   pub twice-free : ¬ JoinedTwice ns
 
 -- Departure "allenes": OpenSMILES means AL1 by "@" and AL2 by "@@" where an atom's neighbours are two, both by double bonds; here,
--- as in the reader, these marks are TH1 and TH2 wherever they stand. Smallest line: C=[C@]=C.
+-- as in the reader, these marks are TH1 and TH2 wherever they are. Smallest line: C=[C@]=C.
 unfoldable pub alleneLike : List Edge → Bool
 alleneLike [] = false
 alleneLike (a ∷ []) = false

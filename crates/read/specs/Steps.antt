@@ -52,7 +52,7 @@ readOf s la lb =
     pick (ltb textLimit (length s)) (said (TextTooLong (length s)) (replicate la 0) (replicate lb 0))
     (within s (replicate la 0) lb (replicate (bondLimit * entryWords) 0) (replicate atomLimit 0) (replicate ringNumberCount 0))
 
--- so many bond entries are few
+-- up to so many bond entries the read call takes less work room
 abbrev pub fewBonds : ℕ
 fewBonds = 256
 

@@ -59,7 +59,7 @@ fn aliphatic(b: u32) -> u32
     ALIPHATICS
 }
 
-// A symbol's second letter, which has to stand there.
+// A symbol's second letter, which has to be there.
 fn wanted(s: &[u8], at: usize, letter: u32, two: u32) -> Found
     requires { ⌜ letter < 256 ⌝ }
     ensures { λ r. ⌜ r ≡ wantedAt (now (s .entry)) at letter two ⌝ }

@@ -1,4 +1,4 @@
-// A scanner that holds the lent text and its place in it: purr's scanner.rs. Its methods are thin, over the functions of
+// A scanner that holds the lent text and its place in it: purr's scanner.rs. Its methods are a thin layer over the functions of
 // `read_token` and of this crate that take a text and a place; the functions after them make a scanner where a line starts, where
 // something is missing and where the line should have ended, and ask it.
 ghost use mathlib.Core.Path.{_≡_};
@@ -23,7 +23,7 @@ fn past(s: &[u8], at: usize) -> bool
 }
 
 impl<'a> Scanner<'a> {
-    // A scanner that stands at a place of a text.
+    // A scanner at a place of a text.
     pub fn at(text: &'a [u8], cursor: usize) -> Scanner<'a>
         ensures { λ r. ⌜ (r .text ≡ text .entry) × (r .cursor ≡ cursor) ⌝ }
     {

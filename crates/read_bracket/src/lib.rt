@@ -1,4 +1,4 @@
-// What stands within the brackets of an atom, from purr's read_*.rs.
+// What is within the brackets of an atom, from purr's read_*.rs.
 //
 // Each reader takes the line and a place, as those of `read_token` do, and answers what it found with the place after it.
 //

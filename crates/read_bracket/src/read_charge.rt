@@ -8,7 +8,7 @@ use read_token::scanner::Part;
 use read_token::scanner::digit;
 use read_token::scanner::peek;
 
-// 11 to 15, or 1 to 9; 0 where neither stands there.
+// 11 to 15, or 1 to 9; 0 where neither is there.
 fn fifteen(s: &[u8], at: usize) -> Part
     ensures { λ r. ⌜ Sized r (fifteenAt (now (s .entry)) at) 15 ⌝ }
 {

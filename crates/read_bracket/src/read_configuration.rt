@@ -29,7 +29,7 @@ fn short(s: &[u8], at: usize, base: u32, top: u32) -> Step
 }
 
 // After "@TB" and "@OH" the Rust takes a byte before it judges it, so its place is one late. A byte that is not ASCII is
-// refused where it stands.
+// refused at its own place.
 fn late(s: &[u8], at: usize) -> usize
     ensures { λ r. ⌜ r ≡ lateAt (now (s .entry)) at ⌝ }
 {

@@ -35,8 +35,8 @@ pub fn read_lead(s: &[u8], at: usize) -> Led
     }
 }
 
-// What a byte begins: '1' a branch, '2' a split or a union, '0' neither. Its arms become a table that is not laid anew for
-// each call, as an array's words would be.
+// What a byte begins: '1' a branch, '2' a split or a union, '0' neither. The arms of the match become a constant table; the
+// words of an array would be stored again at each call.
 fn begun(b: u8) -> u8
     ensures { λ r. ⌜ r ≡ bodyOf b ⌝ }
 {

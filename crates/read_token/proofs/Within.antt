@@ -30,18 +30,18 @@ use Rattle.read_token.proofs.Laws.{peek-out}
 
 -- ---- bytes and digits
 module _ (s : List ℕ) (at : ℕ) where
-  -- what is not the end mark stands within the line
+  -- what is not the end mark is within the line
   pub not-ended : (peekAt s at ≡ noByte → ⊥) → at < length s
   not-ended n = split (ltb at (length s)) refl where
     split : (b : Bool) → ltb at (length s) ≡ b → at < length s
     split true e = ltb-true at (length s) e
     split false e = absurd (n (sym (peek-out s at (ltb-false at (length s) e))))
 
-  -- a byte stands within the line
+  -- a byte is within the line
   pub byte-in : (c : ℕ) → c < 256 → peekAt s at ≡ c → at < length s
   byte-in c h e = not-ended (λ d. omega arith)
 
-  -- a digit stands within the line
+  -- a digit is within the line
   pub digit-in : digitAt s at < 10 → at < length s
   unfolding digitAt digitOf
   digit-in h =
@@ -127,7 +127,7 @@ FoundIn s from (Atom k n) = (from < n) × (n ≤ length s)
 FoundIn s from Nothing = Unit {0}
 FoundIn s from (Lacks m) = Unit {0}
 
--- a name that has a place stands there
+-- a name that has a place is there
 place-found : (k : ℕ) (xs : List ℕ) → placeOf k xs < length xs → getD xs (placeOf k xs) 0 ≡ k
 unfolding placeOf
 place-found k [] = λ h. absurd (not-suc-le-zero h)
@@ -252,7 +252,7 @@ module _ (s : List ℕ) (from : ℕ) where
       (λ e. (low, high))
 
   -- ---- a bracket atom
-  -- what closes a bracket atom stands after all that it holds
+  -- what closes a bracket atom comes after all that it holds
   close-from : (b : BracketAtom) (at : ℕ) → from ≤ at → FoundIn s from (closeAt s b at)
   unfolding FoundIn closeAt
   close-from b at low =

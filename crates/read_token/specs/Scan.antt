@@ -1,4 +1,4 @@
--- What stands at a place of a line: the readers of an atom, a bond and a ring number. From read.rs's grammar as the scope
+-- What is at a place of a line: the readers of an atom, a bond and a ring number. From read.rs's grammar as the scope
 -- states it, bytes counted from 0: isotope (at most three digits), symbol, configuration, "H" with at most one digit, charge
 -- (a sign alone, doubled, or with 1 to 9 or 11 to 15), ":" and one to three digits; a missing thing is a character at its
 -- place, or the end of the line if no byte is left.
@@ -43,7 +43,7 @@ digitAt s at = digitOf (peekAt s at)
 abbrev pub part : ℕ → ℕ → Part
 part v n = record { value = v; next = n }
 
--- what is known besides of a byte that was read: if it is not the end, the place is within the line. So a sum with the
+-- also promised of a byte that was read: if it is not the end, the place is within the line. So a sum with the
 -- place can't wrap, in a form that omega reads
 pub record Peeked (s : List ℕ) (at r : ℕ) : Type 0 where
   pub is : r ≡ peekAt s at
@@ -60,7 +60,7 @@ pub record Sized (p q : Part) (n : ℕ) : Type 0 where
   pub is : p ≡ q
   pub small : p .value ≤ n
 
--- a digit more, if one stands there
+-- a digit more, if there is one
 unfoldable pub digitStep : List ℕ → Part → Part
 digitStep s p =
     pick (ltb (digitAt s (p .next)) 10) (part (p .value * 10 + digitAt s (p .next)) (p .next + 1))
@@ -70,7 +70,7 @@ digitStep s p =
 unfoldable pub numberAt : List ℕ → ℕ → Part
 numberAt s at = digitStep s (digitStep s (digitStep s (part 0 at)))
 
--- what is missing is the end's fault where the line has ended
+-- what is missing is a character, or the end of the line where no byte is left
 unfoldable pub missingAt : List ℕ → ℕ → Missing
 missingAt s at = pick (ltb at (length s)) (Character at) EndOfLine
 
@@ -152,7 +152,7 @@ hydrogensAt s at =
     (part noHydrogens at)
 
 -- ---- charge
--- 11 to 15, or 1 to 9; 0 where neither stands there
+-- 11 to 15, or 1 to 9; 0 where neither is there
 unfoldable pub fifteenAt : List ℕ → ℕ → Part
 fifteenAt s at =
     pick (eqb (digitAt s at) 0) (part 0 at)
@@ -242,7 +242,7 @@ aliphaticOf b =
     (pick (eqb b (byte "I")) 9
     aliphaticCount)))))
 
--- a second letter that has to stand there, and one that may
+-- a second letter that has to be there, and one that may
 unfoldable pub wantedAt : List ℕ → ℕ → ℕ → ℕ → Found
 wantedAt s at x two = pick (eqb (peekAt s at) x) (Atom (Aliphatic two) (at + 1)) (Lacks (missingAt s at))
 

@@ -1,4 +1,4 @@
-// What stands at a place of a line: purr's scanner.rs, missing_character.rs and read_*.rs.
+// What is at a place of a line: purr's scanner.rs, missing_character.rs and read_*.rs.
 //
 // Each reader takes the line and a place and answers what it found with the place after it. The end of the line reads as
 // 256, which is no byte. A reader that misses something answers the place; `missing_character` turns it into the desk's words.

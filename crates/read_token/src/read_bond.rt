@@ -1,4 +1,4 @@
-// A bond's mark, or the elided bond where none stands.
+// A bond's mark, or the elided bond where there is none.
 ghost use mathlib.Core.Path.{_≡_};
 ghost use Prim.Native.Nat.{_≤_};
 ghost use Rattle.read_token.specs.Scan.{signKind, markWidth, bondAt};

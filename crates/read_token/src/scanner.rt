@@ -56,7 +56,7 @@ pub fn digit(s: &[u8], at: usize) -> u32
     b - b'0' as u32
 }
 
-// One digit more, if one stands there.
+// One digit more, if there is one.
 fn more(s: &[u8], p: Part) -> Part
     requires { ⌜ p .value ≤ 99 ⌝ }
     ensures { λ r. ⌜ Sized r (digitStep (now (s .entry)) p) (p .value * 10 + 9) ⌝ }

@@ -4,7 +4,7 @@ use Prim.Native.Nat.{ℕ}
 use Rattle.replay.specs.declared.list.Step.{Step}
 use Rattle.replay.specs.declared.list.Step.the-variants.{More, Ended, Failed}
 
--- how many bytes stand at the block's front after a step
+-- how many bytes are at the block's front after a step
 abbrev pub heldAfter : Step → ℕ
 heldAfter (More p) = p .held
 heldAfter (Ended t) = 0

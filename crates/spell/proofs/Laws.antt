@@ -32,7 +32,7 @@ laid-as {n} {N} {at} {r} {l} {m} a h e =
       small = omega (arith, leb→le n N h);
     }
 
--- where there is room a text stands at the front of what was there, and the rest is untouched
+-- where there is room a text is at the front of what was there, and the rest is untouched
 pub in-front : {n r : ℕ} {l m xs : List ℕ} → Laid n l 0 xs m r → length xs ≤ length l → m ≡ xs ++ drop (length xs) l
 in-front {n} {r} {l} {m} {xs} a h = a .is ∙ sets-eq xs l 0 (omega arith) ∙ rw zero-add
 

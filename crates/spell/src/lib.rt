@@ -178,7 +178,7 @@ fn put_hydrogens(out: &mut [u8], at: usize, h: u32) -> usize
     put_digit(out, a, h)
 }
 
-// A sign and a number; the number 1 is not written. A charge of 0 is written as nothing, and before a charge of 5 stands
+// A sign and a number; the number 1 is not written. A charge of 0 is written as nothing, and before a charge of 5 comes
 // a blank: slips of the Rust.
 fn put_charge(out: &mut [u8], at: usize, q: u32) -> usize
     requires { ⌜ (at ≤ 800) × (q ≤ noCharge) ⌝ }

@@ -69,7 +69,7 @@ pub symbol-reads : (v x : ℕ) (t : List ℕ) → v < symbols → T (mem afterSy
 unfolding symbolSurvives symbolAt symbolOf slip placeOf begins peekAt symbolText nameText names
 symbol-reads v x t l m = checked (test symbolAt symbolText symbolSurvives t) symbols afterSymbol tt v x l m
 
--- ---- isotope: its digits end at any byte that is none, so one such byte stands for all in the test
+-- ---- isotope: its digits end at any byte that is none, so the test of one such byte is the test of all
 abbrev afterIsotope : List ℕ
 afterIsotope = bytes "*ABCDEFGHIKLMNOPRSTUVWXYZabcnops"
 
@@ -173,7 +173,7 @@ map =
       reads = map-reads;
     }
 
--- ---- the order in which they stand
+-- ---- the order in which they come
 pub charge-map : T (joins charge map)
 unfolding mapText digits
 charge-map = tt

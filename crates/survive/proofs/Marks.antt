@@ -1,4 +1,4 @@
--- A ring number's text and a bond's mark are read back wherever they stand. Assumes nothing.
+-- A ring number's text and a bond's mark are read back wherever they are. Assumes nothing.
 use Prim.Native.Nat.{ℕ, _+_, _*_, _/_, _%_, _<_}
 use mathlib.Core.Path.{_≡_, refl, _∙_, ap}
 use mathlib.Core.List.{List, [], _∷_, _++_}

@@ -1,4 +1,4 @@
--- A reader reads the same of a line's rest, wherever the rest stands: each law says what is read at n + j of a line by what
+-- A reader reads the same of a line's rest, wherever the rest is: each law says what is read at n + j of a line by what
 -- is read at j of the line without its first n bytes. Assumes nothing.
 use Prim.Native.Nat.{ℕ, _+_}
 use mathlib.Core.Path.{_≡_, refl, _∙_, ap, sym}

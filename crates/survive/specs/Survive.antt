@@ -59,12 +59,12 @@ survives (Aliphatic n) = inRange (Aliphatic n)
 survives (Aromatic n) = inRange (Aromatic n)
 survives (Bracket b) = both (bracketInRange b) (fieldsSurvive b)
 
--- what may stand after an organic atom: "B" and "C" look at the next byte, for "Br" and "Cl". No byte that can follow an
+-- what may come after an organic atom: "B" and "C" look at the next byte, for "Br" and "Cl". No byte that can follow an
 -- atom in a line is one of the two
 unfoldable pub canFollow : List ℕ → Bool
 canFollow [] = true
 canFollow (x ∷ xs) = neither (either (eqb x (byte "l")) (eqb x (byte "r")))
 
--- what the test stands for: the text, read alone, is the kind, to its end
+-- what the test means: the text, read alone, is the kind, to its end
 abbrev pub Survives : AtomKind → Type 0
 Survives k = atomAt (atomText k) 0 ≡ Atom k (length (atomText k))

@@ -1,4 +1,4 @@
-// Valence targets: how many bonds, with its hydrogens, an atom of a kind can have. Two choices stand in ascending order.
+// Valence targets: how many bonds, with its hydrogens, an atom of a kind can have. Two choices are in ascending order.
 ghost use mathlib.Core.Path.{_≡_};
 ghost use Prim.Native.Nat.{_<_};
 ghost use lib.ListN.{getD};

@@ -37,18 +37,18 @@ toggled (Aliphatic n) = Aliphatic n
 toggled (Aromatic n) = Aromatic n
 toggled (Bracket b) = Bracket (withConfiguration b (otherMark (b .configuration)))
 
--- whether the parent's entry stood at an odd index: b is its place from 1, and 0 for a root
+-- whether the parent's entry was at an odd index: b is its place from 1, and 0 for a root
 unfoldable pub oddIndex : ℕ → Bool
 oddIndex b = pick (eqb b 0) false (neither (even (b - 1)))
 
--- An atom's kind once it is written and read back, where its parent's entry stood at the place b from 1, and b is 0 for a root: its
--- mark is toggled exactly if it bears hydrogen and its parent's entry stood at an odd index.
+-- An atom's kind once it is written and read back, where its parent's entry was at the place b from 1, and b is 0 for a root: its
+-- mark is toggled exactly if it bears hydrogen and its parent's entry was at an odd index.
 unfoldable pub backKind : AtomKind → ℕ → AtomKind
 backKind k b = pick (both (bearsHydrogen k) (oddIndex b)) (toggled k) k
 
 -- ---- what is asked of the rule for marks
 -- A root is said as it comes back. An atom reached by its entry at place b is said so that the builder, which inverts it once more,
--- makes what comes back; its mark can be turned. What comes back can be held in words, and what survives a text is said as what does.
+-- makes what comes back; its mark can be turned. What comes back can be held in words; a kind that survives is said as one that does.
 pub record MarksServe : Type 0 where
   pub root : (k : AtomKind) → saidAs k 0 ≡ backKind k 0
   pub free : (k : AtomKind) → Tetrahedral k → isFixed k ≡ false

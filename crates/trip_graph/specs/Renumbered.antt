@@ -1,6 +1,6 @@
 -- A graph renumbered in walk order. Its atoms come in the order in which a walk met them, and each entry leads to its target's
 -- number in that order. Each atom but a root has its parent's entry moved to the front and the other entries in order; a TH mark is
--- toggled exactly if the atom bears hydrogen and its parent's entry stood at an odd index (`backKind`). Nothing else differs.
+-- toggled exactly if the atom bears hydrogen and its parent's entry was at an odd index (`backKind`). Nothing else differs.
 use Prim.Native.Nat.{ℕ, zero, suc, _-_}
 use mathlib.Core.List.{List, [], _∷_, _++_, map}
 use lib.ListN.{getD}
@@ -32,7 +32,7 @@ othersOf g a b (suc n) = othersOf g a b n ++ pick (eqb b (suc n)) [] (bondOf g a
 unfoldable pub parentEntry : Graph → ℕ → ℕ → List BondEntry
 parentEntry g a b = pick (eqb b 0) [] (bondOf g a (b - 1) ∷ [])
 
--- with the parent's entry moved to the front: all that stand before the place n, and so all of them
+-- with the parent's entry moved to the front: all that come before the place n, and so all of them
 unfoldable pub doneOf : Graph → ℕ → ℕ → ℕ → List BondEntry
 doneOf g a b n = parentEntry g a b ++ othersOf g a b n
 

@@ -1,4 +1,4 @@
--- What the reader says where a piece of text stands: one body at a time, with whatever follows it. Assumes nothing.
+-- What the reader says where a piece of text is: one body at a time, with whatever follows it. Assumes nothing.
 use Prim.Native.Nat.{ℕ, suc, _+_, _-_, _≤_}
 use mathlib.Core.Path.{_≡_}
 use mathlib.Core.List.{List, [], _∷_, _++_}

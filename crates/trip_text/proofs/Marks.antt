@@ -1,4 +1,4 @@
--- What leads in a text that stands at a place: its bond, if it has one, and where the text itself begins. Assumes nothing.
+-- What leads in a text that is at a place: its bond, if it has one, and where the text itself begins. Assumes nothing.
 use Prim.Native.Nat.{ℕ, zero, suc, _+_, _*_, _/_, _%_, _≤_, _<_}
 use mathlib.Core.Path.{_≡_, refl, _∙_, ap}
 use mathlib.Core.List.{List, _∷_, _++_}
@@ -67,7 +67,7 @@ digit-at : {s : List ℕ} {at : ℕ} {q : List ℕ} (d : ℕ) → d < 10 → Sta
 unfolding digitAt
 digit-at d h z = rw (first z) (digit-worth d h)
 
--- where a digit or "%" stands, no atom does
+-- where there is a digit or "%", there is no atom
 abbrev Atomless : ℕ → Type 0
 Atomless x = (s : List ℕ) (at : ℕ) → peekAt s at ≡ x → atomAt s at ≡ Nothing
 

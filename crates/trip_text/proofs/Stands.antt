@@ -1,4 +1,4 @@
--- A text stands at a place of a line: what is read of its first bytes. Assumes nothing.
+-- A text at a place of a line: what is read of its first bytes. Assumes nothing.
 use Prim.Native.Nat.{ℕ, _+_}
 use mathlib.Core.Path.{_≡_, refl}
 use mathlib.Core.List.{List, [], _∷_, _++_, append-assoc}
@@ -12,11 +12,11 @@ pub record Stands (s : List ℕ) (at : ℕ) (t : List ℕ) : Type 0 where
   pub is : drop at s ≡ t
   pub ends : at + length t ≡ length s
 
--- a whole line stands at its start
+-- a whole line is at its start
 pub whole : (s : List ℕ) → Stands s 0 s
 whole s = record { is = refl; ends = omega arith }
 
--- what follows the text stands after it
+-- what follows the text comes after it
 pub after : {s : List ℕ} {at : ℕ} (p q : List ℕ) → Stands s at (p ++ q) → Stands s (at + length p) q
 after {s} {at} p q h = record {
   is = past s at p q (h .is);

@@ -49,8 +49,8 @@ retold [] = []
 retold (e ∷ es) = retoldOne e ∷ retold es
 
 -- ---- the writer's events
--- Told in an order that a line can say, with so many pieces since the last root: an atom or a ring number needs one to stand
--- on, and a branch leaves at least one, takes at least one and takes no root.
+-- Told in an order that a line can say, with so many pieces since the last root: an atom or a ring number needs one before
+-- it, and a branch leaves at least one, takes at least one and takes no root.
 abbrev pub Sayable : ℕ → List Event → Type 0
 Sayable n [] = Unit {0}
 Sayable n (Root k ∷ es) = Sayable 1 es

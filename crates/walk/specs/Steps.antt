@@ -12,7 +12,7 @@ pub record Did (x : Turn) (w : Walk) (s n : Spoken) : Type 0 where
   pub after : w ≡ x .after
   pub said : n ≡ sayAll s (x .said)
 
--- counts and lengths that a turn cannot bring to where a number ends
+-- counts and lengths so small that none wraps in a turn
 pub record TurnNear (z : Walker) (line : Writer) : Type 0 where
   pub next : z .next < far
   pub pend : z .pend < far

@@ -1,6 +1,6 @@
 // The pool lent to a walk and changed in its own place.
 //
-// The turns carry it in their walker and lend it from there for each ring number; the first function here stands over them: it
+// The turns carry it in their walker and lend it from there for each ring number; the first function here is built on them: it
 // empties the pool that it was lent, whatever that held, its counter and spare and the words of its open pairs, has the turns
 // start from it, and writes back what they leave. The second lends it a pool.
 ghost use mathlib.Core.Path.{_≡_};

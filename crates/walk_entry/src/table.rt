@@ -33,7 +33,7 @@ pub fn degree_at(atoms: &[u32], a: u32) -> u32
     look(atoms, a as usize * ATOM_WORDS + DEGREE)
 }
 
-// Where the entry i of an atom stands.
+// Where the entry i of an atom is.
 pub fn entry_at(first: &[u32], a: u32, i: u32) -> usize
     ensures { λ r. ⌜ (r ≡ (getD (now (first .entry)) a 0 + i) * bondWords) × (r < 2 ^ 34) ⌝ }
 {

@@ -23,7 +23,7 @@ pub record Fits (g : Graph) (w : Walk) (d : ℕ) (ps : List (List ℕ)) : Type 0
   pub few : length ps ≤ w .at .count
   pub short : length (lineOf ps) + 2 * length ps + 4 * entriesLeft g (w .taken) ≤ 24 * w .at .count + 4 * degrees g (g .size)
 
--- the state and the pieces after a turn, where d atoms stand on the way up
+-- the state and the pieces after a turn, where d atoms are on the way up
 pub record Goes (g : Graph) (most : ℕ) (ps : List (List ℕ)) (x : Turn) (d : ℕ) : Type 0 where
   pub sound : Sound g (x .after) d
   pub accepted : AllAccepted most (x .said) ps

@@ -26,7 +26,7 @@ use Rattle.walk_entry.specs.Ways.{even, scanIn, scanOf, judgedBack, wayOf}
 use Rattle.walk.specs.declared.walker.Walker.{Walker}
 use Rattle.walk.specs.Walk.{Walk, Turn, turn, quiet, refuseTurn, rootPassed, backAt, atEnd, ringSaid, withWalker, pooled, metAt, tookAt, popsThen, leftIn, rootTurn, leaveOf, numberedOf, ringTurn, enteredOf, enterTurn, bondTurn, entryTurn, atomOf, turnOf}
 
--- how many entries of the standing atom were taken
+-- how many entries of the current atom were taken
 abbrev pub takenOf : Walk → ℕ
 takenOf w = getD (w .taken) (w .at .here) 0
 
@@ -34,12 +34,12 @@ takenOf w = getD (w .taken) (w .at .here) 0
 abbrev pub tookOne : Walk → Walk
 tookOne w = tookAt w (w .at .here) (takenOf w)
 
--- the atom that the standing one was reached from
+-- the atom that the current one was reached from
 abbrev pub parentOf : Graph → List ℕ → ℕ → ℕ
 parentOf g back a = bondIn (g .bonds) (g .first) a (getD back a 0 - 1) .to
 
--- A turn from w to x. So many atoms are on the way from the standing atom up to its root, both counted, and 0 where none
--- stands: d before the turn, and the last number after it. The tables do not hold that number: the turns keep it.
+-- A turn from w to x. So many atoms are on the way from the current atom up to its root, both counted, and 0 where there
+-- is none: d before the turn, and the last number after it. The tables do not hold that number: the turns keep it.
 pub data Move (g : Graph) (w : Walk) (d : ℕ) : Turn → ℕ → Type 0 where
   still : w .at .standing ≡ false → g .size ≤ w .at .next → Move g w d (quiet w) d
   skip : w .at .standing ≡ false → w .at .next < g .size → getD (w .met) (w .at .next) 0 ≢ 0 → Move g w d (quiet (withWalker w (rootPassed (w .at)))) d

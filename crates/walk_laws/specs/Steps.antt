@@ -21,7 +21,7 @@ abbrev pub longerWalk : ℕ → ℕ → ℕ → ℕ → Walk → Walk
 longerWalk met walked back taken w =
     walk (w .at) (longer met (w .met)) (longer walked (w .walked)) (longer back (w .back)) (longer taken (w .taken)) (w .pairs)
 
--- Two walks that came as far, and whose tables look alike everywhere.
+-- Two walks in the same state, whose tables give the same answer to every look.
 pub record Alike (x y : Walk) : Type 0 where
   pub at : x .at ≡ y .at
   pub met : (i : ℕ) → getD (x .met) i 0 ≡ getD (y .met) i 0

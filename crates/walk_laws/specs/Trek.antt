@@ -20,7 +20,7 @@ pub record Room (g : Graph) (lm lb lt : ℕ) : Type 0 where
   pub back : g .size ≤ lb
   pub taken : g .size ≤ lt
 
--- The writer takes an event: there is room for the piece more, or a piece for the ring number, or one piece that a pop leaves.
+-- The writer takes an event: there is room for one more piece, or a piece for the ring number, or a piece that a pop leaves.
 abbrev pub Accepts : ℕ → Event → List (List ℕ) → Type 0
 Accepts most (Root k) ps = length ps < most
 Accepts most (Extend b k) ps = length ps < most
@@ -37,7 +37,7 @@ unfoldable pub degrees : Graph → ℕ → ℕ
 degrees g zero = 0
 degrees g (suc n) = degrees g n + degreeAt g n
 
--- The walk is done: no atom stands, every atom was tried as a root, and every atom was met and counted.
+-- The walk is done: there is no current atom, every atom was tried as a root, and every atom was met and counted.
 pub record Finished (g : Graph) (w : Walk) : Type 0 where
   pub standing : w .at .standing ≡ false
   pub next : g .size ≤ w .at .next

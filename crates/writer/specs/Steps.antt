@@ -4,7 +4,7 @@ use Prim.Native.Nat.{_+_, _≤_, _<_}
 use Rattle.writer.specs.declared.Writer.{Writer}
 use Rattle.writer.specs.Tables.{far}
 
--- counts that an event cannot bring to where a number ends
+-- counts so small that none wraps in an event
 pub record LineNear (w : Writer) : Type 0 where
   pub pieces : w .pieces < far
   pub len : w .len < far

@@ -1,4 +1,4 @@
--- The invariant: the slots passed stand.
+-- The invariant: the slots passed are as a pool's have to be.
 use borrow.Author.Needs.{needs}
 use Rattle.feature.specs.Every.{every}
 use Rattle.desk_pool.specs.Slots.{top, isSlot}

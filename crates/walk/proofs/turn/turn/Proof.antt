@@ -1,4 +1,4 @@
--- By whether an atom stands.
+-- By whether there is a current atom.
 use borrow.Author.Needs.{needs}
 use Rattle.walk.proofs.Onto.{turn-standing, turn-root}
 use Rattle.walk.proofs.turn.turn.Statement.{statement}

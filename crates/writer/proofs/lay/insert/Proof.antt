@@ -1,4 +1,4 @@
--- The loop carries a byte; the invariant is that what it has passed is the byte put in and what stood there, moved one place on.
+-- The loop carries a byte; the invariant is that what it has passed is the byte put in and what was there, moved one place on.
 use lib.ListN.{length-set, length, take, getD}
 use Rattle.writer.proofs.Laws.{moved, insert-out, insert-carry, insert-done}
 use lib.Seq.{sets}

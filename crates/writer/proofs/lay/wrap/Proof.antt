@@ -1,4 +1,4 @@
--- The opening bracket put in and the closing one laid make what stands between them wrapped.
+-- The opening bracket put in and the closing one laid make what is between them wrapped.
 use Rattle.writer.proofs.Laws.{wrap-both}
 use borrow.Author.Needs.{needs}
 use Rattle.writer.proofs.lay.wrap.Statement.{statement}

@@ -1,4 +1,4 @@
--- A pop wraps what stands from the start of the last pieces on.
+-- A pop wraps the bytes from the start of the last pieces on.
 use Rattle.writer.proofs.Laws.{pop-none, pop-some}
 use Rattle.writer.specs.Tables.{sayT}
 use native.Mathlib.Omega.{arith}
