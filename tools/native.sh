@@ -147,7 +147,7 @@ native_module() {
     "$own/bin/rattle-cases" --toolchain "$work/tools" "$@" </dev/null >"$work/log" 2>&1 || :
     [ -f "$work/module.bc" ] || {
         cat "$work/log" >&2
-        native_fail "crates/$crate cannot be compiled"
+        native_fail "crates/$crate, or a crate that it reaches, cannot be compiled: \`rt dev\` of it says why"
     }
 }
 
