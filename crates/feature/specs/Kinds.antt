@@ -90,3 +90,8 @@ invertOf Star = Turned Star
 invertOf (Aliphatic n) = Turned (Aliphatic n)
 invertOf (Aromatic n) = Turned (Aromatic n)
 invertOf (Bracket b) = invertBracket b
+
+-- the kind with its mark turned, or as it is where the mark can't be
+unfoldable pub turnedOr : AtomKind → Inverted → AtomKind
+turnedOr k (Turned t) = t
+turnedOr k Refused = k

@@ -9,7 +9,7 @@ use lib.Dec.{ltb, leb}
 use lib.ListN.{length, length-append, length-drop}
 use borrow.Author.Tests.{ltb-true, ltb-false, leb-true, leb-false}
 use Rattle.feature.specs.Pick.{pick}
-use Rattle.feature.specs.Kinds.{invertOf}
+use Rattle.feature.specs.Kinds.{invertOf, turnedOr}
 use Rattle.feature.specs.declared.atom_kind.AtomKind.{AtomKind}
 use Rattle.feature.specs.declared.atom_kind.Inverted.{Inverted}
 use Rattle.feature.specs.declared.atom_kind.Inverted.the-variants.{Turned, Refused}
@@ -25,7 +25,7 @@ use Rattle.builder_meaning.proofs.Rows.{upd-length}
 use Rattle.read.specs.declared.Answer.{Answer}
 use Rattle.read.specs.declared.Answer.the-variants as answer
 use Rattle.read.specs.Read.{readRefusal}
-use Rattle.opensmiles_laws.specs.Molecule.{Molecule, molecule, atomPlaced, agreed, closed, moleculeRinged, numbered, turnedOr, asHeld, moleculeTold}
+use Rattle.opensmiles_laws.specs.Molecule.{Molecule, molecule, atomPlaced, agreed, closed, moleculeRinged, numbered, asHeld, moleculeTold}
 use Rattle.opensmiles_laws.proofs.Joined.{ends, reconciled}
 use Rattle.opensmiles_laws.specs.Stops.{Meets, no-place, no-slots, not-turned, no-slot, not-turned-after, wrong, deep, Passes, atomsNamed, Fails, fails}
 use Rattle.opensmiles_laws.specs.Stops as stops

@@ -12,8 +12,6 @@ use Rattle.feature.specs.Pick.{pick, both}
 use Rattle.feature.specs.Kinds.{invertOf}
 use Rattle.feature.specs.Bonds.{sameKind, reverseOf}
 use Rattle.feature.specs.declared.atom_kind.AtomKind.{AtomKind}
-use Rattle.feature.specs.declared.atom_kind.Inverted.{Inverted}
-use Rattle.feature.specs.declared.atom_kind.Inverted.the-variants.{Turned, Refused}
 use Rattle.feature.specs.declared.bond_kind.BondKind.{BondKind}
 use Rattle.feature.specs.declared.bond_kind.BondKind.the-variants.{Elided, Double}
 use Rattle.read_line.specs.declared.lead.Lead.{Lead}
@@ -21,6 +19,7 @@ use Rattle.read_line.specs.declared.lead.Lead.the-variants.{Dot, Bond}
 use Rattle.read_line.specs.Events.{ReadEvent, Enter, Join, Pop, Miss, Nest}
 use Rattle.builder_meaning.specs.Sketch.{To, Open, Edge, Node, Held, edge, node, held, upd, edgesAt, addEdge, openKind, fill, lookup, ringFreed, leads, firstOpenS}
 use Rattle.grammar.specs.OpenSmiles.{Chain, says}
+use Rattle.feature.specs.Kinds.{turnedOr}
 
 -- ---- A MOLECULE IN THE MAKING
 -- The atoms with their neighbours; the atoms that the next one may follow, the last first; the ring numbers used once; how many
@@ -83,10 +82,6 @@ asWritten l k = k
 -- hydrogen these two marks say the same. Without hydrogen, or with no atom before, the two orders are one, and no mark changes.
 -- Departure "TH marks, two hydrogens": past two hydrogens the atom before would keep its mark, and it is turned all the same.
 -- Smallest line: C[C@H2]F.
-unfoldable pub turnedOr : AtomKind → Inverted → AtomKind
-turnedOr k (Turned j) = j
-turnedOr k Refused = k
-
 unfoldable pub asHeld : Lead → AtomKind → AtomKind
 asHeld Dot k = k
 asHeld (Bond e) k = turnedOr k (invertOf k)

@@ -1,3 +1,4 @@
 pub mod Events
 pub mod Parse
+pub mod Places
 pub mod Steps

@@ -2,33 +2,32 @@
 -- line can be asked of the answer. Assumes nothing.
 use Prim.Native.Nat.{ℕ, _/_, _≤_, _<_}
 use mathlib.Core.Path.{_≡_, refl, sym, ap, ap₂, _∙_}
-use mathlib.Core.List.{List, [], _∷_, _++_, map}
-use mathlib.Core.Bool.{true, false}
+use mathlib.Core.List.{List, [], _∷_, _++_}
+use mathlib.Core.Bool.{true}
 use native.Mathlib.Omega.{arith}
 use lib.ListN.{length, take}
-use lib.Dec.{eqb}
-use borrow.Author.Tests.{le-ltb, ltb-true, eqb-true, ne-eqb}
+use borrow.Author.Tests.{le-ltb, ltb-true, ne-eqb}
 use Rattle.packing.specs.Words.{atomWords, bondWords}
 use Rattle.builder.specs.Limits.{textLimit, atomLimit, bondLimit, branchLimit, lesserOf}
 use Rattle.read_line.specs.Events as reader
 use Rattle.read_line.specs.Parse.{parse}
-use Rattle.writer.specs.Line.{Event, Root, Extend, Join, Pop}
+use Rattle.writer.specs.Line.{Event, Join, Pop}
 use Rattle.builder_meaning.specs.Sketch.{Sketch, startS, stepS, runS, sketchOf}
 use Rattle.read.specs.declared.Answer.the-variants as answer
 use Rattle.read.specs.Read.{readRefusal}
 use Rattle.read.specs.Line as read
 use Rattle.write.specs.declared.answer.Written.the-variants.{Done}
 use Rattle.write.specs.Write.{graphOf, walkEvents, lineSaid, writeLeaves, writeOf}
-use Rattle.trip_text.specs.Retell.{placeless, unplaced, hasNest, retoldOne, retold, depth, SaysWithin, all, cut}
+use Rattle.trip_text.specs.Retell.{hasNest, retold, depth, SaysWithin, all, cut}
 use Rattle.trip_text.proofs.Retold.{retold-line}
-use Rattle.trip_graph.specs.Steps as graph-steps
 use Rattle.trip_graph.proofs.Lists.{by-bool}
-use Rattle.trip_graph.proofs.Follows.{run-refused, run-app, run-one}
-use Rattle.trip_graph.proofs.Places.{places-free}
+use Rattle.trip_graph.proofs.Follows.{run-app, run-one}
+use Rattle.trip_graph.proofs.Places.{fine-before, places-free}
 use Rattle.trip_graph.proofs.Written.{was-done, table-trip}
 use Rattle.round_trip.specs.RoundTrip.{Plain, readAs}
 use Rattle.round_trip.specs.Steps.{backByTurns}
-use Rattle.round_trip.proofs.Law.{told-same, places-same, walk-told, walk-spelled, walk-accepted, walk-says, line-nests, line-is, turns-trip}
+use Rattle.round_trip.proofs.Law.{walk-told, walk-spelled, walk-accepted, walk-says, line-nests, line-is, turns-trip}
+use Rattle.read_line.specs.Places.{unplaced, placeless}
 
 clash : {X : Type 0} → _≡_ {A = ℕ} 0 1 → X
 clash e = absurd (omega arith)
@@ -75,59 +74,25 @@ ends-at (a ∷ A) (y ∷ x) e =
       same = ap₂ (λ (a : reader.ReadEvent) (b : List reader.ReadEvent). a ∷ b) (cons-head e) (r .same);
     }
 
--- none but the last
-nests-placeless : (x : List reader.ReadEvent) → hasNest (unplaced x) ≡ hasNest x
-unfolding hasNest unplaced placeless
-nests-placeless [] = refl
-nests-placeless (reader.Enter l k p ∷ x) = nests-placeless x
-nests-placeless (reader.Join b n p ∷ x) = nests-placeless x
-nests-placeless (reader.Pop n ∷ x) = nests-placeless x
-nests-placeless (reader.Miss m ∷ x) = nests-placeless x
-nests-placeless (reader.Nest p ∷ x) = refl
-
-nests-front : (x y : List reader.ReadEvent) → hasNest (x ++ y) ≡ false → hasNest x ≡ false
-unfolding hasNest
-nests-front [] y h = refl
-nests-front (reader.Enter l k p ∷ x) y h = nests-front x y h
-nests-front (reader.Join b n p ∷ x) y h = nests-front x y h
-nests-front (reader.Pop n ∷ x) y h = nests-front x y h
-nests-front (reader.Miss m ∷ x) y h = nests-front x y h
-nests-front (reader.Nest p ∷ x) y h = h
-
-nests-retold : (es : List Event) → hasNest (retold es) ≡ false
-unfolding hasNest retold retoldOne
-nests-retold [] = refl
-nests-retold (Root k ∷ es) = nests-retold es
-nests-retold (Extend b k ∷ es) = nests-retold es
-nests-retold (Join b n ∷ es) = nests-retold es
-nests-retold (Pop d ∷ es) = nests-retold es
-
 -- ---- a builder
--- what is not refused at the end was not refused before
-fine-before : (d : Sketch) (es : List reader.ReadEvent) → runS d es .refusal ≡ 0 → d .refusal ≡ 0
-fine-before d es h =
-    by-bool (eqb (d .refusal) 0) (λ q. eqb-true (d .refusal) 0 q) (λ q. ap (λ (c : Sketch). c .refusal) (sym (run-refused d es q)) ∙ h)
-
 -- as much as comes before a branch too many is built, and then that branch is refused
-nest-refused : (d : Sketch) (x A B : List reader.ReadEvent) → hasNest (A ++ B) ≡ false → runS d (A ++ B) .refusal ≡ 0 → unplaced x ≡ A ++ (reader.Nest 0 ∷ [])
+nest-refused : (d : Sketch) (x A B : List reader.ReadEvent) → runS d (A ++ B) .refusal ≡ 0 → unplaced x ≡ A ++ (reader.Nest 0 ∷ [])
     → runS d x .refusal ≡ reader.nesting
 unfolding stepS
-nest-refused d x A B f h e =
+nest-refused d x A B h e =
     let r = ends-at A x e in
-    let k : hasNest (r .front) ≡ false = sym (nests-placeless (r .front)) ∙ ap hasNest (r .same) ∙ nests-front A B f in
-    let s : map graph-steps.placeless (r .front) ≡ A = places-same (r .front) k ∙ r .same in
     let z : runS d A .refusal ≡ 0 = fine-before (runS d A) B (ap (λ (c : Sketch). c .refusal) (sym (run-app d A B)) ∙ h) in
-    let y : runS d (map graph-steps.placeless (r .front)) .refusal ≡ 0 = ap (λ (c : List reader.ReadEvent). runS d c .refusal) s ∙ z in
+    let y : runS d (unplaced (r .front)) .refusal ≡ 0 = ap (λ (c : List reader.ReadEvent). runS d c .refusal) (r .same) ∙ z in
     let o : runS d (r .front) .refusal ≡ 0 = ap (λ (c : Sketch). c .refusal) (places-free d (r .front) y) ∙ y in
     ap (λ (c : List reader.ReadEvent). runS d c .refusal) (r .is)
     ∙ ap (λ (c : Sketch). c .refusal) (run-app d (r .front) (reader.Nest (r .place) ∷ []))
     ∙ ap (λ (c : Sketch). c .refusal) (run-one (runS d (r .front)) (reader.Nest (r .place)) o)
 
-says-refused : (d : Sketch) {w room : ℕ} (D x : List reader.ReadEvent) → room < w → hasNest D ≡ false → runS d D .refusal ≡ 0 → SaysWithin w room D x
+says-refused : (d : Sketch) {w room : ℕ} (D x : List reader.ReadEvent) → room < w → runS d D .refusal ≡ 0 → SaysWithin w room D x
     → runS d x .refusal ≡ reader.nesting
-says-refused d D x l f h (all g e) = absurd (omega arith)
-says-refused d D x l f h (cut A B g q e) =
-    nest-refused d x A B (ap hasNest (sym q) ∙ f) (ap (λ (c : List reader.ReadEvent). runS d c .refusal) (sym q) ∙ h) e
+says-refused d D x l h (all g e) = absurd (omega arith)
+says-refused d D x l h (cut A B g q e) =
+    nest-refused d x A B (ap (λ (c : List reader.ReadEvent). runS d c .refusal) (sym q) ∙ h) e
 
 -- ---- the answer
 refused-answer : (s : List ℕ) (la lb : ℕ) → length s ≤ textLimit → sketchOf s la lb .refusal ≡ reader.nesting
@@ -152,7 +117,7 @@ turns-too-deep room atoms n bonds m len out la lb P e short deep ra rb =
     ltb-true branchLimit (depth es) (sym (line-nests room atoms n bonds m len out P e) ∙ ap (λ (x : List ℕ). hasNest (parse x)) (sym l) ∙ deep) in
     let s = retold-line atomLimit es (walk-says room atoms n bonds m len out P e) (walk-told room atoms n bonds m len out P e) (walk-spelled room atoms n bonds m len out P e) (walk-accepted room atoms n bonds m len out P e) in
     let r : runS b (parse (lineSaid es)) .refusal ≡ reader.nesting =
-    says-refused b (retold es) (parse (lineSaid es)) k (nests-retold es) (ap (λ (x : List reader.ReadEvent). runS b x .refusal) (told-same es) ∙ t .refusal) s in
+    says-refused b (retold es) (parse (lineSaid es)) k (t .refusal) s in
     (_, refused-answer (take len out) la lb short (ap (λ (x : List ℕ). runS b (parse x) .refusal) l ∙ r))
 
 -- The round trip, asked of the answer: a line that is not too long, with room lent for its atoms and entries, is read back

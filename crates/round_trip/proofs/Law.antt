@@ -2,7 +2,7 @@
 -- whole. Assumes nothing.
 use Prim.Native.Nat.{ℕ, _*_, _/_, _≤_, _<_}
 use mathlib.Core.Path.{_≡_, refl, sym, ap, ap₂, _∙_, subst}
-use mathlib.Core.List.{List, [], _∷_, _++_, map}
+use mathlib.Core.List.{List, [], _∷_, _++_}
 use mathlib.Core.Bool.{false}
 use native.Mathlib.Omega.{arith}
 use lib.ListN.{length, take}
@@ -10,9 +10,7 @@ use lib.Dec.{ltb}
 use borrow.Author.Tests.{le-ltb, ltb-false, eq-eqb}
 use Rattle.packing.specs.Words.{atomWords, bondWords}
 use Rattle.builder.specs.Limits.{textLimit, atomLimit, bondLimit, branchLimit, lesserOf}
-use Rattle.read_line.specs.Events as reader
 use Rattle.read_line.specs.Parse.{parse}
-use Rattle.writer.specs.Line.{Event, Root, Extend, Join, Pop}
 use Rattle.builder_meaning.specs.Sketch.{countOf, sketchOf, leftS}
 use Rattle.read.specs.Read.{Said, builtAnswer}
 use Rattle.read.specs.Line as read
@@ -21,10 +19,9 @@ use Rattle.write.specs.declared.answer.Written.the-variants.{Done}
 use Rattle.write.specs.Write.{zeros, pairWords, graphOf, walkOf, saidIn, walkEvents, lineSaid, writeLeaves, writeOf}
 use Rattle.walk_laws.specs.Trek.{Room, AllAccepted}
 use Rattle.walk_laws.proofs.Accepted.{accepted}
-use Rattle.trip_text.specs.Retell.{Sayable, Spellable, placeless, unplaced, hasNest, retoldOne, retold, depth}
+use Rattle.trip_text.specs.Retell.{Sayable, Spellable, hasNest, retold, depth}
 use Rattle.trip_text.proofs.Passes.{passes}
 use Rattle.trip_text.proofs.Retold.{retold-shallow, retold-nests}
-use Rattle.trip_graph.specs.Renumber as trip-graph
 use Rattle.trip_graph.specs.Steps as graph-steps
 use Rattle.trip_graph.specs.Renumbered.{Numbers, byWalk, renumbered}
 use Rattle.walk_entry.specs.Graph.{Graph, kindAt}
@@ -35,25 +32,7 @@ use Rattle.round_trip.specs.RoundTrip.{Plain, Readable, readAs, Same}
 use Rattle.round_trip.specs.Steps.{backByTurns, TripByTurns, OneLineByTurns}
 use Rattle.round_trip.proofs.Ordered.{told-walk, some-said}
 use Rattle.round_trip.proofs.Spelling.{kept-spelled, kept-turns}
-
--- ---- the two ways to say what was told
-pub told-same : (es : List Event) → retold es ≡ trip-graph.asReadEvents es
-unfolding retold retoldOne trip-graph.asReadEvents trip-graph.toldAs
-told-same [] = refl
-told-same (Root k ∷ es) = ap (λ (x : List reader.ReadEvent). retoldOne (Root k) ∷ x) (told-same es)
-told-same (Extend b k ∷ es) = ap (λ (x : List reader.ReadEvent). retoldOne (Extend b k) ∷ x) (told-same es)
-told-same (Join b n ∷ es) = ap (λ (x : List reader.ReadEvent). retoldOne (Join b n) ∷ x) (told-same es)
-told-same (Pop d ∷ es) = ap (λ (x : List reader.ReadEvent). retoldOne (Pop d) ∷ x) (told-same es)
-
--- and to forget the places, where no branch too many is met
-pub places-same : (x : List reader.ReadEvent) → hasNest x ≡ false → map graph-steps.placeless x ≡ unplaced x
-unfolding hasNest unplaced placeless graph-steps.placeless
-places-same [] h = refl
-places-same (reader.Enter l k p ∷ x) h = ap (λ (y : List reader.ReadEvent). reader.Enter l k 0 ∷ y) (places-same x h)
-places-same (reader.Join b n p ∷ x) h = ap (λ (y : List reader.ReadEvent). reader.Join b n 0 ∷ y) (places-same x h)
-places-same (reader.Pop n ∷ x) h = ap (λ (y : List reader.ReadEvent). reader.Pop n ∷ y) (places-same x h)
-places-same (reader.Miss m ∷ x) h = ap (λ (y : List reader.ReadEvent). reader.Miss m ∷ y) (places-same x h)
-places-same (reader.Nest p ∷ x) h = absurd (let z : _≡_ {A = ℕ} 0 1 = cc in omega arith)
+use Rattle.read_line.specs.Places.{unplaced}
 
 -- ---- the line in an output
 take-line : (l z : List ℕ) → take (length l) (l ++ z) ≡ l
@@ -97,11 +76,9 @@ module _ (room : ℕ) (atoms : List ℕ) (n : ℕ) (bonds : List ℕ) (m len : �
 
   -- the line is read as what the walk said
   pub line-says : hasNest (parse (lineSaid (walkEvents atoms n bonds m))) ≡ false
-      → map graph-steps.placeless (parse (lineSaid (walkEvents atoms n bonds m))) ≡ trip-graph.asReadEvents (walkEvents atoms n bonds m)
+      → unplaced (parse (lineSaid (walkEvents atoms n bonds m))) ≡ retold (walkEvents atoms n bonds m)
   line-says h =
-      places-same (parse (lineSaid (walkEvents atoms n bonds m))) h
-      ∙ retold-shallow atomLimit (walkEvents atoms n bonds m) walk-says walk-told walk-spelled walk-accepted (ltb-false branchLimit (depth (walkEvents atoms n bonds m)) (sym line-nests ∙ h))
-      ∙ told-same (walkEvents atoms n bonds m)
+      retold-shallow atomLimit (walkEvents atoms n bonds m) walk-says walk-told walk-spelled walk-accepted (ltb-false branchLimit (depth (walkEvents atoms n bonds m)) (sym line-nests ∙ h))
 
 -- ---- what is read of it
 -- a text whose builder is done is read, and leaves what the builder made
@@ -126,8 +103,8 @@ line-comes-back : (room : ℕ) (atoms : List ℕ) (n : ℕ) (bonds : List ℕ) (
 line-comes-back room atoms n bonds m len out P e flat la lb ra rb =
     let l : take len out ≡ lineSaid (walkEvents atoms n bonds m) = line-is room atoms n bonds m len out e in
     let f : hasNest (parse (lineSaid (walkEvents atoms n bonds m))) ≡ false = ap (λ (x : List ℕ). hasNest (parse x)) (sym l) ∙ flat in
-    let h : map graph-steps.placeless (parse (take len out)) ≡ trip-graph.asReadEvents (walkEvents atoms n bonds m) =
-    ap (λ (x : List ℕ). map graph-steps.placeless (parse x)) l ∙ line-says room atoms n bonds m len out P e f in
+    let h : unplaced (parse (take len out)) ≡ retold (walkEvents atoms n bonds m) =
+    ap (λ (x : List ℕ). unplaced (parse x)) l ∙ line-says room atoms n bonds m len out P e f in
     text-comes-back room atoms n bonds m len out (P .simple) (P .marks) e (take len out) h la lb ra rb
 
 -- ---- the laws

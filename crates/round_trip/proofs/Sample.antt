@@ -6,7 +6,7 @@ use mathlib.Core.Bool.{false}
 use native.Mathlib.Omega.{arith}
 use Rattle.feature.specs.Text.{bytes}
 use Rattle.feature.specs.Names.{names, placeOf}
-use Rattle.feature.specs.Kinds.{bracketOfSix, bracketInRange, inRange, invertBracket, invertOf}
+use Rattle.feature.specs.Kinds.{bracketOfSix, bracketInRange, inRange, invertBracket, invertOf, turnedOr}
 use Rattle.feature.specs.Bonds.{codeOf, kindOf, sureKind, reverseOf}
 use Rattle.feature.specs.declared.atom_kind.AtomKind.{AtomKind}
 use Rattle.feature.specs.declared.atom_kind.AtomKind.the-variants.{Star, Aliphatic, Bracket}
@@ -25,7 +25,7 @@ use Rattle.read.specs.Read.{said}
 use Rattle.read.specs.Line as read
 use Rattle.writer.specs.Line as writer
 use Rattle.walk_entry.specs.Graph.{Graph, kindAt, degreeAt, bondOf, kindOr, kindIn, degreeIn, bondIn}
-use Rattle.walk_entry.specs.Ways.{isRefused, isFixed, turnedOr, even, saidAs, scanIn, judgedBack, wayOf}
+use Rattle.walk_entry.specs.Ways.{isRefused, isFixed, even, saidAs, scanIn, judgedBack, wayOf}
 use Rattle.walk.specs.Walk.{popsOf, rootTurn, leftIn, numberedOf, ringTurn, enteredOf, enterTurn, bondTurn, entryTurn, atomOf, turnOf, stepOf, walkTo, eventsOf, turnsOf}
 use Rattle.table_check.specs.Judge.{isEntry, bondStands, atomsFrom, firstBadBond, afterAtoms, badRecord}
 use Rattle.write.specs.declared.answer.Written.the-variants.{Done}

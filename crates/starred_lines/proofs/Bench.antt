@@ -2,7 +2,7 @@
 use mathlib.Core.Path.{_≡_, refl}
 use mathlib.Core.List.{map}
 use Rattle.feature.specs.Names.{placeOf, names, begins}
-use Rattle.feature.specs.Kinds.{invertOf}
+use Rattle.feature.specs.Kinds.{invertOf, turnedOr}
 use Rattle.feature.specs.Bonds.{codeOf, reverseOf, isDirectional, reconcileOf}
 use Rattle.read_token.specs.Scan.{peekAt, digitOf, digitAt, missingAt, bracketAt, aromaticOf, aliphaticOf, optionalAt, organicAt, starAt, orElse, otherAt, atomAt, signKind, markWidth, bondAt, rnumAt, afterCharge, afterConfiguration, afterHydrogens, afterIsotope, afterMap, afterSymbol, chargeAt, closeAt, configurationAt, configured, digitStep, hydrogensAt, insideAt, isotopeAt, mapAt, numberAt, signedAt, slip, symbolAt, symbolOf, fifteenAt, shortAt, longAt, lateAt}
 use Rattle.builder.specs.Limits.{lesserOf}
@@ -17,7 +17,7 @@ use Rattle.builder.specs.Build.{sumOf, entryStarts}
 use Rattle.join_pool.specs.Pairs as pool
 use Rattle.writer.specs.Line.{lineOf, dotText, addPiece, onLast, wrapped, popPieces, writeEvent, writeEvents}
 use Rattle.walk_entry.specs.Graph.{kindOr, kindIn, degreeIn, bondIn}
-use Rattle.walk_entry.specs.Ways.{isRefused, isFixed, turnedOr, even, saidAs, scanIn, judgedBack, wayOf}
+use Rattle.walk_entry.specs.Ways.{isRefused, isFixed, even, saidAs, scanIn, judgedBack, wayOf}
 use Rattle.walk.specs.Walk as walk
 use Rattle.table_check.specs.Judge as judge
 use Rattle.walk_laws.specs.Plain as plain

@@ -4,7 +4,7 @@ use mathlib.Core.Path.{_≡_, refl, subst}
 use mathlib.Core.List.{List, [], _∷_, _++_}
 use native.Mathlib.Omega.{arith}
 use lib.ListN.{replicate}
-use Rattle.feature.specs.Kinds.{bracketOfSix, bracketInRange, inRange, invertBracket, invertOf}
+use Rattle.feature.specs.Kinds.{bracketOfSix, bracketInRange, inRange, invertBracket, invertOf, turnedOr}
 use Rattle.feature.specs.Bonds.{codeOf, kindOf, sureKind, reverseOf}
 use Rattle.feature.specs.declared.atom_kind.AtomKind.{AtomKind}
 use Rattle.feature.specs.declared.atom_kind.AtomKind.the-variants.{Aliphatic, Bracket}
@@ -13,14 +13,15 @@ use Rattle.packing.specs.Words as words
 use Rattle.join_pool.specs.Pairs as pool
 use Rattle.builder_meaning.specs.Sketch.{To, Node, edge, node, startS, runS}
 use Rattle.walk_entry.specs.Graph.{Graph, graph, kindAt, degreeAt, bondOf, kindOr, kindIn, degreeIn, bondIn}
-use Rattle.walk_entry.specs.Ways.{isRefused, isFixed, turnedOr, even, saidAs, scanIn, judgedBack, wayOf}
+use Rattle.walk_entry.specs.Ways.{isRefused, isFixed, even, saidAs, scanIn, judgedBack, wayOf}
 use Rattle.walk.specs.Walk.{Walk, popsOf, rootTurn, leftIn, numberedOf, ringTurn, enteredOf, enterTurn, bondTurn, entryTurn, atomOf, turnOf, stepOf, walkTo, eventsOf, turnsOf}
 use Rattle.write.specs.Write.{pairWords}
 use Rattle.walk_laws.specs.Trek.{fresh, degrees}
-use Rattle.trip_graph.specs.Renumber.{Backed, Simple, asReadEvents, Built}
+use Rattle.trip_graph.specs.Renumber.{Backed, Simple, Built}
 use Rattle.trip_graph.specs.Renumbered.{othersOf, parentEntry, doneOf, edgeOf, nodeOf, byWalk, firstAtoms, renumbered}
 use Rattle.trip_graph.specs.Marks.{Tetrahedral, bearsHydrogen, otherMark, toggled, oddIndex, backKind}
 use Rattle.trip_graph.proofs.Trip.{graph-trip}
+use Rattle.trip_text.specs.Retell.{retold}
 
 abbrev carbon : AtomKind
 carbon = Aliphatic 1
@@ -96,8 +97,8 @@ unfolding degrees words.listOf words.wordsOf words.pairOf words.bracketPair degr
 ring-degrees = refl
 
 -- so what its walk says builds the ring as written above
-ring-built : Built (runS (startS 3 6) (asReadEvents (eventsOf ring (turnsOf 3 6) (fresh 3 3 3 3 (replicate pairWords 0)))))
+ring-built : Built (runS (startS 3 6) (retold (eventsOf ring (turnsOf 3 6) (fresh 3 3 3 3 (replicate pairWords 0)))))
     (node carbon (edge Single (To 1) ∷ edge Up (To 2) ∷ []) ∷ node (marked 2) (edge Single (To 0) ∷ edge Single (To 2) ∷ []) ∷ node carbon (edge Single (To 1) ∷ edge Down (To 0) ∷ []) ∷ [])
 ring-built =
-    subst (λ (ns : List Node). Built (runS (startS 3 6) (asReadEvents (eventsOf ring (turnsOf 3 6) (fresh 3 3 3 3 (replicate pairWords 0))))) ns) ring-renumbered
+    subst (λ (ns : List Node). Built (runS (startS 3 6) (retold (eventsOf ring (turnsOf 3 6) (fresh 3 3 3 3 (replicate pairWords 0))))) ns) ring-renumbered
     (graph-trip ring ring-simple ring-tetrahedral 3 3 3 3 (record { met = omega arith; back = omega arith; taken = omega arith }) (omega arith) 6 (omega (arith, ring-degrees)) not-refused 3 6 (omega arith) (omega (arith, ring-degrees)))

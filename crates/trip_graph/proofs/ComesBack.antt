@@ -1,7 +1,7 @@
 -- A simple graph with no configuration but TH1 or TH2, handed in as tables and written without refusal: a text that is read as what
 -- the walk said, each event at any place, comes back as the graph renumbered in walk order, where there is room for it.
 use mathlib.Core.Path.{_≡_, sym, ap, _∙_}
-use mathlib.Core.List.{List, map}
+use mathlib.Core.List.{List}
 use Prim.Native.Nat.{ℕ, _/_, _≤_, _<_}
 use native.Mathlib.Omega.{arith}
 use lib.ListN.{length}
@@ -13,19 +13,21 @@ use Rattle.builder_meaning.specs.Sketch.{nextNumber, countOf, startS, runS, ske
 use Rattle.walk_entry.specs.Graph.{kindAt}
 use Rattle.write.specs.declared.answer.Written.the-variants.{Done}
 use Rattle.write.specs.Write.{graphOf, walkOf, walkEvents, writeLeaves, writeOf}
-use Rattle.trip_graph.specs.Renumber.{Simple, asReadEvents, Renumbers}
-use Rattle.trip_graph.specs.Steps.{placeless, ComesBack}
+use Rattle.trip_graph.specs.Renumber.{Simple, Renumbers}
+use Rattle.trip_graph.specs.Steps.{ComesBack}
 use Rattle.trip_graph.specs.Renumbered.{byWalk, renumbered}
 use Rattle.trip_graph.specs.Marks.{Tetrahedral}
 use Rattle.trip_graph.proofs.Trip.{renumbered-length}
 use Rattle.trip_graph.proofs.Written.{entries, table-numbers, table-count, placed-trip, was-done}
 use Rattle.trip_graph.proofs.Tables.{tables-renumber}
+use Rattle.read_line.specs.Places.{unplaced}
+use Rattle.trip_text.specs.Retell.{retold}
 
 module _ (room : ℕ) (atoms : List ℕ) (n : ℕ) (bonds : List ℕ) (m len : ℕ) (out : List ℕ)
     (W : Simple (graphOf n atoms bonds)) (T : (a : ℕ) → a < n → Tetrahedral (kindAt (graphOf n atoms bonds) a))
     (e : writeOf room atoms n bonds m ≡ writeLeaves (Done len) out) where
   -- events that differ from those of the walk only in their places
-  pub events-come-back : (places slots : ℕ) → n ≤ places → m ≤ slots → (es : List ReadEvent) → map placeless es ≡ asReadEvents (walkEvents atoms n bonds m)
+  pub events-come-back : (places slots : ℕ) → n ≤ places → m ≤ slots → (es : List ReadEvent) → unplaced es ≡ retold (walkEvents atoms n bonds m)
       → ComesBack (graphOf n atoms bonds) (byWalk (walkOf atoms n bonds m)) (runS (startS places slots) es) n m
   unfolding nextNumber
   events-come-back places slots hp hs es h =
@@ -39,7 +41,7 @@ module _ (room : ℕ) (atoms : List ℕ) (n : ℕ) (bonds : List ℕ) (m len : �
       }
 
   -- a text
-  pub text-comes-back : (s : List ℕ) → map placeless (parse s) ≡ asReadEvents (walkEvents atoms n bonds m)
+  pub text-comes-back : (s : List ℕ) → unplaced (parse s) ≡ retold (walkEvents atoms n bonds m)
       → (la lb : ℕ) → n ≤ lesserOf atomLimit (la / atomWords) → m ≤ lesserOf bondLimit (lb / bondWords)
       → ComesBack (graphOf n atoms bonds) (byWalk (walkOf atoms n bonds m)) (sketchOf s la lb) n m
   unfolding sketchOf

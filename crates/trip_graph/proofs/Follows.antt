@@ -26,11 +26,11 @@ use Rattle.walk_entry.specs.Graph.{BondEntry, Graph, entryTo}
 use Rattle.walk.specs.Walk.{popsOf}
 use Rattle.walk_laws.specs.Trek.{degrees}
 use Rattle.trip_graph.specs.Opened.{sameNumber, Pair, ringPair, look, del, numIn, joinIn, Distinct}
-use Rattle.trip_graph.specs.Renumber.{toldAs, asReadEvents}
 use Rattle.trip_graph.proofs.Lists.{memb, idx, Nodup, same-refl, eq-of-same, by-eq, by-bool, or-true, or-true-left, or-elim, idx-app, idx-new, idx-lt, map-app}
 use Rattle.trip_graph.proofs.View.{hasT, kindT, NodupB, view, push, view-open, view-extend, view-close, close-kind, view-root}
 use Rattle.trip_graph.proofs.Opens.{heldOf, look-in, look-one, lookup-none, lookup-some, without-map, join-del-true, Froms, held-snoc}
 use Rattle.trip_graph.proofs.Counts.{count-app, count-add, count-fill, upd-length}
+use Rattle.trip_text.specs.Retell.{retoldOne, retold}
 
 unfoldable pub idxs : List ℕ → List ℕ → List ℕ
 idxs o [] = []
@@ -62,18 +62,18 @@ run-app d [] fs = refl
 run-app d (e ∷ es) fs =
     by-bool (eqb (d .refusal) 0) (λ q. rw q (run-app (stepS d e) es fs)) (λ q. rw q (sym (run-refused d fs q)))
 
-pub told-app : (es fs : List writer.Event) → asReadEvents (es ++ fs) ≡ asReadEvents es ++ asReadEvents fs
-unfolding asReadEvents
-told-app es fs = map-app toldAs es fs
+pub told-app : (es fs : List writer.Event) → retold (es ++ fs) ≡ retold es ++ retold fs
+unfolding retold
+told-app es fs = map-app retoldOne es fs
 
 pub run-one : (d : Sketch) (e : ReadEvent) → d .refusal ≡ 0 → runS d (e ∷ []) ≡ stepS d e
 unfolding runS
 run-one d e h = rw (eq-eqb (d .refusal) 0 h)
 
 -- pops, then an event
-pub run-pops : (d : Sketch) (n : ℕ) (e : writer.Event) → runS d (asReadEvents (popsOf n ++ (e ∷ []))) ≡ runS (runS d (asReadEvents (popsOf n))) (toldAs e ∷ [])
-unfolding asReadEvents
-run-pops d n e = ap (runS d) (map-app toldAs (popsOf n) (e ∷ [])) ∙ run-app d (asReadEvents (popsOf n)) (toldAs e ∷ [])
+pub run-pops : (d : Sketch) (n : ℕ) (e : writer.Event) → runS d (retold (popsOf n ++ (e ∷ []))) ≡ runS (runS d (retold (popsOf n))) (retoldOne e ∷ [])
+unfolding retold
+run-pops d n e = ap (runS d) (map-app retoldOne (popsOf n) (e ∷ [])) ∙ run-app d (retold (popsOf n)) (retoldOne e ∷ [])
 
 -- ---- small laws
 pick-no : {A : Type 0} (q : Bool) (x y : A) → q ≡ false → pick q x y ≡ y
@@ -107,8 +107,8 @@ pub record Entry (s : ℕ) (e : BondEntry) (o : List ℕ) (d : ℕ → List Bond
   pub apart : s ≢ e .to
 
 module _ (g : Graph) (κ : ℕ → AtomKind) (o : List ℕ) (d : ℕ → List BondEntry) (P : List Pair) where
-  pub bld-pops : (fr : List ℕ) (n : ℕ) (b : Sketch) → Bld g κ fr n o d P b → Bld g κ fr zero o d P (runS b (asReadEvents (popsOf n)))
-  unfolding popsOf asReadEvents toldAs stepS
+  pub bld-pops : (fr : List ℕ) (n : ℕ) (b : Sketch) → Bld g κ fr n o d P b → Bld g κ fr zero o d P (runS b (retold (popsOf n)))
+  unfolding popsOf retold retoldOne stepS
   bld-pops fr n b B =
       by-eq n 0
       (λ e. rw (eq-eqb n 0 e) (unfold runS in subst (λ (i : ℕ). Bld g κ fr i o d P b) e B))

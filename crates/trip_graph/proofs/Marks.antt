@@ -8,7 +8,7 @@ use native.Mathlib.Omega.{arith}
 use lib.Dec.{eqb}
 use borrow.Author.Tests.{eq-eqb, ne-eqb, eqb-true}
 use Rattle.feature.specs.Pick.{pick, both, neither}
-use Rattle.feature.specs.Kinds.{noHydrogens, noConfiguration, th1, th2, withConfiguration, bracketInRange, inRange, invertBracket, invertOf}
+use Rattle.feature.specs.Kinds.{noHydrogens, noConfiguration, th1, th2, withConfiguration, bracketInRange, inRange, invertBracket, invertOf, turnedOr}
 use Rattle.feature.specs.declared.atom_kind.BracketAtom.{BracketAtom}
 use Rattle.feature.specs.declared.atom_kind.AtomKind.{AtomKind}
 use Rattle.feature.specs.declared.atom_kind.AtomKind.the-variants.{Star, Aliphatic, Aromatic, Bracket}
@@ -17,7 +17,7 @@ use Rattle.feature.specs.declared.atom_kind.Inverted.the-variants.{Turned}
 use Rattle.feature.proofs.Cases.{by-test}
 use Rattle.feature.proofs.Ranges.{good, ranged}
 use Rattle.survive.specs.Survive.{configurationSurvives, fieldsSurvive, survives}
-use Rattle.walk_entry.specs.Ways.{isRefused, isFixed, turnedOr, even, saidAs}
+use Rattle.walk_entry.specs.Ways.{isRefused, isFixed, even, saidAs}
 use Rattle.trip_graph.specs.Marks.{Tetrahedral, bearsHydrogen, otherMark, toggled, oddIndex, backKind, MarksServe}
 use Rattle.trip_graph.proofs.Lists.{by-eq, by-bool}
 

@@ -1,6 +1,6 @@
 -- Where in the text an event stood matters only to a builder that refuses it.
 use mathlib.Core.Path.{_≡_, refl, sym, ap, _∙_}
-use mathlib.Core.List.{List, [], _∷_, map}
+use mathlib.Core.List.{List, [], _∷_}
 use mathlib.Core.Option.{Option, none, some}
 use mathlib.Core.Bool.{Bool, true, false}
 use Prim.Native.Nat.{ℕ, _+_}
@@ -18,9 +18,9 @@ use Rattle.read_line.specs.declared.lead.Lead.{Lead}
 use Rattle.read_line.specs.declared.lead.Lead.the-variants.{Dot, Bond}
 use Rattle.read_line.specs.Events.{ReadEvent, Enter, Join, Pop, Miss, Nest}
 use Rattle.builder_meaning.specs.Sketch.{Sketch, Held, Failure, None, Failed, refused, nextNumber, countOf, rootS, extendS, bondedS, openedS, closedS, ringS, joinS, enterS, numberS, stepS, runS, lookup}
-use Rattle.trip_graph.specs.Steps.{placeless}
 use Rattle.trip_graph.proofs.Lists.{by-bool}
 use Rattle.trip_graph.proofs.Follows.{run-refused}
+use Rattle.read_line.specs.Places.{placeless, unplaced}
 
 -- a choice between a refusal and what goes on
 pick-same : (q : Bool) (x x′ y y′ : Sketch) → (x′ .refusal ≡ 0 → ⊥) → (y′ .refusal ≡ 0 → y ≡ y′) → pick q x′ y′ .refusal ≡ 0 → pick q x y ≡ pick q x′ y′
@@ -76,17 +76,17 @@ step-same d (Enter l k p) = enter-same d l k p (d .failure)
 step-same d (Join e n p) = number-same d e n p (d .failure)
 step-same d (Pop n) = λ z. refl
 step-same d (Miss m) = λ z. refl
-step-same d (Nest p) = λ z. refl
+step-same d (Nest p) = λ z. absurd (omega arith)
 
 -- what is not refused at the end was not refused before
-fine-before : (d : Sketch) (es : List ReadEvent) → runS d es .refusal ≡ 0 → d .refusal ≡ 0
+pub fine-before : (d : Sketch) (es : List ReadEvent) → runS d es .refusal ≡ 0 → d .refusal ≡ 0
 fine-before d es h =
     by-bool (eqb (d .refusal) 0) (λ q. eqb-true (d .refusal) 0 q) (λ q. ap (λ (c : Sketch). c .refusal) (sym (run-refused d es q)) ∙ h)
 
-pub places-free : (d : Sketch) (es : List ReadEvent) → runS d (map placeless es) .refusal ≡ 0 → runS d es ≡ runS d (map placeless es)
-unfolding runS
+pub places-free : (d : Sketch) (es : List ReadEvent) → runS d (unplaced es) .refusal ≡ 0 → runS d es ≡ runS d (unplaced es)
+unfolding runS unplaced
 places-free d [] = λ h. refl
 places-free d (e ∷ es) =
     by-bool (eqb (d .refusal) 0)
-    (λ q. rw q (λ h. let s = step-same d e (fine-before (stepS d (placeless e)) (map placeless es) h) in rw s (places-free (stepS d (placeless e)) es h)))
+    (λ q. rw q (λ h. let s = step-same d e (fine-before (stepS d (placeless e)) (unplaced es) h) in rw s (places-free (stepS d (placeless e)) es h)))
     (λ q. rw q (λ h. refl))

@@ -20,7 +20,7 @@ use Rattle.walk_laws.proofs.Sums.{zeros-at}
 use Rattle.walk_laws.proofs.Sound.{Sound, sound-start, step-sound}
 use Rattle.walk_laws.proofs.Ended as walk-laws
 use Rattle.trip_graph.specs.Opened.{Pair, look, joinIn, Serves, dnil, RingsHaveText}
-use Rattle.trip_graph.specs.Renumber.{Simple, Known, Backed, asReadEvents, Numbering, Built}
+use Rattle.trip_graph.specs.Renumber.{Simple, Known, Backed, Numbering, Built}
 use Rattle.trip_graph.specs.Renumbered.{entriesOf, edgeOf, nodeOf, Numbers, byWalk, firstAtoms, renumbered}
 use Rattle.trip_graph.specs.Marks.{Tetrahedral, backKind}
 use Rattle.trip_graph.proofs.Lists.{memb, idx, Nodup, nil, cons, same-refl, same-eq, same-ne, true≢false, by-eq, map-same, idx-lt, memb-here, memb-there}
@@ -32,6 +32,7 @@ use Rattle.trip_graph.proofs.Follows.{idxs, run-app, told-app}
 use Rattle.trip_graph.proofs.State.{doneIn, kindBy, orderOf, mark, mark-in, Sta, is-met}
 use Rattle.trip_graph.proofs.Turns.{Inv, Result, goes, stops, one-turn}
 use Rattle.trip_graph.proofs.Pool.{Holds, pool-serves}
+use Rattle.trip_text.specs.Retell.{retold}
 
 -- ---- turns
 refused-stays : (g : Graph) (t : ℕ) (w : Walk) → w .at .refusal ≢ 0 → walkTo g t w ≡ w
@@ -48,7 +49,7 @@ numbered-app (Pop d ∷ xs) ys h k = numbered-app xs ys h k
 
 -- after any number of turns the builder has followed, or the walk was refused
 pub data Walked (H : Pool → List ℕ → List Pair → Type 0) (g : Graph) (b : Sketch) (t : ℕ) (w : Walk) : Type 0 where
-  follows : Inv H g (walkTo g t w) (runS b (asReadEvents (eventsOf g t w))) → RingsHaveText (eventsOf g t w) → Walked H g b t w
+  follows : Inv H g (walkTo g t w) (runS b (retold (eventsOf g t w))) → RingsHaveText (eventsOf g t w) → Walked H g b t w
   stopped : walkTo g t w .at .refusal ≢ 0 → Walked H g b t w
 
 module _ (H : Pool → List ℕ → List Pair → Type 0) (Q : Serves H) (g : Graph) (W : Simple g) (T : (a : ℕ) → a < g .size → Tetrahedral (kindAt g a)) where
@@ -57,11 +58,11 @@ module _ (H : Pool → List ℕ → List Pair → Type 0) (Q : Serves H) (g : Gr
   step-is w h = rw (eq-eqb (w .at .refusal) 0 h)
 
   -- one turn, then the others
-  then-walked : (t : ℕ) (w : Walk) (b : Sketch) (x : Turn) → stepOf g w ≡ x → RingsHaveText (x .said) → Walked H g (runS b (asReadEvents (x .said))) t (x .after) → Walked H g b (suc t) w
+  then-walked : (t : ℕ) (w : Walk) (b : Sketch) (x : Turn) → stepOf g w ≡ x → RingsHaveText (x .said) → Walked H g (runS b (retold (x .said))) t (x .after) → Walked H g b (suc t) w
   unfolding walkTo eventsOf
   then-walked t w b x e h (follows I k) =
-      follows (subst (λ (y : Turn). Inv H g (walkTo g t (y .after)) (runS b (asReadEvents (y .said ++ eventsOf g t (y .after))))) (sym e)
-      (subst (λ (c : Sketch). Inv H g (walkTo g t (x .after)) c) (sym (ap (runS b) (told-app (x .said) (eventsOf g t (x .after))) ∙ run-app b (asReadEvents (x .said)) (asReadEvents (eventsOf g t (x .after))))) I))
+      follows (subst (λ (y : Turn). Inv H g (walkTo g t (y .after)) (runS b (retold (y .said ++ eventsOf g t (y .after))))) (sym e)
+      (subst (λ (c : Sketch). Inv H g (walkTo g t (x .after)) c) (sym (ap (runS b) (told-app (x .said) (eventsOf g t (x .after))) ∙ run-app b (retold (x .said)) (retold (eventsOf g t (x .after))))) I))
       (subst (λ (y : Turn). RingsHaveText (y .said ++ eventsOf g t (y .after))) (sym e) (numbered-app (x .said) (eventsOf g t (x .after)) h k))
   then-walked t w b x e h (stopped r) = stopped (subst (λ (y : Turn). walkTo g t (y .after) .at .refusal ≢ 0) (sym e) r)
 
@@ -72,11 +73,11 @@ module _ (H : Pool → List ℕ → List Pair → Type 0) (Q : Serves H) (g : Gr
 
   next-walked : (t : ℕ) (w : Walk) (b : Sketch) (n : ℕ) → Sound g (turnOf g w .after) n → stepOf g w ≡ turnOf g w
       → ((v : Walk) (c : Sketch) (m : ℕ) → Sound g v m → Inv H g v c → Walked H g c t v) → Result H g b (turnOf g w) → Walked H g b (suc t) w
-  next-walked t w b n s e f (goes I h) = then-walked t w b (turnOf g w) e h (f (turnOf g w .after) (runS b (asReadEvents (turnOf g w .said))) n s I)
+  next-walked t w b n s e f (goes I h) = then-walked t w b (turnOf g w) e h (f (turnOf g w .after) (runS b (retold (turnOf g w .said))) n s I)
   next-walked t w b n s e f (stops r) = stop-walked t w b (turnOf g w) e r
 
   pub turns-walked : (t : ℕ) (w : Walk) (b : Sketch) (dep : ℕ) → Sound g w dep → Inv H g w b → Walked H g b t w
-  unfolding walkTo eventsOf asReadEvents runS
+  unfolding walkTo eventsOf retold runS
   turns-walked zero w b dep s I = follows I tt
   turns-walked (suc t) w b dep s I =
       let m = turn-moves g w dep in
@@ -319,7 +320,7 @@ module _ (g : Graph) (W : Simple g) (T : (a : ℕ) → a < g .size → Tetrahedr
         turns-walked Holds pool-serves g W T turns start (startS places slots) 0
         (sound-start g lm lw lb lt (replicate pairWords 0) room) (inv-start Holds pool-serves g lm lw lb lt wide places slots enough entries)
 
-    followed : Walked Holds g (startS places slots) turns start → Inv Holds g (walkTo g turns start) (runS (startS places slots) (asReadEvents (eventsOf g turns start)))
+    followed : Walked Holds g (startS places slots) turns start → Inv Holds g (walkTo g turns start) (runS (startS places slots) (retold (eventsOf g turns start)))
     followed (follows I h) = I
     followed (stopped r) = absurd (r fine)
 
@@ -327,7 +328,7 @@ module _ (g : Graph) (W : Simple g) (T : (a : ℕ) → a < g .size → Tetrahedr
     numbered (follows I h) = h
     numbered (stopped r) = absurd (r fine)
 
-    invariant : Inv Holds g (walkTo g turns start) (runS (startS places slots) (asReadEvents (eventsOf g turns start)))
+    invariant : Inv Holds g (walkTo g turns start) (runS (startS places slots) (retold (eventsOf g turns start)))
     invariant = followed walked
 
 -- A simple graph whose kinds have no configuration but TH1 or TH2, walked without refusal: what the walk says, told to a builder
@@ -337,7 +338,7 @@ pub graph-trip : (g : Graph) → Simple g → ((a : ℕ) → a < g .size → Tet
     → (m : ℕ) → degrees g (g .size) ≤ m
     → walkTo g (turnsOf (g .size) m) (fresh lm lw lb lt (replicate pairWords 0)) .at .refusal ≡ 0
     → (places slots : ℕ) → g .size ≤ places → degrees g (g .size) ≤ slots
-    → Built (runS (startS places slots) (asReadEvents (eventsOf g (turnsOf (g .size) m) (fresh lm lw lb lt (replicate pairWords 0)))))
+    → Built (runS (startS places slots) (retold (eventsOf g (turnsOf (g .size) m) (fresh lm lw lb lt (replicate pairWords 0)))))
     (renumbered g (byWalk (walkTo g (turnsOf (g .size) m) (fresh lm lw lb lt (replicate pairWords 0)))))
 graph-trip g W T lm lw lb lt room wide m few fine places slots enough entries =
     end-built Holds g W (walkTo g (turnsOf (g .size) m) (fresh lm lw lb lt (replicate pairWords 0))) _

@@ -31,7 +31,7 @@ use Rattle.feature.proofs.Cases.{by-test}
 use Rattle.walk_laws.proofs.Sound.{Sound}
 use Rattle.walk_laws.proofs.Fits.{count-below}
 use Rattle.trip_graph.specs.Opened.{Pair, ringPair, look, del, numIn, joinIn, Opens, full, number, Serves, RingsHaveText}
-use Rattle.trip_graph.specs.Renumber.{Backed, Simple, toldAs, asReadEvents}
+use Rattle.trip_graph.specs.Renumber.{Backed, Simple}
 use Rattle.trip_graph.specs.Marks.{Tetrahedral, backKind}
 use Rattle.trip_graph.proofs.Lists.{memb, by-bool, memb-there}
 use Rattle.trip_graph.proofs.View.{hasT, kindT, NodupB, view, push}
@@ -42,6 +42,7 @@ use Rattle.trip_graph.proofs.Ways.{way-enters}
 use Rattle.trip_graph.proofs.Counts.{view-count}
 use Rattle.trip_graph.proofs.Follows.{Bld, Entry, run-one, run-pops, bld-pops, bld-left, bld-ended, bld-root, bld-extend, bld-open, bld-close}
 use Rattle.trip_graph.proofs.State.{doneIn, kindBy, Sta, line-head, line-above, is-met, is-new, here-held, done-new, took-done, pass-done, root-done, sta-skip, sta-ends, sta-leaves, sta-pass, entry, sta-joins, sta-root, sta-enters, entered-done}
+use Rattle.trip_text.specs.Retell.{retoldOne, retold}
 
 -- what holds of a walk and of the sketch that its events make, where H says what a pool holds
 pub record Inv (H : Pool → List ℕ → List Pair → Type 0) (g : Graph) (w : Walk) (b : Sketch) : Type 0 where
@@ -55,7 +56,7 @@ pub record Inv (H : Pool → List ℕ → List Pair → Type 0) (g : Graph) (w :
   pub fine : w .at .refusal ≡ 0
 
 pub data Result (H : Pool → List ℕ → List Pair → Type 0) (g : Graph) (b : Sketch) (x : Turn) : Type 0 where
-  goes : Inv H g (x .after) (runS b (asReadEvents (x .said))) → RingsHaveText (x .said) → Result H g b x
+  goes : Inv H g (x .after) (runS b (retold (x .said))) → RingsHaveText (x .said) → Result H g b x
   stops : x .after .at .refusal ≢ 0 → Result H g b x
 
 -- pops change no numbers
@@ -99,11 +100,11 @@ module _ (H : Pool → List ℕ → List Pair → Type 0) (Q : Serves H) (g : Gr
   κ0 = kindBy g (w .back)
 
   still-turn : R (quiet w)
-  unfolding runS asReadEvents
+  unfolding runS retold
   still-turn = goes I tt
 
   skip-turn : R (quiet (withWalker w (rootPassed (w .at))))
-  unfolding runS asReadEvents
+  unfolding runS retold
   skip-turn = goes (record {
     order = I .order;
     frame = I .frame;
@@ -117,7 +118,7 @@ module _ (H : Pool → List ℕ → List Pair → Type 0) (Q : Serves H) (g : Gr
 
   new-root : w .at .standing ≡ false → w .at .next < g .size → getD (w .met) (w .at .next) 0 ≡ 0
       → R (turn (metAt w (rootPassed (w .at)) (w .at .next) 0) (Root (saidAs (kindAt g (w .at .next)) 0) ∷ []))
-  unfolding asReadEvents toldAs kindBy
+  unfolding retold retoldOne kindBy
   new-root r hi m =
       let i : ℕ = w .at .next in
       let S = I .sta in
@@ -154,7 +155,7 @@ module _ (H : Pool → List ℕ → List Pair → Type 0) (Q : Serves H) (g : Gr
       (λ z. new-root r (leb-false _ _ q) (eqb-true _ _ z)) (λ z. skip-turn))
 
   left-turn : w .at .standing ≡ true → degreeAt g (w .at .here) ≤ getD (w .taken) (w .at .here) 0 → R (leaveOf g w (w .at .here))
-  unfolding leftIn runS asReadEvents
+  unfolding leftIn runS retold
   left-turn r h =
       by-test (λ (z : Walker). R (quiet (withWalker w z))) (eqb (getD (w .back) (w .at .here) 0) 0)
       (λ q. goes (record {
@@ -204,7 +205,7 @@ module _ (H : Pool → List ℕ → List Pair → Type 0) (Q : Serves H) (g : Gr
     rt = omega (arith, hs, snd .room .taken)
 
     pass-turn : getD (w .back) s0 0 ≡ i0 + 1 → R (quiet w1)
-    unfolding runS asReadEvents
+    unfolding runS retold
     pass-turn q =
         let D = pass-done g (w .back) (w .taken) s0 rt q in
         goes (record {
@@ -233,22 +234,22 @@ module _ (H : Pool → List ℕ → List Pair → Type 0) (Q : Serves H) (g : Gr
       is-fs = line-head (I .sta .line r) .is
 
       b0 : Sketch
-      b0 = runS b (asReadEvents (popsOf (w .at .pend)))
+      b0 = runS b (retold (popsOf (w .at .pend)))
 
       B0 : Bld g κ0 (s0 ∷ fs) zero (I .order) d0 (I .opened) b0
       unfolding b0
       B0 =
-          subst (λ (f : List ℕ). Bld g κ0 f zero (I .order) d0 (I .opened) (runS b (asReadEvents (popsOf (w .at .pend))))) is-fs
+          subst (λ (f : List ℕ). Bld g κ0 f zero (I .order) d0 (I .opened) (runS b (retold (popsOf (w .at .pend))))) is-fs
           (bld-pops g κ0 (I .order) d0 (I .opened) (I .frame) (w .at .pend) b (I .bld))
 
-      run-is : (x : Event) → runS b (asReadEvents (popsThen (w .at .pend) x)) ≡ stepS b0 (toldAs x)
+      run-is : (x : Event) → runS b (retold (popsThen (w .at .pend) x)) ≡ stepS b0 (retoldOne x)
       unfolding b0
-      run-is x = run-pops b (w .at .pend) x ∙ run-one (runS b (asReadEvents (popsOf (w .at .pend)))) (toldAs x) (unfold b0 in B0 .fine)
+      run-is x = run-pops b (w .at .pend) x ∙ run-one (runS b (retold (popsOf (w .at .pend)))) (retoldOne x) (unfold b0 in B0 .fine)
 
       -- a new atom
       enter-goes : (k : Backed g s0 (e0 .to) e0) → getD (w .met) (e0 .to) 0 ≡ 0 → e0 .to < g .size
           → R (turn (metAt w1 (w .at) (e0 .to) (suc (k .place))) (popsThen (w .at .pend) (Extend (e0 .kind) (saidAs (kindAt g (e0 .to)) (suc (k .place))))))
-      unfolding kindBy toldAs
+      unfolding kindBy retoldOne
       enter-goes k m ht =
           let S = I .sta in
           let o : List ℕ = I .order in
@@ -299,7 +300,7 @@ module _ (H : Pool → List ℕ → List Pair → Type 0) (Q : Serves H) (g : Gr
       module _ (mt : memb (e0 .to) (I .order) ≡ true) where
         close-goes : (x : Pair) → look (I .opened) (e0 .to) s0 ≡ some x → (p : Pool) (pairs : List ℕ) → x .num ≤ highest → H p pairs (del (e0 .to) s0 (I .opened))
             → R (turn (withWalker (pooled w1 pairs) (ringSaid (w .at) p)) (popsThen (w .at .pend) (Join (e0 .kind) (x .num))))
-        unfolding toldAs
+        unfolding retoldOne
         close-goes x l p pairs small h =
             let S = I .sta in
             let o : List ℕ = I .order in
@@ -332,7 +333,7 @@ module _ (H : Pool → List ℕ → List Pair → Type 0) (Q : Serves H) (g : Gr
         open-goes : look (I .opened) (e0 .to) s0 ≡ none → (p : Pool) (pairs : List ℕ) (n : ℕ) → n ≤ highest → numIn n (I .opened) ≡ false
             → ((j : ℕ) → H p pairs (ringPair s0 (e0 .to) n j ∷ I .opened))
             → R (turn (withWalker (pooled w1 pairs) (ringSaid (w .at) p)) (popsThen (w .at .pend) (Join (e0 .kind) n)))
-        unfolding toldAs
+        unfolding retoldOne
         open-goes l p pairs n small new h =
             let S = I .sta in
             let o : List ℕ = I .order in

@@ -1,7 +1,7 @@
 -- A graph handed in as tables and written without refusal: events that differ from those of its walk only in their places in a
 -- text build the graph renumbered in walk order.
 use mathlib.Core.Path.{_≡_, sym, ap, _∙_, subst}
-use mathlib.Core.List.{List, _++_, map}
+use mathlib.Core.List.{List, _++_}
 use mathlib.Core.Bool.{false}
 use Prim.Native.Nat.{ℕ, zero, suc, _+_, _-_, _/_, _≤_, _<_}
 use native.Mathlib.Omega.{arith}
@@ -25,13 +25,14 @@ use Rattle.write.specs.Write.{zeros, graphOf, walkIn, saidIn, walkOf, walkEvent
 use Rattle.walk_laws.specs.Trek.{Room, degrees}
 use Rattle.feature.proofs.Cases.{by-test}
 use Rattle.walk_laws.proofs.Judged.{judged-degrees}
-use Rattle.trip_graph.specs.Renumber.{Simple, Known, asReadEvents, Numbering, Built}
-use Rattle.trip_graph.specs.Steps.{placeless}
+use Rattle.trip_graph.specs.Renumber.{Simple, Known, Numbering, Built}
 use Rattle.trip_graph.specs.Renumbered.{byWalk, renumbered}
 use Rattle.trip_graph.specs.Marks.{Tetrahedral}
 use Rattle.trip_graph.specs.Opened.{RingsHaveText}
 use Rattle.trip_graph.proofs.Trip.{graph-trip, walk-numbers, walk-numbered, walk-known, renumbered-count}
 use Rattle.trip_graph.proofs.Places.{places-free}
+use Rattle.read_line.specs.Places.{unplaced}
+use Rattle.trip_text.specs.Retell.{retold}
 
 -- ---- tables in which the judge finds nothing bad
 module _ (atoms bonds : List ℕ) (n m : ℕ) (few : n ≤ atomLimit) (good : badRecord atoms n bonds m ≡ n + m)
@@ -44,7 +45,7 @@ module _ (atoms bonds : List ℕ) (n m : ℕ) (few : n ≤ atomLimit) (good : ba
   entries = judged-degrees n m atoms bonds _ good
 
   pub table-trip : (places slots : ℕ) → n ≤ places → m ≤ slots
-      → Built (runS (startS places slots) (asReadEvents (walkEvents atoms n bonds m))) (renumbered (graphOf n atoms bonds) (byWalk (walkOf atoms n bonds m)))
+      → Built (runS (startS places slots) (retold (walkEvents atoms n bonds m))) (renumbered (graphOf n atoms bonds) (byWalk (walkOf atoms n bonds m)))
   unfolding walkIn saidIn
   table-trip places slots hp hs =
       graph-trip (graphOf n atoms bonds) W T atomLimit atomLimit atomLimit atomLimit table-room few m (omega (arith, entries)) fine places slots hp (omega (arith, entries))
@@ -67,11 +68,11 @@ module _ (atoms bonds : List ℕ) (n m : ℕ) (few : n ≤ atomLimit) (good : ba
       renumbered-count (graphOf n atoms bonds) W T atomLimit atomLimit atomLimit atomLimit table-room few m (omega (arith, entries)) fine ∙ entries
 
   -- the same for events of a reader, which say where they stood in a text
-  pub placed-trip : (places slots : ℕ) → n ≤ places → m ≤ slots → (es : List reader.ReadEvent) → map placeless es ≡ asReadEvents (walkEvents atoms n bonds m)
+  pub placed-trip : (places slots : ℕ) → n ≤ places → m ≤ slots → (es : List reader.ReadEvent) → unplaced es ≡ retold (walkEvents atoms n bonds m)
       → Built (runS (startS places slots) es) (renumbered (graphOf n atoms bonds) (byWalk (walkOf atoms n bonds m)))
   placed-trip places slots hp hs es e =
       let b = table-trip places slots hp hs in
-      let same : runS (startS places slots) es ≡ runS (startS places slots) (map placeless es) =
+      let same : runS (startS places slots) es ≡ runS (startS places slots) (unplaced es) =
       places-free (startS places slots) es (ap (λ (x : List reader.ReadEvent). runS (startS places slots) x .refusal) e ∙ b .refusal) in
       subst (λ (d : Sketch). Built d (renumbered (graphOf n atoms bonds) (byWalk (walkOf atoms n bonds m)))) (sym (same ∙ ap (runS (startS places slots)) e)) b
 
@@ -180,7 +181,7 @@ was-done room atoms n bonds m len out =
 pub written-trip : (room : ℕ) (atoms : List ℕ) (n : ℕ) (bonds : List ℕ) (m len : ℕ) (out : List ℕ)
     → Simple (graphOf n atoms bonds) → ((a : ℕ) → a < n → Tetrahedral (kindAt (graphOf n atoms bonds) a))
     → writeOf room atoms n bonds m ≡ writeLeaves (Done len) out
-    → (places slots : ℕ) → n ≤ places → m ≤ slots → (es : List reader.ReadEvent) → map placeless es ≡ asReadEvents (walkEvents atoms n bonds m)
+    → (places slots : ℕ) → n ≤ places → m ≤ slots → (es : List reader.ReadEvent) → unplaced es ≡ retold (walkEvents atoms n bonds m)
     → Built (runS (startS places slots) es) (renumbered (graphOf n atoms bonds) (byWalk (walkOf atoms n bonds m))) × Numbering (graphOf n atoms bonds) (byWalk (walkOf atoms n bonds m))
 written-trip room atoms n bonds m len out W T e places slots hp hs es h =
     let d = was-done room atoms n bonds m len out e in

@@ -2,13 +2,10 @@
 use Prim.Native.Nat.{ℕ, _≤_, _<_}
 use mathlib.Core.Path.{_≡_}
 use mathlib.Core.Logic.{_≢_}
-use mathlib.Core.List.{List, [], map}
+use mathlib.Core.List.{List, []}
 use lib.ListN.{getD}
 use Rattle.feature.specs.Bonds.{reverseOf}
 use Rattle.feature.specs.declared.bond_kind.BondKind.the-variants.{Elided}
-use Rattle.read_line.specs.declared.lead.Lead.the-variants as lead
-use Rattle.read_line.specs.Events as reader
-use Rattle.writer.specs.Line as writer
 use Rattle.builder.specs.declared.build.Built.the-variants.{Done}
 use Rattle.builder_meaning.specs.Sketch.{Node, None, Sketch, finishS}
 use Rattle.walk_entry.specs.Graph.{BondEntry, Graph, kindAt, degreeAt, bondOf, entryTo}
@@ -33,16 +30,6 @@ pub record Simple (g : Graph) : Type 0 where
 -- every target is an atom: no premise where a walk was not refused, for it would have met a target that is none (5)
 abbrev pub Known : Graph → Type 0
 Known g = (a i : ℕ) → a < g .size → i < degreeAt g a → bondOf g a i .to < g .size
-
--- ---- a walk's events as a reader says them
-unfoldable pub toldAs : writer.Event → reader.ReadEvent
-toldAs (writer.Root k) = reader.Enter lead.Dot k 0
-toldAs (writer.Extend b k) = reader.Enter (lead.Bond b) k 0
-toldAs (writer.Join b n) = reader.Join b n 0
-toldAs (writer.Pop d) = reader.Pop d
-
-unfoldable pub asReadEvents : List writer.Event → List reader.ReadEvent
-asReadEvents es = map toldAs es
 
 -- ---- what is left
 -- the numbers of a walk renumber the atoms: each atom has one, the atom of each number has that number, and a parent's entry is one

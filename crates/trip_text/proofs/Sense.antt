@@ -17,10 +17,10 @@ use Rattle.read_line.specs.declared.lead.Lead.the-variants.{Dot, Bond}
 use Rattle.read_line.specs.Events.{ReadEvent, Enter, Join, Pop, Nest}
 use Rattle.read_line.specs.Parse.{Rest, ledAt, lineP, closeP, bodies}
 use Rattle.writer.specs.Line.{wrapped}
-use Rattle.trip_text.specs.Retell.{placeless, unplaced}
 use Rattle.trip_text.proofs.Stands.{Stands, after, next, apart}
 use Rattle.trip_text.proofs.Heads.{plain-long, atom-plain, rnum-plain, plain-follows, bond-follows}
 use Rattle.trip_text.proofs.Bodies.{extend-read, join-read, split-read, branch-read, close-read, start-read, opened-read}
+use Rattle.read_line.specs.Places.{unplaced, placeless}
 
 -- ---- what is said first and what is said then
 -- x says E, places aside, and then what y says, if there is room for the w branches that are open at once; and else as much of

@@ -1,27 +1,16 @@
 -- What a reader should say of a line that a writer made of events, and of which events that is said.
 use Prim.Native.Nat.{ℕ, _+_, _-_, _≤_, _<_, max}
 use mathlib.Core.Path.{_≡_}
-use mathlib.Core.List.{List, [], _∷_, _++_}
+use mathlib.Core.List.{List, [], _∷_, _++_, map}
 use mathlib.Core.Bool.{Bool, true, false}
 use lib.ListN.{take, drop}
 use Rattle.survive.specs.Survive.{Survives}
 use Rattle.read_line.specs.declared.lead.Lead.the-variants.{Dot, Bond}
 use Rattle.read_line.specs.Events as reader
 use Rattle.writer.specs.Line.{Event, Root, Extend, Join, Pop}
+use Rattle.read_line.specs.Places.{unplaced}
 
 -- ---- the reader's events
--- an event with the place in it forgotten
-unfoldable pub placeless : reader.ReadEvent → reader.ReadEvent
-placeless (reader.Enter l k p) = reader.Enter l k 0
-placeless (reader.Join b n p) = reader.Join b n 0
-placeless (reader.Pop n) = reader.Pop n
-placeless (reader.Miss m) = reader.Miss m
-placeless (reader.Nest p) = reader.Nest 0
-
-unfoldable pub unplaced : List reader.ReadEvent → List reader.ReadEvent
-unplaced [] = []
-unplaced (e ∷ es) = placeless e ∷ unplaced es
-
 -- whether a branch too many is among the events
 unfoldable pub hasNest : List reader.ReadEvent → Bool
 hasNest [] = false
@@ -45,8 +34,7 @@ retoldOne (Join b n) = reader.Join b n 0
 retoldOne (Pop d) = reader.Pop d
 
 unfoldable pub retold : List Event → List reader.ReadEvent
-retold [] = []
-retold (e ∷ es) = retoldOne e ∷ retold es
+retold es = map retoldOne es
 
 -- ---- the writer's events
 -- Told in an order that a line can say, with so many pieces since the last root: an atom or a ring number needs one before

@@ -17,6 +17,7 @@ use Rattle.walk_entry.specs.declared.entry.Back.the-variants.{Found, Twi
 use Rattle.walk_entry.specs.declared.entry.Way.{Way}
 use Rattle.walk_entry.specs.declared.entry.Way.the-variants.{Enters, Refuses}
 use Rattle.walk_entry.specs.Graph.{Graph, kindAt, degreeAt, bondIn, bondOf}
+use Rattle.feature.specs.Kinds.{turnedOr}
 
 -- the desk's numbers of the refusals
 abbrev pub halfBond : ℕ
@@ -39,10 +40,6 @@ isRefused inverted.Refused = true
 
 unfoldable pub isFixed : AtomKind → Bool
 isFixed k = isRefused (invertOf k)
-
-unfoldable pub turnedOr : AtomKind → Inverted → AtomKind
-turnedOr k (inverted.Turned n) = n
-turnedOr k inverted.Refused = k
 
 unfoldable pub even : ℕ → Bool
 even n = eqb (n % 2) 0

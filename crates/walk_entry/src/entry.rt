@@ -2,9 +2,9 @@
 ghost use mathlib.Core.Path.{_≡_};
 ghost use Prim.Native.Nat.{ℕ};
 ghost use Rattle.feature.specs.Pick.{both};
-ghost use Rattle.feature.specs.Kinds.{invertOf};
+ghost use Rattle.feature.specs.Kinds.{invertOf, turnedOr};
 ghost use Rattle.walk_entry.specs.Graph.{graph};
-ghost use Rattle.walk_entry.specs.Ways.{isFixed, even, turnedOr, saidAs, scanIn, wayOf};
+ghost use Rattle.walk_entry.specs.Ways.{isFixed, even, saidAs, scanIn, wayOf};
 use crate::table::bond_kind_at;
 use crate::table::degree_at;
 use crate::table::kind_at;

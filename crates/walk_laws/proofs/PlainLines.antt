@@ -3,7 +3,7 @@ use Prim.Native.Nat.{ℕ}
 use mathlib.Core.Path.{_≡_, refl}
 use mathlib.Core.List.{List, [], _∷_, map}
 use lib.ListN.{replicate}
-use Rattle.feature.specs.Kinds.{bracketOfSix, inRange, bracketInRange, invertOf, invertBracket}
+use Rattle.feature.specs.Kinds.{bracketOfSix, inRange, bracketInRange, invertOf, invertBracket, turnedOr}
 use Rattle.feature.specs.Bonds.{kindOf, sureKind, codeOf, reverseOf, isDirectional}
 use Rattle.feature.specs.declared.atom_kind.AtomKind.the-variants.{Aliphatic, Bracket}
 use Rattle.feature.specs.declared.bond_kind.BondKind.the-variants.{Elided}
@@ -11,7 +11,7 @@ use Rattle.packing.specs.Words as words
 use Rattle.join_pool.specs.Pairs as pool
 use Rattle.writer.specs.Line.{Event, Root, Extend, Join, Pop}
 use Rattle.walk_entry.specs.Graph.{Graph, graph, kindOr, kindIn, degreeIn, bondIn}
-use Rattle.walk_entry.specs.Ways.{isRefused, isFixed, turnedOr, even, saidAs, scanIn, judgedBack, wayOf}
+use Rattle.walk_entry.specs.Ways.{isRefused, isFixed, even, saidAs, scanIn, judgedBack, wayOf}
 use Rattle.walk.specs.Walk.{popsOf}
 use Rattle.walk_laws.specs.Plain.{Outcome, Goes, Refused, andThen, numberFrom, joins, rings, enters, follows, entriesFrom, visitOf, rootsFrom, plainWalk}
 

@@ -1,8 +1,8 @@
 -- By what turning the mark says.
-use Rattle.walk_entry.specs.Ways.{turnedOr}
 use borrow.Author.Needs.{needs}
 use Rattle.walk_entry.proofs.entry.turned.Statement.{statement}
 use Rattle.walk_entry.proofs.entry.turned.Tie as tie
+use Rattle.feature.specs.Kinds.{turnedOr}
 
 invert-requires : tie.Need-invert-requires
 invert-requires c κs = search needs
