@@ -2,6 +2,7 @@
 -- only: atoms are counted and their marks judged, and nothing is stored.
 use Prim.Native.Nat.{ℕ, _+_}
 use mathlib.Core.List.{List, [], _∷_}
+use mathlib.Core.Bool.{Bool, true, false}
 use lib.Dec.{eqb}
 use Rattle.feature.specs.Pick.{pick}
 use Rattle.feature.specs.Kinds.{invertOf}
@@ -76,3 +77,12 @@ step b (Nest place) = on b (refusedSt (b .st) nesting place)
 unfoldable pub run : Bld → List ReadEvent → Bld
 run b [] = b
 run b (e ∷ es) = pick (eqb (b .st .refusal) 0) (run (step b e) es) b
+
+-- whether a branch too many is among the events
+unfoldable pub hasNest : List ReadEvent → Bool
+hasNest [] = false
+hasNest (Enter l k p ∷ es) = hasNest es
+hasNest (Join b n p ∷ es) = hasNest es
+hasNest (Pop n ∷ es) = hasNest es
+hasNest (Miss m ∷ es) = hasNest es
+hasNest (Nest p ∷ es) = true

@@ -1,4 +1,3 @@
 pub mod Events
 pub mod Parse
-pub mod Places
 pub mod Steps

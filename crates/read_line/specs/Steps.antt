@@ -1,8 +1,8 @@
 -- Steps of the proofs: no public claim rests on these definitions.
--- What the reading functions ensure, as records with named parts.
+-- What the reading functions ensure, as records with named parts; and events without their places.
 use mathlib.Core.Path.{_≡_}
 use Prim.Native.Nat.{ℕ, _+_, _*_, _≤_, _<_}
-use mathlib.Core.List.{List}
+use mathlib.Core.List.{List, [], _∷_}
 use lib.ListN.{length}
 use lib.Dec.{eqb}
 use Rattle.feature.specs.Pick.{pick}
@@ -14,9 +14,10 @@ use Rattle.builder.specs.Limits.{textLimit}
 use Rattle.builder.specs.State.{Bld, poppedSt}
 use Rattle.read_line.specs.declared.lead.Lead.{Lead}
 use Rattle.read_line.specs.declared.line.Reached.{Reached}
-use Rattle.read_line.specs.Events.{ReadEvent, run, missingSt}
+use Rattle.read_line.specs.Events.{ReadEvent, run, missingSt, Enter, Join, Pop, Miss, Nest}
 use Rattle.read_line.specs.Parse.{Rest, atomP, ringP, unionP, unitP, lineP, branchP, bodies}
 
+-- where a reading has come to
 abbrev pub reachedAt : ℕ → ℕ → Builder → Reached
 reachedAt at n b = record { at = at; n = n; b = b }
 
@@ -83,3 +84,15 @@ pub record LineRead (s : List ℕ) (at : ℕ) (l : Lead) (room : ℕ) (b b′ : 
 pub record BranchRead (s : List ℕ) (at room : ℕ) (b b′ : Bld) (at′ : ℕ) : Type 0 where
   pub same : (f : ℕ) (k : ℕ → List ReadEvent) → length s ≤ at + f → run b (branchP (bodies f s) s at room k) ≡ run b′ (k at′)
   pub moved : Moved s at (b′ .st) at′
+
+-- an event with the place in it forgotten
+unfoldable pub placeless : ReadEvent → ReadEvent
+placeless (Enter l k p) = Enter l k 0
+placeless (Join b n p) = Join b n 0
+placeless (Pop n) = Pop n
+placeless (Miss m) = Miss m
+placeless (Nest p) = Nest 0
+
+unfoldable pub unplaced : List ReadEvent → List ReadEvent
+unplaced [] = []
+unplaced (e ∷ es) = placeless e ∷ unplaced es

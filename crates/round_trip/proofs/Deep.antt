@@ -18,7 +18,7 @@ use Rattle.read.specs.Read.{readRefusal}
 use Rattle.read.specs.Line as read
 use Rattle.write.specs.declared.answer.Written.the-variants.{Done}
 use Rattle.write.specs.Write.{graphOf, walkEvents, lineSaid, writeLeaves, writeOf}
-use Rattle.trip_text.specs.Retell.{hasNest, retold, depth, SaysWithin, all, cut}
+use Rattle.trip_text.specs.Steps.{retold, depth, SaysWithin, all, cut}
 use Rattle.trip_text.proofs.Retold.{retold-line}
 use Rattle.trip_graph.proofs.Lists.{by-bool}
 use Rattle.trip_graph.proofs.Follows.{run-app, run-one}
@@ -27,7 +27,8 @@ use Rattle.trip_graph.proofs.Written.{was-done, table-trip}
 use Rattle.round_trip.specs.RoundTrip.{Plain, readAs}
 use Rattle.round_trip.specs.Steps.{backByTurns}
 use Rattle.round_trip.proofs.Law.{walk-told, walk-spelled, walk-accepted, walk-says, line-nests, line-is, turns-trip}
-use Rattle.read_line.specs.Places.{unplaced, placeless}
+use Rattle.read_line.specs.Steps.{unplaced, placeless}
+use Rattle.read_line.specs.Events.{hasNest}
 
 clash : {X : Type 0} → _≡_ {A = ℕ} 0 1 → X
 clash e = absurd (omega arith)

@@ -19,7 +19,7 @@ use Rattle.write.specs.declared.answer.Written.the-variants.{Done}
 use Rattle.write.specs.Write.{zeros, pairWords, graphOf, walkOf, saidIn, walkEvents, lineSaid, writeLeaves, writeOf}
 use Rattle.walk_laws.specs.Trek.{Room, AllAccepted}
 use Rattle.walk_laws.proofs.Accepted.{accepted}
-use Rattle.trip_text.specs.Retell.{Sayable, Spellable, hasNest, retold, depth}
+use Rattle.trip_text.specs.Steps.{Sayable, Spellable, retold, depth}
 use Rattle.trip_text.proofs.Passes.{passes}
 use Rattle.trip_text.proofs.Retold.{retold-shallow, retold-nests}
 use Rattle.trip_graph.specs.Steps as graph-steps
@@ -32,7 +32,8 @@ use Rattle.round_trip.specs.RoundTrip.{Plain, Readable, readAs, Same}
 use Rattle.round_trip.specs.Steps.{backByTurns, TripByTurns, OneLineByTurns}
 use Rattle.round_trip.proofs.Ordered.{told-walk, some-said}
 use Rattle.round_trip.proofs.Spelling.{kept-spelled, kept-turns}
-use Rattle.read_line.specs.Places.{unplaced}
+use Rattle.read_line.specs.Steps.{unplaced}
+use Rattle.read_line.specs.Events.{hasNest}
 
 -- ---- the line in an output
 take-line : (l z : List ℕ) → take (length l) (l ++ z) ≡ l

@@ -16,7 +16,7 @@ use Rattle.feature.proofs.Cases.{by-test}
 use Rattle.walk_laws.proofs.Moves.{Move, still, skip, root, ends, leaves, takes, refuses, joins, enters, turn-moves}
 use Rattle.walk_laws.proofs.Sums.{zeros-at}
 use Rattle.walk_laws.proofs.Sound.{Sound, up-some, sound-start, step-sound, no}
-use Rattle.trip_text.specs.Retell.{Sayable}
+use Rattle.trip_text.specs.Steps.{Sayable}
 
 -- pops, then an event that goes on from what they leave
 told-pops : (p n : ℕ) (e : Event) (es : List Event) → p < n → Sayable (n - p) (e ∷ es) → Sayable n (popsThen p e ++ es)

@@ -16,7 +16,6 @@ use Rattle.write.specs.Write.{graphOf, walkOf, writeLeaves, writeOf}
 use Rattle.write.specs.Order.{Order}
 use Rattle.write.specs.Plain.{writePlain, orderPlain}
 use Rattle.write.proofs.Plain.{write-plain, order-plain}
-use Rattle.trip_text.specs.Retell.{hasNest}
 use Rattle.trip_graph.specs.Renumbered.{Numbers, byWalk, renumbered}
 use Rattle.round_trip.specs.RoundTrip.{Plain, Readable, readAs, byOrder, backOf, RoundTrip, OneLine, Same}
 use Rattle.round_trip.specs.ByOrder.{Lent, TripByOrder}
@@ -24,6 +23,7 @@ use Rattle.round_trip.specs.Steps.{backByTurns}
 use Rattle.round_trip.proofs.Law.{turns-trip, turns-trip-wide, turns-same, turns-one-line, turns-one-count}
 use Rattle.round_trip.proofs.ByOrder.{order-done, order-numbers}
 use Rattle.round_trip.proofs.Deep.{turns-too-deep, turns-trip-answer}
+use Rattle.read_line.specs.Events.{hasNest}
 
 -- ---- from turns to promises
 module _ (room : ℕ) (atoms : List ℕ) (n : ℕ) (bonds : List ℕ) (m len : ℕ) (out : List ℕ) (e : writePlain room atoms n bonds m ≡ writeLeaves (Done len) out) where

@@ -32,7 +32,6 @@ use Rattle.write.specs.declared.answer.Written.the-variants.{Done}
 use Rattle.write.specs.Write.{graphOf, walkIn, saidIn, atomPlaces, bondSlots, writeLeaves, putLine, lineConcluded, graphWritten, writeOf}
 use Rattle.write.specs.Plain.{orderPlain}
 use Rattle.write.proofs.Plain.{write-plain}
-use Rattle.trip_text.specs.Retell.{hasNest}
 use Rattle.trip_graph.specs.Renumber.{Backed, Simple}
 use Rattle.trip_graph.specs.Renumbered.{othersOf, parentEntry, doneOf, edgeOf, nodeOf, firstAtoms, renumbered}
 use Rattle.trip_graph.specs.Marks.{Tetrahedral, bearsHydrogen, otherMark, toggled, oddIndex, backKind}
@@ -41,6 +40,7 @@ use Rattle.round_trip.specs.Steps.{backByTurns}
 use Rattle.round_trip.specs.ByOrder.{ReadByOrder}
 use Rattle.round_trip.proofs.Law.{turns-trip, turns-one-line}
 use Rattle.round_trip.proofs.RoundTrip.{trip-by-order}
+use Rattle.read_line.specs.Events.{hasNest}
 
 abbrev carbon : AtomKind
 carbon = Aliphatic 1

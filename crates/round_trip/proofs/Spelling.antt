@@ -19,7 +19,7 @@ use Rattle.walk_entry.specs.Graph.{BondEntry, Graph, kindAt, degreeAt, bondOf}
 use Rattle.walk_entry.specs.Ways.{saidAs, wayOf}
 use Rattle.walk.specs.Walk.{Walk, Turn, tookAt, popsOf, popsThen, rootTurn, numberedOf, ringTurn, enteredOf, enterTurn, bondTurn, entryTurn, atomOf, turnOf, stepOf, eventsOf}
 use Rattle.feature.proofs.Cases.{by-test}
-use Rattle.trip_text.specs.Retell.{Spellable}
+use Rattle.trip_text.specs.Steps.{Spellable}
 use Rattle.trip_graph.specs.Opened.{RingsHaveText}
 use Rattle.trip_graph.proofs.Marks.{marks-serve}
 

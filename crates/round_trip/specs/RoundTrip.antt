@@ -25,10 +25,10 @@ use Rattle.write.specs.declared.answer.Written.the-variants.{Done}
 use Rattle.write.specs.Write.{graphOf, writeLeaves}
 use Rattle.write.specs.Order.{Order}
 use Rattle.write.specs.Plain.{writePlain, orderPlain}
-use Rattle.trip_text.specs.Retell.{hasNest}
 use Rattle.trip_graph.specs.Marks.{Tetrahedral}
 use Rattle.trip_graph.specs.Renumber.{Simple, Numbering, Renumbers}
 use Rattle.trip_graph.specs.Renumbered.{Numbers, renumbered}
+use Rattle.read_line.specs.Events.{hasNest}
 
 -- ---- what is asked
 -- of the graph: at least one atom, no self-bond, at most one bond between two atoms, each bond held at both ends as the other's

@@ -10,9 +10,9 @@ use Rattle.builder_meaning.specs.Sketch.{Node}
 use Rattle.read.specs.Line.{readText}
 use Rattle.write.specs.declared.answer.Written.the-variants.{Done}
 use Rattle.write.specs.Write.{graphOf, walkOf, writeLeaves, writeOf}
-use Rattle.trip_text.specs.Retell.{hasNest}
 use Rattle.trip_graph.specs.Renumbered.{byWalk, renumbered}
 use Rattle.round_trip.specs.RoundTrip.{Plain, Readable, readAs}
+use Rattle.read_line.specs.Events.{hasNest}
 
 -- the graph of tables handed in for writing, renumbered by the walk of the write call
 abbrev pub backByTurns : List ℕ → ℕ → List ℕ → ℕ → List Node

@@ -17,11 +17,12 @@ use Rattle.walk_entry.specs.Ways.{isRefused, isFixed, even, saidAs, scanIn, jud
 use Rattle.walk.specs.Walk.{Walk, popsOf, rootTurn, leftIn, numberedOf, ringTurn, enteredOf, enterTurn, bondTurn, entryTurn, atomOf, turnOf, stepOf, walkTo, eventsOf, turnsOf}
 use Rattle.write.specs.Write.{pairWords}
 use Rattle.walk_laws.specs.Trek.{fresh, degrees}
-use Rattle.trip_graph.specs.Renumber.{Backed, Simple, Built}
+use Rattle.trip_graph.specs.Renumber.{Backed, Simple}
+use Rattle.trip_graph.specs.Steps.{Built}
 use Rattle.trip_graph.specs.Renumbered.{othersOf, parentEntry, doneOf, edgeOf, nodeOf, byWalk, firstAtoms, renumbered}
 use Rattle.trip_graph.specs.Marks.{Tetrahedral, bearsHydrogen, otherMark, toggled, oddIndex, backKind}
 use Rattle.trip_graph.proofs.Trip.{graph-trip}
-use Rattle.trip_text.specs.Retell.{retold}
+use Rattle.trip_text.specs.Steps.{retold}
 
 abbrev carbon : AtomKind
 carbon = Aliphatic 1

@@ -20,8 +20,8 @@ use Rattle.trip_graph.specs.Marks.{Tetrahedral}
 use Rattle.trip_graph.proofs.Trip.{renumbered-length}
 use Rattle.trip_graph.proofs.Written.{entries, table-numbers, table-count, placed-trip, was-done}
 use Rattle.trip_graph.proofs.Tables.{tables-renumber}
-use Rattle.read_line.specs.Places.{unplaced}
-use Rattle.trip_text.specs.Retell.{retold}
+use Rattle.read_line.specs.Steps.{unplaced}
+use Rattle.trip_text.specs.Steps.{retold}
 
 module _ (room : ℕ) (atoms : List ℕ) (n : ℕ) (bonds : List ℕ) (m len : ℕ) (out : List ℕ)
     (W : Simple (graphOf n atoms bonds)) (T : (a : ℕ) → a < n → Tetrahedral (kindAt (graphOf n atoms bonds) a))

@@ -30,7 +30,7 @@ use Rattle.trip_graph.proofs.Lists.{memb, idx, Nodup, same-refl, eq-of-
 use Rattle.trip_graph.proofs.View.{hasT, kindT, NodupB, view, push, view-open, view-extend, view-close, close-kind, view-root}
 use Rattle.trip_graph.proofs.Opens.{heldOf, look-in, look-one, lookup-none, lookup-some, without-map, join-del-true, Froms, held-snoc}
 use Rattle.trip_graph.proofs.Counts.{count-app, count-add, count-fill, upd-length}
-use Rattle.trip_text.specs.Retell.{retoldOne, retold}
+use Rattle.trip_text.specs.Steps.{retoldOne, retold}
 
 unfoldable pub idxs : List ℕ → List ℕ → List ℕ
 idxs o [] = []

@@ -20,7 +20,7 @@ use Rattle.read_line.specs.Events.{ReadEvent, Enter, Join, Pop, Miss, Nest}
 use Rattle.builder_meaning.specs.Sketch.{Sketch, Held, Failure, None, Failed, refused, nextNumber, countOf, rootS, extendS, bondedS, openedS, closedS, ringS, joinS, enterS, numberS, stepS, runS, lookup}
 use Rattle.trip_graph.proofs.Lists.{by-bool}
 use Rattle.trip_graph.proofs.Follows.{run-refused}
-use Rattle.read_line.specs.Places.{placeless, unplaced}
+use Rattle.read_line.specs.Steps.{placeless, unplaced}
 
 -- a choice between a refusal and what goes on
 pick-same : (q : Bool) (x x′ y y′ : Sketch) → (x′ .refusal ≡ 0 → ⊥) → (y′ .refusal ≡ 0 → y ≡ y′) → pick q x′ y′ .refusal ≡ 0 → pick q x y ≡ pick q x′ y′

@@ -20,7 +20,8 @@ use Rattle.walk_laws.proofs.Sums.{zeros-at}
 use Rattle.walk_laws.proofs.Sound.{Sound, sound-start, step-sound}
 use Rattle.walk_laws.proofs.Ended as walk-laws
 use Rattle.trip_graph.specs.Opened.{Pair, look, joinIn, Serves, dnil, RingsHaveText}
-use Rattle.trip_graph.specs.Renumber.{Simple, Known, Backed, Numbering, Built}
+use Rattle.trip_graph.specs.Renumber.{Simple, Known, Backed, Numbering}
+use Rattle.trip_graph.specs.Steps.{Built}
 use Rattle.trip_graph.specs.Renumbered.{entriesOf, edgeOf, nodeOf, Numbers, byWalk, firstAtoms, renumbered}
 use Rattle.trip_graph.specs.Marks.{Tetrahedral, backKind}
 use Rattle.trip_graph.proofs.Lists.{memb, idx, Nodup, nil, cons, same-refl, same-eq, same-ne, true≢false, by-eq, map-same, idx-lt, memb-here, memb-there}
@@ -32,7 +33,7 @@ use Rattle.trip_graph.proofs.Follows.{idxs, run-app, told-app}
 use Rattle.trip_graph.proofs.State.{doneIn, kindBy, orderOf, mark, mark-in, Sta, is-met}
 use Rattle.trip_graph.proofs.Turns.{Inv, Result, goes, stops, one-turn}
 use Rattle.trip_graph.proofs.Pool.{Holds, pool-serves}
-use Rattle.trip_text.specs.Retell.{retold}
+use Rattle.trip_text.specs.Steps.{retold}
 
 -- ---- turns
 refused-stays : (g : Graph) (t : ℕ) (w : Walk) → w .at .refusal ≢ 0 → walkTo g t w ≡ w

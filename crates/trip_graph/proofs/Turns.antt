@@ -42,7 +42,7 @@ use Rattle.trip_graph.proofs.Ways.{way-enters}
 use Rattle.trip_graph.proofs.Counts.{view-count}
 use Rattle.trip_graph.proofs.Follows.{Bld, Entry, run-one, run-pops, bld-pops, bld-left, bld-ended, bld-root, bld-extend, bld-open, bld-close}
 use Rattle.trip_graph.proofs.State.{doneIn, kindBy, Sta, line-head, line-above, is-met, is-new, here-held, done-new, took-done, pass-done, root-done, sta-skip, sta-ends, sta-leaves, sta-pass, entry, sta-joins, sta-root, sta-enters, entered-done}
-use Rattle.trip_text.specs.Retell.{retoldOne, retold}
+use Rattle.trip_text.specs.Steps.{retoldOne, retold}
 
 -- what holds of a walk and of the sketch that its events make, where H says what a pool holds
 pub record Inv (H : Pool → List ℕ → List Pair → Type 0) (g : Graph) (w : Walk) (b : Sketch) : Type 0 where

@@ -25,14 +25,15 @@ use Rattle.write.specs.Write.{zeros, graphOf, walkIn, saidIn, walkOf, walkEvent
 use Rattle.walk_laws.specs.Trek.{Room, degrees}
 use Rattle.feature.proofs.Cases.{by-test}
 use Rattle.walk_laws.proofs.Judged.{judged-degrees}
-use Rattle.trip_graph.specs.Renumber.{Simple, Known, Numbering, Built}
+use Rattle.trip_graph.specs.Renumber.{Simple, Known, Numbering}
+use Rattle.trip_graph.specs.Steps.{Built}
 use Rattle.trip_graph.specs.Renumbered.{byWalk, renumbered}
 use Rattle.trip_graph.specs.Marks.{Tetrahedral}
 use Rattle.trip_graph.specs.Opened.{RingsHaveText}
 use Rattle.trip_graph.proofs.Trip.{graph-trip, walk-numbers, walk-numbered, walk-known, renumbered-count}
 use Rattle.trip_graph.proofs.Places.{places-free}
-use Rattle.read_line.specs.Places.{unplaced}
-use Rattle.trip_text.specs.Retell.{retold}
+use Rattle.read_line.specs.Steps.{unplaced}
+use Rattle.trip_text.specs.Steps.{retold}
 
 -- ---- tables in which the judge finds nothing bad
 module _ (atoms bonds : List ℕ) (n m : ℕ) (few : n ≤ atomLimit) (good : badRecord atoms n bonds m ≡ n + m)

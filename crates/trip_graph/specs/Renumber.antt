@@ -2,12 +2,9 @@
 use Prim.Native.Nat.{ℕ, _≤_, _<_}
 use mathlib.Core.Path.{_≡_}
 use mathlib.Core.Logic.{_≢_}
-use mathlib.Core.List.{List, []}
 use lib.ListN.{getD}
 use Rattle.feature.specs.Bonds.{reverseOf}
 use Rattle.feature.specs.declared.bond_kind.BondKind.the-variants.{Elided}
-use Rattle.builder.specs.declared.build.Built.the-variants.{Done}
-use Rattle.builder_meaning.specs.Sketch.{Node, None, Sketch, finishS}
 use Rattle.walk_entry.specs.Graph.{BondEntry, Graph, kindAt, degreeAt, bondOf, entryTo}
 use Rattle.trip_graph.specs.Marks.{backKind}
 use Rattle.trip_graph.specs.Renumbered.{Numbers, entriesOf}
@@ -40,15 +37,6 @@ pub record Numbering (g : Graph) (p : Numbers) : Type 0 where
   pub atom : (a : ℕ) → a < g .size → p .atom (p .number a) ≡ a
   pub numbered : (v : ℕ) → v < g .size → p .number (p .atom v) ≡ v
   pub parent : (a : ℕ) → p .parent a ≤ degreeAt g a
-
--- a builder took every event, failed at no join, left no ring open, and made these atoms
-pub record Built (d : Sketch) (ns : List Node) : Type 0 where
-  pub refusal : d .refusal ≡ 0
-  pub failure : d .failure ≡ None
-  pub opens : d .opens ≡ []
-  pub unseen : d .unseen ≡ 0
-  pub nodes : d .nodes ≡ ns
-  pub says : finishS d ≡ Done
 
 -- an entry with its target by its number
 unfoldable pub numberedAs : (ℕ → ℕ) → BondEntry → BondEntry

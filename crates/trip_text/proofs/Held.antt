@@ -15,7 +15,7 @@ use Rattle.read_line.specs.declared.lead.Lead.the-variants.{Dot}
 use Rattle.read_line.specs.Events as reader
 use Rattle.writer.specs.Line.{Event, Root, Extend, Join, Pop, lineOf, dotText, addPiece, onLast, wrapped, popPieces, writeEvent, writeEvents}
 use Rattle.walk_laws.specs.Trek.{AllAccepted}
-use Rattle.trip_text.specs.Retell.{retoldOne, retold, greatest, deepened, depthsOne, depths, Sayable, Spellable}
+use Rattle.trip_text.specs.Steps.{retoldOne, retold, greatest, deepened, depthsOne, depths, Sayable, Spellable}
 use Rattle.trip_text.proofs.Passes.{passes}
 use Rattle.trip_text.proofs.Sense.{body, opened, start, Sense, sense-app, sense-extend, sense-opened, sense-split, sense-join, sense-branch}
 

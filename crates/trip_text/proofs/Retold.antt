@@ -15,13 +15,14 @@ use Rattle.read_line.specs.Events as reader
 use Rattle.read_line.specs.Parse.{bodies, endP, parse}
 use Rattle.writer.specs.Line.{Event, Root, Extend, Join, Pop, lineOf, dotText, addPiece, writeEvent, writeEvents}
 use Rattle.walk_laws.specs.Trek.{AllAccepted}
-use Rattle.trip_text.specs.Retell.{hasNest, SaysWithin, all, cut, retoldOne, retold, depthsOne, depths, depth, Sayable, Spellable}
+use Rattle.trip_text.specs.Steps.{SaysWithin, all, cut, retoldOne, retold, depthsOne, depths, depth, Sayable, Spellable}
 use Rattle.trip_text.proofs.Passes.{passes}
 use Rattle.trip_text.proofs.Stands.{Stands, whole, after}
 use Rattle.trip_text.proofs.Bodies.{end-read}
 use Rattle.trip_text.proofs.Sense.{Then, goes, stops, then-same, then-app, start, Sense, sense-start, met, base, Fuelled}
 use Rattle.trip_text.proofs.Held.{begun, added, held-all, held-line}
-use Rattle.read_line.specs.Places.{unplaced, placeless}
+use Rattle.read_line.specs.Steps.{unplaced, placeless}
+use Rattle.read_line.specs.Events.{hasNest}
 
 -- a line that is read from its start on as these events says them and nothing more
 then-nothing : {w room : ℕ} (D x : List reader.ReadEvent) → Then w room D x [] → SaysWithin w room D x

@@ -15,9 +15,9 @@ use Rattle.read_line.specs.Parse.{parse, lineP, atomP, foundP, bodies, bodyAt, 
 use Rattle.read_token.specs.Scan.{peekAt, digitOf, digitAt, signKind, markWidth, bondAt, percentAt, rnumAt, aromaticOf, aliphaticOf, optionalAt, organicAt, bracketAt, starAt, orElse, otherAt, atomAt}
 use Rattle.writer.specs.Line.{Event, Root, Extend, Join, Pop, lineOf, dotText, addPiece, onLast, wrapped, popPieces, writeEvent, writeEvents}
 use Rattle.walk_laws.specs.Trek.{AllAccepted}
-use Rattle.trip_text.specs.Retell.{retoldOne, retold, greatest, deepened, depthsOne, depths, depth, Sayable, Spellable}
+use Rattle.trip_text.specs.Steps.{retoldOne, retold, greatest, deepened, depthsOne, depths, depth, Sayable, Spellable}
 use Rattle.trip_text.proofs.Retold.{retold-shallow}
-use Rattle.read_line.specs.Places.{unplaced, placeless}
+use Rattle.read_line.specs.Steps.{unplaced, placeless}
 
 -- a chain with a ring number, a branch in a branch, a ring number of two digits, and a second root
 abbrev sample : List Event

@@ -20,7 +20,7 @@ use Rattle.writer.specs.Line.{wrapped}
 use Rattle.trip_text.proofs.Stands.{Stands, after, next, apart}
 use Rattle.trip_text.proofs.Heads.{plain-long, atom-plain, rnum-plain, plain-follows, bond-follows}
 use Rattle.trip_text.proofs.Bodies.{extend-read, join-read, split-read, branch-read, close-read, start-read, opened-read}
-use Rattle.read_line.specs.Places.{unplaced, placeless}
+use Rattle.read_line.specs.Steps.{unplaced, placeless}
 
 -- ---- what is said first and what is said then
 -- x says E, places aside, and then what y says, if there is room for the w branches that are open at once; and else as much of

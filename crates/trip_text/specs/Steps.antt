@@ -1,25 +1,16 @@
+-- Steps of the proofs: no public claim rests on these definitions.
 -- What a reader should say of a line that a writer made of events, and of which events that is said.
 use Prim.Native.Nat.{ℕ, _+_, _-_, _≤_, _<_, max}
 use mathlib.Core.Path.{_≡_}
 use mathlib.Core.List.{List, [], _∷_, _++_, map}
-use mathlib.Core.Bool.{Bool, true, false}
 use lib.ListN.{take, drop}
 use Rattle.survive.specs.Survive.{Survives}
 use Rattle.read_line.specs.declared.lead.Lead.the-variants.{Dot, Bond}
 use Rattle.read_line.specs.Events as reader
 use Rattle.writer.specs.Line.{Event, Root, Extend, Join, Pop}
-use Rattle.read_line.specs.Places.{unplaced}
+use Rattle.read_line.specs.Steps.{unplaced}
 
 -- ---- the reader's events
--- whether a branch too many is among the events
-unfoldable pub hasNest : List reader.ReadEvent → Bool
-hasNest [] = false
-hasNest (reader.Enter l k p ∷ es) = hasNest es
-hasNest (reader.Join b n p ∷ es) = hasNest es
-hasNest (reader.Pop n ∷ es) = hasNest es
-hasNest (reader.Miss m ∷ es) = hasNest es
-hasNest (reader.Nest p ∷ es) = true
-
 -- What is said with room for so many open branches, where w are open at once: D, places aside, if there is room for them, and
 -- else as much of D as comes before a branch too many, then that branch and nothing more.
 pub data SaysWithin : ℕ → ℕ → List reader.ReadEvent → List reader.ReadEvent → Type 0 where
