@@ -51,3 +51,8 @@ pub fn peptide(length: usize) -> String {
     const RESIDUE: &str = "[14NH][13C@@H]([12CH3])[13C](=[16O])";
     RESIDUE.repeat(1.max(length / RESIDUE.len()))
 }
+
+/// Lines of real molecules, a name after each: of 27 bytes in the mean.
+pub fn real() -> Vec<String> {
+    include_str!("real.smi").lines().map(|line| line.split(' ').next().unwrap_or_default().to_string()).collect()
+}

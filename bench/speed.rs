@@ -1,6 +1,11 @@
 //! How fast lines are read, walked and written: our exports beside purr, in one program, on the same lines. Each figure is
 //! the least of several rounds, taken in turns and in the processor's time, so that what else the machine does touches
 //! neither, or both alike.
+//!
+//!     speed                        all rows
+//!     speed row NAME               the drug-like lines alone, under a name
+//!     speed pass WHO LINES TIMES   no figure: WHO, purr or ours, rewrites the lines so many times, for a counter of
+//!                                  instructions; prints their bytes
 
 use std::hint::black_box;
 
@@ -100,16 +105,55 @@ fn growth(name: &str, make: impl Fn(usize) -> String, lengths: &[usize]) {
     println!("  {name}: from the least to the most a byte: {:.2}; the last to the first: {:.2}", most / least, all[all.len() - 1] / all[0]);
 }
 
-fn main() {
+/// So many drug-like lines are measured, and so many are enough to count instructions.
+const DRUGS: usize = 10_000;
+const FEW_DRUGS: usize = 1_000;
+
+fn heading() {
     println!("nanoseconds a byte                    read                         read, walk and write");
     println!("{:<34} {:>8} {:>8} {:>6}    {:>8} {:>8} {:>6}", "", "purr", "ours", "ratio", "purr", "ours", "ratio");
-    let drugs = lines::drugs(1, 10_000);
+}
+
+fn all() {
+    heading();
+    let drugs = lines::drugs(1, DRUGS);
     row("10,000 drug-like lines", &drugs, Room::Line);
     row("the same, the largest tables", &drugs, Room::Largest);
+    row("real short lines", &lines::real(), Room::Line);
     row("a chain of 1,000 bytes", &[lines::chain(1_000)], Room::Line);
     row("a peptide of 7,000 bytes", &[lines::peptide(7_000)], Room::Line);
     println!("growth with length");
     growth("chain", lines::chain, &[80, 160, 320, 640, 1_000]);
     growth("drug-like", lines::drug_of, &[80, 160, 320, 640, 1_280]);
     growth("peptide", lines::peptide, &[80, 160, 320, 640, 1_280, 2_560, 5_120, 7_000]);
+}
+
+/// One of the two at work, and nothing else.
+fn pass(who: &str, which: &str, times: usize) {
+    let lines = match which {
+        "drugs" => lines::drugs(1, FEW_DRUGS),
+        "real" => lines::real(),
+        "chain" => vec![lines::chain(1_000)],
+        _ => vec![lines::peptide(7_000)],
+    };
+    let mut lent = Lent::new();
+    for _ in 0..times {
+        for line in &lines {
+            match who {
+                "purr" => drop(black_box(purr_rewrite(line))),
+                _ => drop(black_box(lent.rewrite(line, Room::Line))),
+            }
+        }
+    }
+    println!("{}", lines.iter().map(String::len).sum::<usize>());
+}
+
+fn main() {
+    let words: Vec<String> = std::env::args().skip(1).collect();
+    match words.iter().map(String::as_str).collect::<Vec<_>>()[..] {
+        [] => all(),
+        ["row", name] => drop(row(name, &lines::drugs(1, DRUGS), Room::Line)),
+        ["pass", who, which, times] => pass(who, which, times.parse().expect("a number")),
+        _ => panic!("speed [row NAME | pass WHO LINES TIMES]"),
+    }
 }
