@@ -87,8 +87,11 @@ impl Graph {
     /// The graph that words stand for: three an atom, two a bond entry. The library judges them.
     pub fn from_words(atoms: Vec<u32>, bonds: Vec<u32>) -> Result<Graph, Error> {
         let (n, m) = (atoms.len() / ATOM_WORDS, bonds.len() / BOND_WORDS);
-        if atoms.len() % ATOM_WORDS != 0 || bonds.len() % BOND_WORDS != 0 {
-            return Err(Error::BadTable(if atoms.len() % ATOM_WORDS != 0 { n } else { n + m }));
+        // Words that are too few for a record stand for none.
+        for (words, size, record) in [(&atoms, ATOM_WORDS, n), (&bonds, BOND_WORDS, n + m)] {
+            if !words.chunks_exact(size).remainder().is_empty() {
+                return Err(Error::BadTable(record));
+            }
         }
         let graph = Graph { atoms, bonds };
         match graph.order() {

@@ -46,7 +46,7 @@ fn words_that_stand_for_nothing_are_refused() {
     assert_eq!(Graph::from_words(vec![3, 0, 0, 3], vec![]), Err(Error::BadTable(1)));
     assert_eq!(Graph::from_words(vec![3, 0, 0], vec![1, 0]), Err(Error::BadTable(1)));
     assert_eq!(Graph::from_words(vec![u32::MAX; 300], vec![u32::MAX; 300]), Err(Error::BadTable(0)));
-    assert_eq!(Graph::from_words(vec![3, 0, 0].repeat(1025), vec![]), Err(Error::AtomRoom(1025)));
+    assert_eq!(Graph::from_words([3, 0, 0].repeat(1025), vec![]), Err(Error::AtomRoom(1025)));
     let alone = Graph::from_words(vec![3, 0, 1], vec![1, 7]).unwrap();
     assert_eq!(alone.write(), Err(Error::UnknownTarget(0, 7)));
 }

@@ -22,7 +22,7 @@ pub fn rows(name: &str, sort: &str) -> Vec<(String, String)> {
         .filter_map(|line| {
             let (request, answers) = line.split_once('\t').expect("an answer");
             let asked = request.strip_prefix(&sort)?;
-            Some((asked.to_string(), answers.split('\t').last().unwrap().to_string()))
+            Some((asked.to_string(), answers.split('\t').next_back().unwrap().to_string()))
         })
         .collect();
     assert!(rows.len() >= 150, "only {} rows of {sort}in {name}", rows.len());
