@@ -6,6 +6,7 @@ use lib.ListN.{length}
 use lib.Dec.{ltb, eqb}
 use Rattle.feature.specs.Text.{byte}
 use Rattle.feature.specs.declared.bond_kind.BondKind.{BondKind}
+use Rattle.feature.proofs.Cases.{by-either}
 use Rattle.read_token.specs.Scan.{peekAt, atomAt, rnumAt}
 use Rattle.read_token.specs.declared.scanner.Found.{Found}
 use Rattle.read_token.specs.declared.scanner.Found.the-variants.{Atom, Nothing, Lacks}
@@ -17,7 +18,6 @@ use Rattle.read_line.specs.declared.lead.Lead.{Lead}
 use Rattle.read_line.specs.declared.lead.Lead.the-variants.{Dot, Bond}
 use Rattle.read_line.specs.Events.{ReadEvent}
 use Rattle.read_line.specs.Parse.{Rest, ledAt, bodyAt, missP, foundP, atomP, ringP, unionBy, unionP, unitBy, unitP, lineP, closeP, branchP, bodies, endP, parse}
-use Rattle.read_line.proofs.Counts.{by-test}
 use Rattle.builder_meaning.proofs.Run.{AllOk}
 
 -- what follows is such
@@ -62,7 +62,7 @@ module _ (s : List ℕ) (k : Rest) (ok : OkRest k) where
 
 close-ok : (s : List ℕ) (k : ℕ → List ReadEvent) → ((at : ℕ) → AllOk (k at)) → OkRest (closeP s k)
 unfolding closeP
-close-ok s k ok at n = by-test AllOk (eqb (peekAt s at) (byte ")")) (tt, ok (at + 1)) (miss-ok s at)
+close-ok s k ok at n = by-either AllOk (eqb (peekAt s at) (byte ")")) (tt, ok (at + 1)) (miss-ok s at)
 
 line-ok : (more : ℕ → ℕ → Rest → List ReadEvent) (s : List ℕ) (k : Rest) → ((at n : ℕ) → AllOk (more at n k)) → (at : ℕ) (l : Lead) → AllOk (lineP more s at l k)
 unfolding lineP
@@ -71,21 +71,21 @@ line-ok more s k ok at l = atom-ok s (λ at′ n′. more at′ n′ k) ok at l 
 branch-ok : (more : ℕ → ℕ → ℕ → Rest → List ReadEvent) (s : List ℕ) → ((room at n : ℕ) (k : Rest) → OkRest k → AllOk (more room at n k)) → (at room : ℕ) (k : ℕ → List ReadEvent) → ((at : ℕ) → AllOk (k at)) → AllOk (branchP more s at room k)
 unfolding branchP
 branch-ok more s m at room k ok =
-    by-test AllOk (eqb room 0) (tt, tt)
+    by-either AllOk (eqb room 0) (tt, tt)
     (line-ok (more (room - 1)) s (closeP s k) (λ at′ n′. m (room - 1) at′ n′ (closeP s k) (close-ok s k ok)) (ledAt s (at + 1) .next) (ledAt s (at + 1) .lead))
 
 bodies-ok : (f : ℕ) (s : List ℕ) (room at n : ℕ) (k : Rest) → OkRest k → AllOk (bodies f s room at n k)
 unfolding bodies
 bodies-ok zero s room at n k ok = tt
 bodies-ok (suc f) s room at n k ok =
-    by-test AllOk (eqb (bodyAt s at) (byte "0")) (ok at n)
-    (by-test AllOk (eqb (bodyAt s at) (byte "1"))
+    by-either AllOk (eqb (bodyAt s at) (byte "0")) (ok at n)
+    (by-either AllOk (eqb (bodyAt s at) (byte "1"))
     (branch-ok (bodies f s) s (λ r a m j o. bodies-ok f s r a m j o) at room (λ at′. bodies f s room at′ n k) (λ at′. bodies-ok f s room at′ n k ok))
     (unit-ok s (λ at′ n′. bodies f s room at′ n′ k) (λ at′ n′. bodies-ok f s room at′ n′ k ok) at n))
 
 end-ok : (s : List ℕ) → OkRest (endP s)
 unfolding endP
-end-ok s at n = by-test AllOk (ltb at (length s)) (tt, tt) tt
+end-ok s at n = by-either AllOk (ltb at (length s)) (tt, tt) tt
 
 pub text-ok : (s : List ℕ) → AllOk (parse s)
 unfolding parse

@@ -14,13 +14,14 @@ use Rattle.feature.specs.Bonds.{codeOf, kindOf, reconcileOf, sureKind}
 use Rattle.feature.specs.declared.bond_kind.BondKind.{BondKind}
 use Rattle.feature.specs.declared.bond_kind.Reconciled.{Reconciled}
 use Rattle.feature.specs.declared.bond_kind.Reconciled.the-variants.{Both, Fails}
+use Rattle.feature.proofs.Bonds.{sure-code, Reversed, reconciled}
 use Rattle.builder.specs.Rings.{ringNumberCount}
 use Rattle.builder.specs.State.{Bld, bld, state, unclosed, entryWords, entryList, bondRoom, noAtom, refuse, joinedSt, failedSt, lastOf, openedOf, openedAt, openingOf, openingKind, closedBy, joinOf}
 use Rattle.builder.specs.declared.builder.Builder.{Builder}
 use Rattle.builder.proofs.Joins.{first-failed, again-failed}
 use Rattle.builder_meaning.specs.Sketch.{To, Open, Node, Held, Failure, None, Failed, Sketch, edge, held, joined, firstOf, broken, countOf, upd, edgesAt, addEdge, openKind, fill, lookup, ringFreed, openedS, closedS, ringS, joinS, targetOf}
 use Rattle.builder_meaning.proofs.Rows.{Row, row, noRow, edgesOf, flat, edges-at, Opened, opened-kind, flat-source, flat-kind}
-use Rattle.builder_meaning.proofs.Twins.{sure-code, Reversed, reconciled, Twins, twins-open, twins-close}
+use Rattle.builder_meaning.proofs.Twins.{Twins, twins-open, twins-close}
 use Rattle.builder_meaning.proofs.Same.{Way, At, Ring, Rings, Entries, hasFailed, closerOf, openerOf, Same}
 use Rattle.builder_meaning.proofs.Parts.{snoc-length, entries-push, entries-fill, way-none, way-some, Stands}
 use Rattle.builder_meaning.proofs.RingNumbers.{ring-within, rings-later, rings-push, rings-hold, rings-free, rings-fill, rings-opened, rings-alone}

@@ -12,11 +12,12 @@ use Rattle.feature.specs.Bonds.{codeOf}
 use Rattle.feature.specs.declared.atom_kind.AtomKind.{AtomKind}
 use Rattle.feature.specs.declared.atom_kind.AtomKind.the-variants.{Star}
 use Rattle.feature.specs.declared.bond_kind.BondKind.{BondKind}
+use Rattle.feature.proofs.Cases.{by-eq}
 use Rattle.packing.specs.Words.{atomWords, wordsOf, listOf}
 use Rattle.packing.proofs.Laws.{sets-beside, sets-in, sets-first}
 use Rattle.builder.specs.State.{entryWords, entryList}
 use Rattle.builder_meaning.specs.Sketch.{Target, To, Edge, Node, edge, node, countOf, upd, addEdge, fill, targetOf}
-use Rattle.builder_meaning.proofs.Rows.{by-eq, Row, row, noRow, edgesOf, flat, nodes-length, nodes-snoc, count-append, count-add, count-fill, nodes-push, edges-none, Opened, nodes-fill, flat-append, flat-set}
+use Rattle.builder_meaning.proofs.Rows.{Row, row, noRow, edgesOf, flat, nodes-length, nodes-snoc, count-append, count-add, count-fill, nodes-push, edges-none, Opened, nodes-fill, flat-append, flat-set}
 use Rattle.builder_meaning.proofs.Same.{Atoms, Entries, lastly, Way}
 
 -- a list with one more

@@ -4,7 +4,6 @@ use mathlib.Core.Path.{_≡_, refl, _∙_, ap, ap₂, sym}
 use mathlib.Core.Logic.{_≢_}
 use mathlib.Core.List.{List, [], _∷_, _++_, append-nil}
 use mathlib.Core.Bool.{Bool, true, false}
-use native.Mathlib.Decide.{ℕ-discrete}
 use native.Mathlib.Omega.{arith}
 use lib.ListN.{length, getD, set, length-append}
 use lib.Seq.{sets}
@@ -17,9 +16,6 @@ use Rattle.feature.specs.declared.bond_kind.BondKind.{BondKind}
 use Rattle.feature.specs.declared.bond_kind.BondKind.the-variants.{Elided}
 use Rattle.builder.specs.State.{entryWords}
 use Rattle.builder_meaning.specs.Sketch.{Target, To, Open, Edge, Node, edge, node, countOf, upd, edgesAt, addEdge, waits, openKind, fillEdges, fill, targetOf}
-
-pub by-eq : {X : Type 0} (a b : ℕ) → (a ≡ b → X) → (a ≢ b → X) → X
-by-eq a b f g = elim (ℕ-discrete a b) [ yes e ↦ f e | no h ↦ g h ]
 
 -- an entry with the atom that it is at
 pub record Row : Type 0 where

@@ -17,6 +17,7 @@ use Rattle.feature.specs.declared.atom_kind.Inverted.the-variants.{Turned, Refu
 use Rattle.feature.specs.declared.bond_kind.BondKind.{BondKind}
 use Rattle.feature.specs.declared.bond_kind.Reconciled.{Reconciled}
 use Rattle.feature.specs.declared.bond_kind.Reconciled.the-variants.{Both, Fails}
+use Rattle.feature.proofs.Cases.{by-either}
 use Rattle.read_token.specs.declared.scanner.Missing.{Missing}
 use Rattle.read_token.specs.declared.scanner.Missing.the-variants.{EndOfLine, Character}
 use Rattle.packing.specs.Words.{atomWords, bondWords, listOf}
@@ -28,7 +29,6 @@ use Rattle.read_line.specs.declared.lead.Lead.{Lead}
 use Rattle.read_line.specs.declared.lead.Lead.the-variants.{Dot, Bond}
 use Rattle.read_line.specs.Events.{ReadEvent, Enter, Join, Pop, Miss, Nest, markJudged, unstoredOf, missingSt, ledOf, enterOf, ringOf, step, run}
 use Rattle.read_line.specs.Parse.{parse}
-use Rattle.read_line.proofs.Counts.{by-test}
 use Rattle.builder.specs.Build.{tables, buildOf}
 use Rattle.builder_meaning.specs.Sketch.{Sketch, BothEnds, startS, nextNumber, countOf, sketchOf, finishS}
 use Rattle.builder_meaning.proofs.Same.{Room, Same}
@@ -52,7 +52,7 @@ module _ (n l : ℕ) (b : Bld) (kept : Kept n l b) where
   root-kept : (k : AtomKind) (place : ℕ) → Kept n l (rootOf b k place)
   unfolding rootOf entered
   root-kept k place =
-      by-test (Kept n l) (leb (b .st .places) (b .st .atoms)) (refuse-kept _ _)
+      by-either (Kept n l) (leb (b .st .places) (b .st .atoms)) (refuse-kept _ _)
       (record { atoms = length-sets (b .atoms) (b .st .atoms * atomWords) (listOf k) ∙ kept .atoms; slots = kept .slots })
 
   extended-kept : (e : BondKind) (t : Inverted) → Kept n l (extendedBy b e t)
@@ -64,27 +64,27 @@ module _ (n l : ℕ) (b : Bld) (kept : Kept n l b) where
   extend-kept : (e : BondKind) (k : AtomKind) (place : ℕ) → Kept n l (extendOf b e k place)
   unfolding extendOf
   extend-kept e k place =
-      by-test (Kept n l) (eqb (b .st .top) 0) (refuse-kept _ _)
-      (by-test (Kept n l) (leb (b .st .places) (b .st .atoms)) (refuse-kept _ _)
-      (by-test (Kept n l) (ltb (b .st .slots) (b .st .entries + 2)) (refuse-kept _ _) (extended-kept e (invertOf k))))
+      by-either (Kept n l) (eqb (b .st .top) 0) (refuse-kept _ _)
+      (by-either (Kept n l) (leb (b .st .places) (b .st .atoms)) (refuse-kept _ _)
+      (by-either (Kept n l) (ltb (b .st .slots) (b .st .entries + 2)) (refuse-kept _ _) (extended-kept e (invertOf k))))
 
   failed-kept : (x y : ℕ) → failedSt (b .st) x y .slots ≡ l
   unfolding failedSt
-  failed-kept x y = by-test (λ (t : Builder). t .slots ≡ l) (b .st .failed) (kept .slots) (kept .slots)
+  failed-kept x y = by-either (λ (t : Builder). t .slots ≡ l) (b .st .failed) (kept .slots) (kept .slots)
 
   closed-kept : (m place : ℕ) (q : Reconciled) → Kept n l (closedBy b m place q)
   unfolding closedBy
   closed-kept m place Fails = record { atoms = kept .atoms; slots = failed-kept (lastOf b) (openingOf b m) }
   closed-kept m place (Both x y) =
-      by-test (Kept n l) (ltb (b .st .slots) (b .st .entries + 1)) (refuse-kept _ _)
+      by-either (Kept n l) (ltb (b .st .slots) (b .st .entries + 1)) (refuse-kept _ _)
       (record { atoms = kept .atoms; slots = kept .slots })
 
   join-kept : (e : BondKind) (m place : ℕ) → Kept n l (joinOf b e m place)
   unfolding joinOf openedOf
   join-kept e m place =
-      by-test (Kept n l) (eqb (b .st .top) 0) (refuse-kept _ _)
-      (by-test (Kept n l) (eqb (getD (b .rings) m 0) 0)
-      (by-test (Kept n l) (ltb (b .st .slots) (b .st .entries + 1)) (refuse-kept _ _) (record { atoms = kept .atoms; slots = kept .slots }))
+      by-either (Kept n l) (eqb (b .st .top) 0) (refuse-kept _ _)
+      (by-either (Kept n l) (eqb (getD (b .rings) m 0) 0)
+      (by-either (Kept n l) (ltb (b .st .slots) (b .st .entries + 1)) (refuse-kept _ _) (record { atoms = kept .atoms; slots = kept .slots }))
       (closed-kept m place (reconcileOf (openingKind b m) e)))
 
   led-kept : (x : Lead) (k : AtomKind) (place : ℕ) → Kept n l (ledOf b x k place)
@@ -110,8 +110,8 @@ module _ (n l : ℕ) (b : Bld) (kept : Kept n l b) where
   step-kept : (e : ReadEvent) → Kept n l (step b e)
   unfolding step enterOf ringOf popOf
   step-kept (Enter x k place) =
-      by-test (Kept n l) (b .st .failed) (record { atoms = kept .atoms; slots = numb-kept x k }) (led-kept x k place)
-  step-kept (Join e m place) = by-test (Kept n l) (b .st .failed) kept (join-kept e m place)
+      by-either (Kept n l) (b .st .failed) (record { atoms = kept .atoms; slots = numb-kept x k }) (led-kept x k place)
+  step-kept (Join e m place) = by-either (Kept n l) (b .st .failed) kept (join-kept e m place)
   step-kept (Pop m) = record { atoms = kept .atoms; slots = kept .slots }
   step-kept (Miss m) = record { atoms = kept .atoms; slots = missing-kept m }
   step-kept (Nest place) = record { atoms = kept .atoms; slots = kept .slots }
@@ -120,7 +120,7 @@ run-kept : (n l : ℕ) (b : Bld) (es : List ReadEvent) → Kept n l b → Kept n
 unfolding run
 run-kept n l b [] kept = kept
 run-kept n l b (e ∷ es) kept =
-    by-test (Kept n l) (eqb (b .st .refusal) 0) (run-kept n l (step b e) es (step-kept n l b kept e)) kept
+    by-either (Kept n l) (eqb (b .st .refusal) 0) (run-kept n l (step b e) es (step-kept n l b kept e)) kept
 
 -- ---- the room of tables
 pub lesser-most : (limit n : ℕ) → lesserOf limit n ≤ limit

@@ -6,84 +6,16 @@ use mathlib.Core.Bool.{Bool, true, false}
 use native.Mathlib.Omega.{arith}
 use lib.ListN.{length, getD, set}
 use lib.Dec.{ltb, eqb}
-use borrow.Author.Tests.{ltb-true, ltb-false, eqb-true, eq-eqb, ne-eqb}
+use borrow.Author.Tests.{ltb-true, ltb-false}
 use Rattle.feature.specs.Pick.{pick, both}
-use Rattle.feature.specs.Bonds.{codeOf, kindOf, sameKind, isDirectional, reverseOf, reconcileOf, sureKind}
+use Rattle.feature.specs.Bonds.{sameKind, reverseOf}
 use Rattle.feature.specs.declared.atom_kind.AtomKind.{AtomKind}
 use Rattle.feature.specs.declared.bond_kind.BondKind.{BondKind}
-use Rattle.feature.specs.declared.bond_kind.BondKind.the-variants as bonds
-use Rattle.feature.specs.declared.bond_kind.Reconciled.{Reconciled}
-use Rattle.feature.specs.declared.bond_kind.Reconciled.the-variants.{Both, Fails}
+use Rattle.feature.proofs.Bonds.{reverse-twice, same-reverse}
 use Rattle.builder_meaning.specs.Sketch.{To, Open, Edge, edge, edgesAt, leads, isEdgeTo, bondsTo, BothEnds}
-use Rattle.builder_meaning.proofs.Rows.{by-eq, Row, row, noRow, edgesOf, nodesOf, edges-at, edges-none, Opened}
+use Rattle.builder_meaning.proofs.Rows.{Row, row, noRow, edgesOf, nodesOf, edges-at, edges-none, Opened}
 
 -- ---- kinds
--- a kind's number stands for it
-pub sure-code : (k : BondKind) → sureKind (kindOf (codeOf k)) ≡ k
-unfolding sureKind kindOf codeOf
-sure-code bonds.Elided = refl
-sure-code bonds.Single = refl
-sure-code bonds.Double = refl
-sure-code bonds.Triple = refl
-sure-code bonds.Quadruple = refl
-sure-code bonds.Aromatic = refl
-sure-code bonds.Up = refl
-sure-code bonds.Down = refl
-
-same-code : (j k : BondKind) → codeOf j ≡ codeOf k → j ≡ k
-same-code j k e = sym (sure-code j) ∙ ap (λ (c : ℕ). sureKind (kindOf c)) e ∙ sure-code k
-
-pub reverse-twice : (k : BondKind) → reverseOf (reverseOf k) ≡ k
-unfolding reverseOf
-reverse-twice bonds.Elided = refl
-reverse-twice bonds.Single = refl
-reverse-twice bonds.Double = refl
-reverse-twice bonds.Triple = refl
-reverse-twice bonds.Quadruple = refl
-reverse-twice bonds.Aromatic = refl
-reverse-twice bonds.Up = refl
-reverse-twice bonds.Down = refl
-
--- a kind with no direction is its own reverse
-own-reverse : (k : BondKind) → isDirectional k ≡ false → k ≡ reverseOf k
-unfolding reverseOf isDirectional
-own-reverse bonds.Elided e = refl
-own-reverse bonds.Single e = refl
-own-reverse bonds.Double e = refl
-own-reverse bonds.Triple e = refl
-own-reverse bonds.Quadruple e = refl
-own-reverse bonds.Aromatic e = refl
-own-reverse bonds.Up e = absurd (let z : _≡_ {A = ℕ} 0 1 = cc in omega arith)
-own-reverse bonds.Down e = absurd (let z : _≡_ {A = ℕ} 0 1 = cc in omega arith)
-
--- the second kind is the reverse of the first
-abbrev pub Reversed : Reconciled → Type 0
-Reversed Fails = Unit {0}
-Reversed (Both l r) = r ≡ reverseOf l
-
--- reconciled kinds are
-pub reconciled : (l r : BondKind) → Reversed (reconcileOf l r)
-unfolding reconcileOf
-reconciled l r = split (eqb (codeOf l) (codeOf r)) (eqb (codeOf l) (codeOf (reverseOf r))) (eqb (codeOf l) (codeOf bonds.Elided)) (eqb (codeOf r) (codeOf bonds.Elided)) (isDirectional l) refl refl refl where
-  split : (p q e f d : Bool) → eqb (codeOf l) (codeOf r) ≡ p → eqb (codeOf l) (codeOf (reverseOf r)) ≡ q → isDirectional l ≡ d → Reversed (pick p (pick d Fails (Both l r)) (pick q (Both l r) (pick e (Both (reverseOf r) r) (pick f (Both l (reverseOf l)) Fails))))
-  split true q e f true i j g = tt
-  split true q e f false i j g = sym (same-code l r (eqb-true _ _ i)) ∙ own-reverse l g
-  split false true e f d i j g = sym (reverse-twice r) ∙ ap reverseOf (sym (same-code l (reverseOf r) (eqb-true _ _ j)))
-  split false false true f d i j g = sym (reverse-twice r)
-  split false false false true d i j g = refl
-  split false false false false d i j g = tt
-
--- the reverses of two kinds are the same where they are
-same-reverse : (j k : BondKind) → sameKind (reverseOf j) (reverseOf k) ≡ sameKind j k
-same-reverse j k =
-    by-eq (codeOf j) (codeOf k)
-    (λ e. eq-eqb (codeOf (reverseOf j)) (codeOf (reverseOf k)) (ap (λ (x : BondKind). codeOf (reverseOf x)) (same-code j k e)) ∙ sym (eq-eqb (codeOf j) (codeOf k) e))
-    (λ n. ne-eqb (codeOf (reverseOf j)) (codeOf (reverseOf k)) (λ e. n (turned e)) ∙ sym (ne-eqb (codeOf j) (codeOf k) n))
-  where
-    turned : codeOf (reverseOf j) ≡ codeOf (reverseOf k) → codeOf j ≡ codeOf k
-    turned e =
-        ap codeOf (sym (reverse-twice j) ∙ ap reverseOf (same-code (reverseOf j) (reverseOf k) e) ∙ reverse-twice k)
-
 -- ---- rows
 -- as many of each sort at one end as of the reverse at the other, and an even number where both are the same
 pub record Twins (rs : List Row) : Type 0 where

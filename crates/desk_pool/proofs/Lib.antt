@@ -1,4 +1,3 @@
-pub mod Both
 pub mod Stands
 pub mod PoolKept
 pub mod Results

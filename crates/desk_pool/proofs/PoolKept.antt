@@ -3,7 +3,7 @@
 use Prim.{⊥}
 use Prim.Native.Nat.{ℕ, zero, suc, _+_, _*_, _≤_, _<_}
 use mathlib.Core.Path.{_≡_, refl, sym, ap, _∙_}
-use mathlib.Core.Bool.{Bool, true, false}
+use mathlib.Core.Bool.{Bool, true, false, false≢true}
 use mathlib.Core.List.{List, [], _∷_}
 use mathlib.Core.Logic.{inl, inr}
 use native.Mathlib.Omega.{arith}
@@ -20,8 +20,7 @@ use Rattle.join_pool.specs.Pairs.{highest, slotWords, pool, emptyOf, opens, ope
 use Rattle.desk_pool.specs.Slots.{top, isFree, isOpen, keptFree, isSlot, isFound, isPool}
 use Rattle.feature.specs.Every.{every}
 use Rattle.feature.proofs.Every.{every-at, every-all}
-use Rattle.feature.proofs.Cases.{by-test}
-use Rattle.desk_pool.proofs.Both.{no, first, second, join}
+use Rattle.feature.proofs.Cases.{by-test, both-first, both-second, both-pass}
 
 -- ---- the search for a pair
 -- no less and not the same
@@ -48,7 +47,7 @@ finds pairs lo hi (suc c) n z l o e = go (opens pairs (suc c) lo hi) refl (finds
   go : (q : Bool) → opens pairs (suc c) lo hi ≡ q → (n ≤ c → opens pairs n lo hi ≡ true → openNumber pairs lo hi c ≡ 0 → ⊥) → pick q (suc c) (openNumber pairs lo hi c) ≡ 0 → ⊥
   go true q ih k = omega arith
   go false q ih k =
-      let less = differ {n = suc c} {m = n} (λ s. no (sym q ∙ ap (λ (i : ℕ). opens pairs i lo hi) s ∙ o)) l in
+      let less = differ {n = suc c} {m = n} (λ s. false≢true (sym q ∙ ap (λ (i : ℕ). opens pairs i lo hi) s ∙ o)) l in
       ih (omega arith) o k
 
 -- ---- the test of a pool as facts
@@ -56,10 +55,10 @@ finds pairs lo hi (suc c) n z l o e = go (opens pairs (suc c) lo hi) refl (finds
 words-of : (pairs : List ℕ) (n lo hi : ℕ) → opens pairs n lo hi ≡ true → (getD pairs (n * slotWords) 0 ≡ 1) × (getD pairs (n * slotWords + 1) 0 ≡ lo) × (getD pairs (n * slotWords + 2) 0 ≡ hi)
 unfolding opens
 words-of pairs n lo hi h =
-    let rest = second (eqb (getD pairs (n * slotWords) 0) 1) _ h in (
-      eqb-true _ _ (first (eqb (getD pairs (n * slotWords) 0) 1) _ h),
-      eqb-true _ _ (first (eqb (getD pairs (n * slotWords + 1) 0) lo) _ rest),
-      eqb-true _ _ (second (eqb (getD pairs (n * slotWords + 1) 0) lo) _ rest),
+    let rest = both-second (eqb (getD pairs (n * slotWords) 0) 1) _ h in (
+      eqb-true _ _ (both-first (eqb (getD pairs (n * slotWords) 0) 1) _ h),
+      eqb-true _ _ (both-first (eqb (getD pairs (n * slotWords + 1) 0) lo) _ rest),
+      eqb-true _ _ (both-second (eqb (getD pairs (n * slotWords + 1) 0) lo) _ rest),
     )
 
 -- such a number is not free
@@ -73,10 +72,10 @@ marked pairs n lo hi h =
 open-pair : (pairs : List ℕ) (n : ℕ) → isOpen pairs n ≡ true → opens pairs n (getD pairs (n * slotWords + 1) 0) (getD pairs (n * slotWords + 2) 0) ≡ true
 unfolding isOpen opens
 open-pair pairs n h =
-    join (first (eqb (getD pairs (n * slotWords) 0) 1) _ h) (join (eq-eqb (getD pairs (n * slotWords + 1) 0) (getD pairs (n * slotWords + 1) 0) refl) (eq-eqb (getD pairs (n * slotWords + 2) 0) (getD pairs (n * slotWords + 2) 0) refl))
+    both-pass (both-first (eqb (getD pairs (n * slotWords) 0) 1) _ h) (both-pass (eq-eqb (getD pairs (n * slotWords + 1) 0) (getD pairs (n * slotWords + 1) 0) refl) (eq-eqb (getD pairs (n * slotWords + 2) 0) (getD pairs (n * slotWords + 2) 0) refl))
 
 taken : (f k o : Bool) → f ≡ false → either f (pick k false o) ≡ true → (k ≡ false) × (o ≡ true)
-taken f true o e h = absurd (no (rw e at h))
+taken f true o e h = absurd (false≢true (rw e at h))
 taken f false o e h = (refl, rw e at h)
 
 held : (p : Pool) (pairs : List ℕ) (n : ℕ) → isFree pairs n ≡ false → isSlot p pairs n ≡ true → (keptFree p n ≡ false) × (isOpen pairs n ≡ true)
@@ -87,9 +86,9 @@ not-kept : (p : Pool) (n : ℕ) → keptFree p n ≡ false → (0 < n) × (n < p
 unfolding keptFree
 not-kept p n k = go (eqb n 0) (eqb n (p .spare)) (leb (p .counter) n) refl refl k where
   go : (a b c : Bool) → eqb n 0 ≡ a → leb (p .counter) n ≡ c → either a (either b c) ≡ false → (0 < n) × (n < p .counter)
-  go true b c e f k = absurd (no (sym k))
-  go false true c e f k = absurd (no (sym k))
-  go false false true e f k = absurd (no (sym k))
+  go true b c e f k = absurd (false≢true (sym k))
+  go false true c e f k = absurd (false≢true (sym k))
+  go false false true e f k = absurd (false≢true (sym k))
   go false false false e f k = (differ (eqb-false n 0 e) (omega arith), leb-false (p .counter) n f)
 
 -- the search for the pair of an open number finds it
@@ -109,15 +108,15 @@ pub record Pooled (p : Pool) (pairs : List ℕ) : Type 0 where
 pub facts : (p : Pool) (pairs : List ℕ) → isPool p pairs ≡ true → Pooled p pairs
 unfolding isPool
 facts p pairs h1 =
-    let h2 = second (leb (top * slotWords) (length pairs)) _ h1 in
-    let h3 = second (leb (p .counter) top) _ h2 in
-    let h4 = second (ltb (p .spare) (p .counter)) _ h3 in
-    let h5 = second (every (isSlot p pairs) (top + 1)) _ h4 in
+    let h2 = both-second (leb (top * slotWords) (length pairs)) _ h1 in
+    let h3 = both-second (leb (p .counter) top) _ h2 in
+    let h4 = both-second (ltb (p .spare) (p .counter)) _ h3 in
+    let h5 = both-second (every (isSlot p pairs) (top + 1)) _ h4 in
     record {
-      room = leb-true _ _ (first (leb (top * slotWords) (length pairs)) _ h1);
-      counter = leb-true _ _ (first (leb (p .counter) top) _ h2);
-      spare = ltb-true _ _ (first (ltb (p .spare) (p .counter)) _ h3);
-      each = λ (n : ℕ) (l : n < top + 1). every-at (isSlot p pairs) (top + 1) n (first (every (isSlot p pairs) (top + 1)) _ h4) l;
+      room = leb-true _ _ (both-first (leb (top * slotWords) (length pairs)) _ h1);
+      counter = leb-true _ _ (both-first (leb (p .counter) top) _ h2);
+      spare = ltb-true _ _ (both-first (ltb (p .spare) (p .counter)) _ h3);
+      each = λ (n : ℕ) (l : n < top + 1). every-at (isSlot p pairs) (top + 1) n (both-first (every (isSlot p pairs) (top + 1)) _ h4) l;
       one = λ (n m lo hi : ℕ) (l : n < top + 1) (k : m < top + 1) (o : opens pairs n lo hi ≡ true) (q : opens pairs m lo hi ≡ true). sym (sought p pairs n lo hi o (every-at (isFound p pairs) (top + 1) n h5 l)) ∙ sought p pairs m lo hi q (every-at (isFound p pairs) (top + 1) m h5 k);
     }
 
@@ -139,10 +138,10 @@ found-one p pairs h n l = go (isFree pairs n) refl where
 pub stands : (p : Pool) (pairs : List ℕ) → Pooled p pairs → isPool p pairs ≡ true
 unfolding isPool
 stands p pairs h =
-    join (le-leb _ _ (h .room))
-    (join (le-leb _ _ (h .counter))
-    (join (lt-ltb _ _ (h .spare))
-    (join (every-all (isSlot p pairs) (top + 1) (h .each))
+    both-pass (le-leb _ _ (h .room))
+    (both-pass (le-leb _ _ (h .counter))
+    (both-pass (lt-ltb _ _ (h .spare))
+    (both-pass (every-all (isSlot p pairs) (top + 1) (h .each))
     (every-all (isFound p pairs) (top + 1) (found-one p pairs h)))))
 
 -- in a pool no pair is open under two numbers
@@ -204,7 +203,7 @@ open-for pairs m lo hi lo′ hi′ room o =
 still : (f k k′ o : Bool) → (k′ ≡ true → k ≡ true) → either f (pick k false o) ≡ true → either f (pick k′ false o) ≡ true
 still true k k′ o h e = refl
 still false k true o h e = rw (h refl) at e
-still false true false o h e = absurd (no e)
+still false true false o h e = absurd (false≢true e)
 still false false false o h e = e
 
 -- a slot that does not change still stands if no other number has to be free

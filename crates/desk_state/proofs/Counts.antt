@@ -1,8 +1,7 @@
 -- What the counts of a state keep to. Assumes nothing.
-use Prim.{⊥}
 use Prim.Native.Nat.{ℕ, _*_, _/_, _≤_}
 use mathlib.Core.Path.{_≡_, refl}
-use mathlib.Core.Bool.{Bool, true, false}
+use mathlib.Core.Bool.{Bool, true, false, false≢true}
 use native.Mathlib.Omega.{arith}
 use lib.Dec.{leb, ltb, eqb}
 use borrow.Author.Tests.{leb-true, ltb-true, ltb-false, eqb-true}
@@ -14,16 +13,13 @@ use Rattle.builder.specs.State.{entryWords}
 use Rattle.builder.specs.declared.builder.Builder.{Builder}
 use Rattle.desk_state.specs.Standing.{also, placesIn, entrySlotsIn, countsStand}
 
-pub no : false ≡ true → ⊥
-no e = let z : _≡_ {A = ℕ} 0 1 = cc in omega arith
-
 pub first : (a b : Bool) → also a b ≡ true → a ≡ true
 first true b h = refl
-first false b h = absurd (no h)
+first false b h = absurd (false≢true h)
 
 pub second : (a b : Bool) → also a b ≡ true → b ≡ true
 second true b h = h
-second false b h = absurd (no h)
+second false b h = absurd (false≢true h)
 
 -- the lesser of two is within both
 pub lesser-most : (limit lent : ℕ) → (lesserOf limit lent ≤ limit) × (lesserOf limit lent ≤ lent)

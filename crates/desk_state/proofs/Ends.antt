@@ -10,10 +10,10 @@ use borrow.Author.Tests.{eqb-true, eq-eqb, ltb-true, ltb-false, lt-leb}
 use Rattle.feature.specs.Pick.{pick}
 use Rattle.feature.specs.Bonds.{codeOf, kindOf, reverseOf}
 use Rattle.feature.specs.declared.bond_kind.BondKind.{BondKind}
-use Rattle.feature.specs.declared.bond_kind.BondKind.the-variants.{Elided, Single, Double, Triple, Quadruple, Aromatic, Up, Down}
 use Rattle.builder.specs.State.{unclosed}
 use Rattle.feature.specs.Every.{every}
 use Rattle.feature.proofs.Every.{every-at}
+use Rattle.feature.proofs.Bonds.{reverse-twice, kind-back}
 use Rattle.desk_state.specs.Standing.{sourceAt, entryKindAt, targetAt, isEntryTo, bondsCounted, turnedOf, isOwn, isMatched, isPaired}
 use Rattle.desk_state.proofs.Counts.{first, second}
 
@@ -68,26 +68,8 @@ even-at e m i h l own =
     (subst (λ (q : Bool). isMatched q (bondsCounted e (sourceAt e i) (entryKindAt e i) (targetAt e i) m) (bondsCounted e (targetAt e i) (turnedOf (kindOf (entryKindAt e i))) (sourceAt e i) m) ≡ true) own (matched-at e m i h l))
 
 pub turned-code : (k : BondKind) → turnedOf (kindOf (codeOf k)) ≡ codeOf (reverseOf k)
-unfolding turnedOf kindOf codeOf reverseOf
-turned-code Elided = refl
-turned-code Single = refl
-turned-code Double = refl
-turned-code Triple = refl
-turned-code Quadruple = refl
-turned-code Aromatic = refl
-turned-code Up = refl
-turned-code Down = refl
-
-pub reverse-twice : (k : BondKind) → reverseOf (reverseOf k) ≡ k
-unfolding reverseOf
-reverse-twice Elided = refl
-reverse-twice Single = refl
-reverse-twice Double = refl
-reverse-twice Triple = refl
-reverse-twice Quadruple = refl
-reverse-twice Aromatic = refl
-reverse-twice Up = refl
-reverse-twice Down = refl
+unfolding turnedOf
+turned-code k = ap turnedOf (kind-back k)
 
 module _ (e : List ℕ) (m : ℕ) (all : every (isPaired e m) m ≡ true) where
   -- where there is such a bond, there are as many reverses of it

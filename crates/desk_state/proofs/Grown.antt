@@ -8,47 +8,18 @@ use native.Mathlib.Omega.{arith}
 use lib.ListN.{length, getD}
 use lib.Seq.{sets}
 use lib.Dec.{eqb, ltb, leb, lit<}
-use borrow.Author.Tests.{eqb-true, eqb-false, eq-eqb, ne-eqb, ltb-true, ltb-false, leb-true, le-leb, lt-leb}
+use borrow.Author.Tests.{ne-eqb, ltb-true, ltb-false, leb-true, le-leb, lt-leb}
 use Rattle.feature.specs.Pick.{pick}
-use Rattle.feature.specs.Bonds.{codeOf, kindOf, reverseOf, sureKind}
+use Rattle.feature.specs.Bonds.{codeOf, reverseOf}
 use Rattle.feature.specs.declared.bond_kind.BondKind.{BondKind}
-use Rattle.feature.specs.declared.bond_kind.BondKind.the-variants as bonds
+use Rattle.feature.proofs.Cases.{by-eq}
+use Rattle.feature.proofs.Bonds.{reverse-twice, same-reverse}
 use Rattle.packing.proofs.Laws.{sets-beside, sets-in, sets-first}
 use Rattle.builder.specs.State.{unclosed, entryWords, entryList}
 use Rattle.desk_state.specs.Standing.{also, sourceAt, entryKindAt, targetAt, isEntryTo, bondsCounted, leastOpen}
-use Rattle.desk_state.proofs.Ends.{count-step, reverse-twice}
-
-pub by-eq : {X : Type 0} (a b : ℕ) → (a ≡ b → X) → (a ≢ b → X) → X
-by-eq {X} a b f g = go (eqb a b) refl where
-  go : (q : Bool) → eqb a b ≡ q → X
-  go true e = f (eqb-true a b e)
-  go false e = g (eqb-false a b e)
+use Rattle.desk_state.proofs.Ends.{count-step}
 
 -- ---- kinds
-pub sure-code : (k : BondKind) → sureKind (kindOf (codeOf k)) ≡ k
-unfolding sureKind kindOf codeOf
-sure-code bonds.Elided = refl
-sure-code bonds.Single = refl
-sure-code bonds.Double = refl
-sure-code bonds.Triple = refl
-sure-code bonds.Quadruple = refl
-sure-code bonds.Aromatic = refl
-sure-code bonds.Up = refl
-sure-code bonds.Down = refl
-
-pub same-code : (j k : BondKind) → codeOf j ≡ codeOf k → j ≡ k
-same-code j k e = sym (sure-code j) ∙ ap (λ (c : ℕ). sureKind (kindOf c)) e ∙ sure-code k
-
-same-reverse : (j k : BondKind) → eqb (codeOf (reverseOf j)) (codeOf (reverseOf k)) ≡ eqb (codeOf j) (codeOf k)
-same-reverse j k =
-    by-eq (codeOf j) (codeOf k)
-    (λ e. eq-eqb (codeOf (reverseOf j)) (codeOf (reverseOf k)) (ap (λ (x : BondKind). codeOf (reverseOf x)) (same-code j k e)) ∙ sym (eq-eqb (codeOf j) (codeOf k) e))
-    (λ n. ne-eqb (codeOf (reverseOf j)) (codeOf (reverseOf k)) (λ e. n (turned e)) ∙ sym (ne-eqb (codeOf j) (codeOf k) n))
-  where
-    turned : codeOf (reverseOf j) ≡ codeOf (reverseOf k) → codeOf j ≡ codeOf k
-    turned e =
-        ap codeOf (sym (reverse-twice j) ∙ ap reverseOf (same-code (reverseOf j) (reverseOf k) e) ∙ reverse-twice k)
-
 -- ---- what an entry adds to a count
 unfoldable pub hit : ℕ → ℕ → ℕ → ℕ → ℕ → ℕ → ℕ
 hit s c x a k t = pick (also (eqb s a) (also (eqb c k) (eqb x t))) 1 0

@@ -3,7 +3,7 @@ use Prim.Native.Nat.{ℕ, _+_, _*_, _-_, _%_, _<_, _≤_}
 use mathlib.Core.Path.{_≡_, refl, sym, ap, _∙_, subst}
 use mathlib.Core.Logic.{_≢_}
 use mathlib.Core.List.{List}
-use mathlib.Core.Bool.{Bool, true, false}
+use mathlib.Core.Bool.{Bool, true, false, false≢true}
 use native.Mathlib.Omega.{arith}
 use lib.ListN.{length, getD, set}
 use lib.Dec.{eqb, ltb, leb}
@@ -11,14 +11,13 @@ use borrow.Author.Tests.{eqb-true, eqb-false, eq-eqb, ne-eqb, lt-ltb, le-ltb, lt
 use Rattle.feature.specs.Pick.{pick, neither}
 use Rattle.feature.specs.Every.{every}
 use Rattle.feature.specs.Kinds.{noConfiguration, noHydrogens, th1, th2, withConfiguration, inRange, invertBracket, invertOf}
-use Rattle.feature.specs.Bonds.{codeOf, kindOf, isDirectional, reverseOf, reconcileOf}
+use Rattle.feature.specs.Bonds.{codeOf, kindOf, reverseOf, reconcileOf}
 use Rattle.feature.specs.declared.atom_kind.BracketAtom.{BracketAtom}
 use Rattle.feature.specs.declared.atom_kind.AtomKind.{AtomKind}
 use Rattle.feature.specs.declared.atom_kind.AtomKind.the-variants.{Star, Aliphatic, Aromatic, Bracket}
 use Rattle.feature.specs.declared.atom_kind.Inverted.{Inverted}
 use Rattle.feature.specs.declared.atom_kind.Inverted.the-variants.{Turned, Refused}
 use Rattle.feature.specs.declared.bond_kind.BondKind.{BondKind}
-use Rattle.feature.specs.declared.bond_kind.BondKind.the-variants as bonds
 use Rattle.feature.specs.declared.bond_kind.Coded.{Coded}
 use Rattle.feature.specs.declared.bond_kind.Coded.the-variants as coded
 use Rattle.feature.specs.declared.bond_kind.Reconciled.{Reconciled}
@@ -26,6 +25,7 @@ use Rattle.feature.specs.declared.bond_kind.Reconciled.the-variants.{Both, Fail
 use Rattle.feature.proofs.Cases.{by-test}
 use Rattle.feature.proofs.Every.{every-at, every-all}
 use Rattle.feature.proofs.Ranges.{good, ranged}
+use Rattle.feature.proofs.Bonds.{same-code, Reversed, reconciled, kind-back}
 use Rattle.packing.specs.Words.{isAtom, entryOfWords, entryCoded}
 use Rattle.packing.proofs.Laws.{bond-only}
 use Rattle.builder.specs.Limits.{atomLimit, bondLimit}
@@ -35,9 +35,9 @@ use Rattle.builder.specs.Steps.{SmallCounts}
 use Rattle.builder.specs.declared.builder.Builder.{Builder}
 use Rattle.desk_state.specs.Standing.{also, isKind, sourceAt, entryKindAt, targetAt, isTarget, isBuilderEntry, bondsCounted, turnedOf, isOwn, isMatched, isPaired, leastOpen, isLater, isStep, isApart, isRing, openRings, joinsStand, placesIn, entrySlotsIn, countsStand, failureStands, isState}
 use Rattle.desk_state.specs.Steps.{Between}
-use Rattle.desk_state.proofs.Counts.{no, first, second, counts}
-use Rattle.desk_state.proofs.Ends.{turned-code, reverse-twice, to-matched, both-ends, even-ends}
-use Rattle.desk_state.proofs.Grown.{same-code, Plain, Pairs}
+use Rattle.desk_state.proofs.Counts.{first, second, counts}
+use Rattle.desk_state.proofs.Ends.{turned-code, to-matched, both-ends, even-ends}
+use Rattle.desk_state.proofs.Grown.{Plain, Pairs}
 use Rattle.desk_state.proofs.Keeps.{Keeps, keeps-root, keeps-extend, keeps-open, keeps-fail, keeps-close, keeps-pop}
 
 -- ---- tests joined
@@ -50,18 +50,11 @@ unfolding isKind entryOfWords entryCoded
 kind-code n h = go (kindOf n) refl h where
   go : (q : Coded) → kindOf n ≡ q → isKind q ≡ true → (k : BondKind) × (n ≡ codeOf k)
   go (coded.Kind k) e i = (k, bond-only n 0 k 0 (ap (λ (x : Coded). entryCoded x 0) e) .0)
-  go coded.Bad e i = absurd (no i)
+  go coded.Bad e i = absurd (false≢true i)
 
 code-kind : (k : BondKind) → isKind (kindOf (codeOf k)) ≡ true
-unfolding isKind kindOf codeOf
-code-kind bonds.Elided = refl
-code-kind bonds.Single = refl
-code-kind bonds.Double = refl
-code-kind bonds.Triple = refl
-code-kind bonds.Quadruple = refl
-code-kind bonds.Aromatic = refl
-code-kind bonds.Up = refl
-code-kind bonds.Down = refl
+unfolding isKind
+code-kind k = rw (kind-back k)
 
 -- ---- entries
 -- entries that stand are between atoms
@@ -149,7 +142,7 @@ module _ (s : Builder) (e r : List ℕ) where
 
   ring-apart : (n i : ℕ) → isApart r n i ≡ true → getD r i 0 ≢ getD r n 0
   unfolding isApart
-  ring-apart n i h e = no (sym (ap neither (eq-eqb _ _ e)) ∙ h)
+  ring-apart n i h e = false≢true (sym (ap neither (eq-eqb _ _ e)) ∙ h)
 
   of-ring : (n : ℕ) → (getD r n 0 ≢ 0 → (getD r n 0 ≤ s .entries) × (unclosed ≤ targetAt e (getD r n 0 - 1))) → ((i : ℕ) → i < n → getD r n 0 ≢ 0 → getD r i 0 ≢ getD r n 0) → isRing s e r n ≡ true
   unfolding isRing isApart
@@ -301,33 +294,6 @@ invert-range (Bracket b) h =
     (λ e. by-test RangeKept (eqb (b .configuration) th1) (λ e. marked-range b th2 (omega arith) h)
     (λ e. by-test RangeKept (eqb (b .configuration) th2) (λ e. marked-range b th1 (omega arith) h)
     (λ e. tt)))))
-
-own-reverse : (k : BondKind) → isDirectional k ≡ false → k ≡ reverseOf k
-unfolding reverseOf isDirectional
-own-reverse bonds.Elided e = refl
-own-reverse bonds.Single e = refl
-own-reverse bonds.Double e = refl
-own-reverse bonds.Triple e = refl
-own-reverse bonds.Quadruple e = refl
-own-reverse bonds.Aromatic e = refl
-own-reverse bonds.Up e = absurd (no (sym e))
-own-reverse bonds.Down e = absurd (no (sym e))
-
--- reconciled kinds are reverses
-abbrev Reversed : Reconciled → Type 0
-Reversed Fails = Unit {0}
-Reversed (Both l r) = r ≡ reverseOf l
-
-reconciled : (l r : BondKind) → Reversed (reconcileOf l r)
-unfolding reconcileOf
-reconciled l r = split (eqb (codeOf l) (codeOf r)) (eqb (codeOf l) (codeOf (reverseOf r))) (eqb (codeOf l) (codeOf bonds.Elided)) (eqb (codeOf r) (codeOf bonds.Elided)) (isDirectional l) refl refl refl where
-  split : (p q e f d : Bool) → eqb (codeOf l) (codeOf r) ≡ p → eqb (codeOf l) (codeOf (reverseOf r)) ≡ q → isDirectional l ≡ d → Reversed (pick p (pick d Fails (Both l r)) (pick q (Both l r) (pick e (Both (reverseOf r) r) (pick f (Both l (reverseOf l)) Fails))))
-  split true q e f true i j g = tt
-  split true q e f false i j g = sym (same-code l r (eqb-true _ _ i)) ∙ own-reverse l g
-  split false true e f d i j g = sym (reverse-twice r) ∙ ap reverseOf (sym (same-code l (reverseOf r) (eqb-true _ _ j)))
-  split false false true f d i j g = sym (reverse-twice r)
-  split false false false true d i j g = refl
-  split false false false false d i j g = tt
 
 -- ---- the events
 module _ (b : Bld) (h : Holds b) where

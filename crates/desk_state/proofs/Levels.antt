@@ -4,7 +4,7 @@ use Prim.Native.Nat.{ℕ, suc, _+_, _-_, _%_, _<_, _≤_}
 use mathlib.Core.Path.{_≡_, refl, sym, ap, _∙_, subst}
 use mathlib.Core.Logic.{_≢_}
 use mathlib.Core.List.{List}
-use mathlib.Core.Bool.{Bool, true, false}
+use mathlib.Core.Bool.{Bool, true, false, false≢true}
 use native.Mathlib.Omega.{arith}
 use lib.ListN.{length, getD, set, length-set}
 use lib.Seq.{getD-set-same, getD-set-other}
@@ -16,13 +16,14 @@ use Rattle.feature.proofs.Every.{every-fails, every-all}
 use Rattle.feature.specs.Bonds.{codeOf, kindOf, reverseOf}
 use Rattle.feature.specs.declared.bond_kind.BondKind.{BondKind}
 use Rattle.feature.specs.declared.bond_kind.BondKind.the-variants as bonds
+use Rattle.feature.proofs.Cases.{by-eq}
+use Rattle.feature.proofs.Bonds.{reverse-twice, same-code}
 use Rattle.builder.specs.Limits.{atomLimit, bondLimit}
 use Rattle.builder.specs.State.{unclosed}
 use Rattle.desk_state.specs.Standing.{also, sourceAt, entryKindAt, targetAt, bondsCounted, turnedOf, isOwn, isMatched, isPaired}
 use Rattle.desk_state.specs.Steps.{isOf, lastAt, Linked, bondKindCount, cellOf, HasCount, Sound, ownAt, outCell, backCell, moreOf, putOf, canTake, takeOf, valAt, CountedAfter, Taken, NoneCounted, BondsMatch}
-use Rattle.desk_state.proofs.Counts.{no, first, second}
-use Rattle.desk_state.proofs.Ends.{turned-code, reverse-twice, to-matched}
-use Rattle.desk_state.proofs.Grown.{by-eq, same-code}
+use Rattle.desk_state.proofs.Counts.{first, second}
+use Rattle.desk_state.proofs.Ends.{turned-code, to-matched}
 use Rattle.desk_state.proofs.Links.{last-le, last-same, last-is, word-source, of-closed, IsBond, adds, adds-one, adds-none, count-suc, count-zero, count-most, out-last, back-last}
 
 -- ---- cells
@@ -64,7 +65,7 @@ own-back a t k not = go (isOwn t (codeOf (reverseOf k)) a) refl where
   go : (q : Bool) → isOwn t (codeOf (reverseOf k)) a ≡ q → isOwn t (codeOf (reverseOf k)) a ≡ false
   go true is =
       let z = own-parts t a (reverseOf k) is in
-      absurd (no (sym not ∙ own-from a t k (sym (z .0)) (sym (z .1) ∙ reverse-twice k)))
+      absurd (false≢true (sym not ∙ own-from a t k (sym (z .0)) (sym (z .1) ∙ reverse-twice k)))
   go false is = is
 
 -- ---- entries that are not paired
@@ -374,7 +375,7 @@ module _ (e : List ℕ) (n a : ℕ) (d : List ℕ) (sound : Sound e n (length d)
       taken-own self =
           record {
             own = h .own;
-            other = λ u j w o. omega (arith, h .other u j w o, back-step u j p next, adds-none e u (codeOf (reverseOf j)) a i (λ b. no (sym o ∙ is-own u j b)));
+            other = λ u j w o. omega (arith, h .other u j w o, back-step u j p next, adds-none e u (codeOf (reverseOf j)) a i (λ b. false≢true (sym o ∙ is-own u j b)));
           }
         where
           is-own : (u : ℕ) (j : BondKind) → IsBond e u (codeOf (reverseOf j)) a i → isOwn a (codeOf j) u ≡ true
@@ -408,7 +409,7 @@ module _ (e : List ℕ) (n a : ℕ) (d : List ℕ) (sound : Sound e n (length d)
             record {
               own = λ u j w o. by-eq (cellOf u (codeOf j)) (backCell e i)
                   (λ q. let z = same-cell u s j (reverseOf c) (q ∙ place-is) in
-                  absurd (no (sym (other-own not) ∙ ap (λ (x : ℕ). isOwn a (codeOf (reverseOf c)) x) (sym (z .0)) ∙ ap (λ (x : BondKind). isOwn a (codeOf x) u) (sym (z .1)) ∙ o)))
+                  absurd (false≢true (sym (other-own not) ∙ ap (λ (x : ℕ). isOwn a (codeOf (reverseOf c)) x) (sym (z .0)) ∙ ap (λ (x : BondKind). isOwn a (codeOf x) u) (sym (z .1)) ∙ o)))
                   (λ q. less-else u j q ∙ h .own u j (in-less u w) o);
               other = λ u j w o. by-eq (cellOf u (codeOf j)) (backCell e i)
                   (λ q. let z = same-cell u s j (reverseOf c) (q ∙ place-is) in
@@ -421,7 +422,7 @@ module _ (e : List ℕ) (n a : ℕ) (d : List ℕ) (sound : Sound e n (length d)
       unfolding canTake takeOf
       taken-next can = go (ownAt e i) refl can where
         by-held : ownAt e i ≡ false → (q : Bool) → eqb (getD d (backCell e i) 0) 0 ≡ q → neither q ≡ true → Taken e n a p (pick q d (set d (backCell e i) (getD d (backCell e i) 0 - 1)))
-        by-held not true is z = absurd (no z)
+        by-held not true is z = absurd (false≢true z)
         by-held not false is z = taken-less not (eqb-false _ _ is)
 
         go : (q : Bool) → ownAt e i ≡ q → pick q true (neither (eqb (getD d (backCell e i) 0) 0)) ≡ true → Taken e n a p (pick q d (pick (eqb (getD d (backCell e i) 0) 0) d (set d (backCell e i) (getD d (backCell e i) 0 - 1))))
@@ -433,10 +434,10 @@ module _ (e : List ℕ) (n a : ℕ) (d : List ℕ) (sound : Sound e n (length d)
     cannot-take h can = go (ownAt e i) refl can where
       by-held : ownAt e i ≡ false → (q : Bool) → eqb (getD d (backCell e i) 0) 0 ≡ q → neither q ≡ false → every (isPaired e n) n ≡ false
       by-held not true is z = take-fails h not (eqb-true _ _ is)
-      by-held not false is z = absurd (no (sym z))
+      by-held not false is z = absurd (false≢true (sym z))
 
       go : (q : Bool) → ownAt e i ≡ q → pick q true (neither (eqb (getD d (backCell e i) 0) 0)) ≡ false → every (isPaired e n) n ≡ false
-      go true is z = absurd (no (sym z))
+      go true is z = absurd (false≢true (sym z))
       go false is z = by-held is (eqb (getD d (backCell e i) 0) 0) refl z
 
 -- ---- all atoms
@@ -459,7 +460,7 @@ all-good e n size sound good = every-all (isPaired e n) n (λ i l. paired i l (l
           (ap (λ (x : BondKind). bondsCounted e a (codeOf x) t n) (sym (z .1)) ∙ ap (λ (x : ℕ). bondsCounted e x (codeOf (reverseOf k)) t n) (z .0) ∙ ap (λ (x : ℕ). bondsCounted e t (codeOf (reverseOf k)) x n) (sym (z .0)))
           (λ y. g .own t k w o)
       by-own a t k w g false o =
-          to-matched (isOwn a (codeOf k) t) (bondsCounted e a (codeOf k) t n) (bondsCounted e t (codeOf (reverseOf k)) a n) (g .other t k w o) (λ y. absurd (no (sym o ∙ y)))
+          to-matched (isOwn a (codeOf k) t) (bondsCounted e a (codeOf k) t n) (bondsCounted e t (codeOf (reverseOf k)) a n) (g .other t k w o) (λ y. absurd (false≢true (sym o ∙ y)))
 
   paired : (i : ℕ) → i < n → (q : Bool) → ltb (targetAt e i) unclosed ≡ q → isPaired e n i ≡ true
   paired i l true is = paired-closed e n i (ltb-true _ _ is) (matched i l (ltb-true _ _ is))

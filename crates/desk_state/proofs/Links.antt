@@ -5,7 +5,7 @@ use Prim.Native.Nat.{ℕ, zero, suc, _+_, _*_, _<_, _≤_}
 use mathlib.Core.Path.{_≡_, refl, sym, ap, _∙_}
 use mathlib.Core.Logic.{_≢_}
 use mathlib.Core.List.{List}
-use mathlib.Core.Bool.{Bool, true, false}
+use mathlib.Core.Bool.{Bool, true, false, false≢true}
 use native.Mathlib.Omega.{arith}
 use native.Mathlib.Numerals.{add-one}
 use lib.ListN.{length, getD, set, length-set}
@@ -13,11 +13,11 @@ use lib.Seq.{getD-set-same, getD-set-other}
 use lib.Dec.{eqb, ltb}
 use borrow.Author.Tests.{eqb-true, eq-eqb, ne-eqb, ltb-true, ltb-false, lt-ltb, le-ltb}
 use Rattle.feature.specs.Pick.{pick}
+use Rattle.feature.proofs.Cases.{by-eq}
 use Rattle.builder.specs.State.{unclosed, entryWords}
 use Rattle.desk_state.specs.Standing.{sourceAt, entryKindAt, targetAt, isEntryTo, bondsCounted}
 use Rattle.desk_state.specs.Steps.{wordAt, isOf, lastAt, Linked, Loose, headWith, nextWith}
-use Rattle.desk_state.proofs.Counts.{no, first, second}
-use Rattle.desk_state.proofs.Grown.{by-eq}
+use Rattle.desk_state.proofs.Counts.{first, second}
 
 -- ---- the last of an atom
 module _ (e : List ℕ) (column a : ℕ) where
@@ -125,12 +125,12 @@ count-most e a k t (suc m) = go (isEntryTo e a k t m) refl (count-most e a k t m
 pub out-last : (e : List ℕ) (a k t m : ℕ) → t < unclosed → bondsCounted e a k t (lastAt e 0 a m) ≡ bondsCounted e a k t m
 out-last e a k t m l =
     count-last e 0 a (bondsCounted e a k t) (adds e a k t) (count-suc e a k t)
-    (λ i not. adds-none e a k t i (λ h. no (sym not ∙ to-of e 0 a i (omega (arith, l, h .target)) (word-source e i ∙ h .source)))) m
+    (λ i not. adds-none e a k t i (λ h. false≢true (sym not ∙ to-of e 0 a i (omega (arith, l, h .target)) (word-source e i ∙ h .source)))) m
 
 pub back-last : (e : List ℕ) (a k t m : ℕ) → a < unclosed → bondsCounted e t k a (lastAt e 2 a m) ≡ bondsCounted e t k a m
 back-last e a k t m l =
     count-last e 2 a (bondsCounted e t k a) (adds e t k a) (count-suc e t k a)
-    (λ i not. adds-none e t k a i (λ h. no (sym not ∙ to-of e 2 a i (omega (arith, l, h .target)) (h .target)))) m
+    (λ i not. adds-none e t k a i (λ h. false≢true (sym not ∙ to-of e 2 a i (omega (arith, l, h .target)) (h .target)))) m
 
 -- ---- one entry more in its chain
 more-is : (e : List ℕ) (column a m : ℕ) → isOf e column a m ≡ true → lastAt e column a (m + 1) ≡ m + 1

@@ -3,19 +3,18 @@ use Prim.Native.Nat.{ℕ, zero, suc, _+_, _*_, _-_, _<_, _≤_}
 use mathlib.Core.Path.{_≡_, refl, sym, ap, _∙_, subst}
 use mathlib.Core.Logic.{_≢_}
 use mathlib.Core.List.{List}
-use mathlib.Core.Bool.{Bool, true, false}
+use mathlib.Core.Bool.{Bool, true, false, false≢true}
 use native.Mathlib.Omega.{arith}
 use lib.ListN.{length, getD, set, replicate, length-replicate}
 use lib.Dec.{eqb}
 use borrow.Author.Tests.{eq-eqb, ne-eqb}
 use Rattle.feature.specs.Bonds.{kindOf, codeOf}
 use Rattle.feature.specs.Every.{every}
+use Rattle.feature.proofs.Cases.{by-eq}
 use Rattle.builder.specs.Limits.{atomLimit, bondLimit}
 use Rattle.builder.specs.State.{unclosed}
 use Rattle.desk_state.specs.Standing.{sourceAt, entryKindAt, targetAt, turnedOf, isOwn, isPaired}
 use Rattle.desk_state.specs.Steps.{wordAt, Linked, Loose, bondKindCount, cellOf, Sound, ownAt, outCell, backCell, moreOf, putOf, canTake, takeOf, CountedAfter, Taken, NoneCounted, BondsMatch, Judged, Between, ChainsReady}
-use Rattle.desk_state.proofs.Counts.{no}
-use Rattle.desk_state.proofs.Grown.{by-eq}
 use Rattle.desk_state.proofs.Links.{word-source}
 use Rattle.desk_state.proofs.Levels.{Stands, Level, entry-at, stands-next, put-fits, laid-next, taken-next, cannot-take, level-next, level-fails, good-from, all-good}
 
@@ -59,10 +58,10 @@ put-less e i d is-k is-t is-v h = rw (is-v, is-k, is-t) h
 
 -- ---- judgements
 pub says-no : {e : List ℕ} {n : ℕ} {X : Type 0} → every (isPaired e n) n ≡ false → Judged false e n X
-says-no h = record { bad = λ z. h; good = λ z. absurd (no z) }
+says-no h = record { bad = λ z. h; good = λ z. absurd (false≢true z) }
 
 pub says-yes : (e : List ℕ) (n : ℕ) {X : Type 0} → X → Judged true e n X
-says-yes e n x = record { bad = λ z. absurd (no (sym z)); good = λ z. x }
+says-yes e n x = record { bad = λ z. absurd (false≢true (sym z)); good = λ z. x }
 
 -- tables of one length
 pub sized : (e : List ℕ) (n : ℕ) {x y : ℕ} → y ≡ x → Sound e n x → Sound e n y

@@ -7,6 +7,7 @@ use native.Mathlib.Omega.{arith}
 use lib.ListN.{length, length-append, length-take, length-replicate}
 use lib.Dec.{eqb}
 use Rattle.feature.specs.Pick.{pick, both}
+use Rattle.feature.proofs.Cases.{both-second}
 use Rattle.writer.specs.declared.Writer.{Writer}
 use Rattle.writer.specs.declared.Wrote.{Wrote}
 use Rattle.writer.specs.declared.Wrote.the-variants as wrote
@@ -14,7 +15,6 @@ use Rattle.writer.specs.Line.{Event}
 use Rattle.writer.specs.Tables.{Spoken, spoken, eventOf, far}
 use Rattle.desk_writer.specs.declared.Said.the-variants as said
 use Rattle.desk_writer.specs.Pieces.{isWriter, clearedFrom, tailOf, wroteSaid, EventLeft, eventLeaves, toldLeaves, eventD}
-use Rattle.desk_pool.proofs.Both.{second}
 use Rattle.desk_writer.proofs.WriterKept as writer-kept
 use Rattle.desk_writer.proofs.Results.{one-answer}
 
@@ -49,5 +49,5 @@ pub said-again : (ok : Bool) (s : Spoken) (e : Event) (w : Writer) (out starts :
 unfolding eventD toldLeaves
 said-again ok s e w out starts d near = go (both ok (isWriter s)) refl d where
   go : (t : Bool) → both ok (isWriter s) ≡ t → eventLeaves (said.Held w) out starts ≡ pick t (toldLeaves (s .at) (eventOf s e)) (eventLeaves said.BadTable (s .out) (s .starts)) → isWriter (spoken w out starts) ≡ true
-  go true t f = held-again w out starts (eventOf s e .out) (eventOf s e .starts) s (eventOf s e .answer) (writer-kept.event-kept s e (second ok (isWriter s) t)) f near
+  go true t f = held-again w out starts (eventOf s e .out) (eventOf s e .starts) s (eventOf s e .answer) (writer-kept.event-kept s e (both-second ok (isWriter s) t)) f near
   go false t f = absurd (let y : said.Held w ≡ said.BadTable = one-answer f in let z : _≡_ {A = ℕ} 0 1 = cc in omega arith)

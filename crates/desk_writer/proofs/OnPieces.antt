@@ -12,14 +12,14 @@ use lib.Seq.{sets, length-sets, sets-eq, take-suc, take-add, take-take, take-at,
 use lib.Dec.{ltb, leb, eqb}
 use borrow.Author.Tests.{ltb-false, eqb-false}
 use Rattle.feature.specs.Pick.{pick}
-use Rattle.feature.proofs.Cases.{by-test}
+use Rattle.feature.proofs.Cases.{by-test, by-either}
 use Rattle.feature.proofs.Lists.{drop-zeros}
 use Rattle.desk_numbers.specs.Numbers as desk
 use Rattle.writer.specs.declared.Wrote.the-variants.{Held, AtomRoom, OutRoom, NoPiece, Overpop}
 use Rattle.writer.specs.Line.{Event, Root, Extend, Join, Pop, lineOf, writeEvent}
 use Rattle.writer.specs.Tables.{Spoken, spoken, writer, pieceRoom, bytesFrom, added, pieceT, lengthened, joinT, wrapT, popT, sayT, EventTold, toldWith, eventRefusing, fitting, eventOf}
 use Rattle.writer.specs.Pieces.{pieceStarts, Holds}
-use Rattle.writer.proofs.Pieces.{length-starts, holds-step, pick-both}
+use Rattle.writer.proofs.Pieces.{length-starts, holds-step}
 use Rattle.desk_writer.specs.declared.Said.the-variants as said
 use Rattle.desk_writer.specs.Pieces.{isWriter, wroteSaid, saidTold, writerWords, clearedFrom, tailOf, eventLeaves, toldLeaves, eventD}
 use Rattle.desk_writer.specs.OnPieces.{piecesTo, piecesIn, fitsIn, eventAnswer, groundOf, piecesAfter, OnPieces, EventOnward}
@@ -128,10 +128,10 @@ fit-came s n =
 
 came : (s : Spoken) (e : Event) → Came s (sayT s e) (eventOf s e)
 unfolding eventOf
-came s (Root k) = pick-both (Came s (sayT s (Root k))) (leb (pieceRoom (s .starts)) (s .at .pieces)) _ _ (full (s .at .pieces)) (fit-came s (sayT s (Root k)))
-came s (Extend b k) = pick-both (Came s (sayT s (Extend b k))) (leb (pieceRoom (s .starts)) (s .at .pieces)) _ _ (full (s .at .pieces)) (fit-came s (sayT s (Extend b k)))
-came s (Join b n) = pick-both (Came s (sayT s (Join b n))) (eqb (s .at .pieces) 0) _ _ bare (fit-came s (sayT s (Join b n)))
-came s (Pop d) = pick-both (Came s (sayT s (Pop d))) (leb (s .at .pieces) d) _ _ over (fit-came s (sayT s (Pop d)))
+came s (Root k) = by-either (Came s (sayT s (Root k))) (leb (pieceRoom (s .starts)) (s .at .pieces)) (full (s .at .pieces)) (fit-came s (sayT s (Root k)))
+came s (Extend b k) = by-either (Came s (sayT s (Extend b k))) (leb (pieceRoom (s .starts)) (s .at .pieces)) (full (s .at .pieces)) (fit-came s (sayT s (Extend b k)))
+came s (Join b n) = by-either (Came s (sayT s (Join b n))) (eqb (s .at .pieces) 0) bare (fit-came s (sayT s (Join b n)))
+came s (Pop d) = by-either (Came s (sayT s (Pop d))) (leb (s .at .pieces) d) over (fit-came s (sayT s (Pop d)))
 
 -- ---- the output of an event that is held
 -- a line laid over an output and zeros after it are the line laid over zeros
@@ -191,10 +191,10 @@ on-pieces s e w =
 -- ---- the bytes after the line
 say-longer : (s : Spoken) (e : Event) → s .at .len ≤ sayT s e .at .len
 unfolding sayT pieceT added joinT lengthened popT wrapT
-say-longer s (Root k) = pick-both (λ (z : Spoken). s .at .len ≤ z .at .len) (leb (pieceRoom (s .starts)) (s .at .pieces)) _ _ (omega arith) (omega arith)
-say-longer s (Extend b k) = pick-both (λ (z : Spoken). s .at .len ≤ z .at .len) (leb (pieceRoom (s .starts)) (s .at .pieces)) _ _ (omega arith) (omega arith)
-say-longer s (Join b n) = pick-both (λ (z : Spoken). s .at .len ≤ z .at .len) (eqb (s .at .pieces) 0) _ _ (omega arith) (omega arith)
-say-longer s (Pop d) = pick-both (λ (z : Spoken). s .at .len ≤ z .at .len) (leb (s .at .pieces) d) _ _ (omega arith) (omega arith)
+say-longer s (Root k) = by-either (λ (z : Spoken). s .at .len ≤ z .at .len) (leb (pieceRoom (s .starts)) (s .at .pieces)) (omega arith) (omega arith)
+say-longer s (Extend b k) = by-either (λ (z : Spoken). s .at .len ≤ z .at .len) (leb (pieceRoom (s .starts)) (s .at .pieces)) (omega arith) (omega arith)
+say-longer s (Join b n) = by-either (λ (z : Spoken). s .at .len ≤ z .at .len) (eqb (s .at .pieces) 0) (omega arith) (omega arith)
+say-longer s (Pop d) = by-either (λ (z : Spoken). s .at .len ≤ z .at .len) (leb (s .at .pieces) d) (omega arith) (omega arith)
 
 -- what follows a line that is laid over an output which is zeros from a place within it on
 rest-zeros : (g x : List ℕ) (n : ℕ) → n ≤ length x → length x ≤ length g → drop n g ≡ replicate (length g - n) 0 → drop (length x) (sets g 0 x) ≡ replicate (length (sets g 0 x) - length x) 0

@@ -10,6 +10,7 @@ use lib.Seq.{drop-cons, set-at}
 use lib.Dec.{eqb, ltb, leb}
 use borrow.Author.Tests.{eq-eqb, ne-eqb, ltb-true, leb-true}
 use Rattle.feature.specs.Pick.{pick}
+use Rattle.feature.proofs.Cases.{both-first, both-second}
 use Rattle.builder.specs.Limits.{atomLimit, lesserOf}
 use Rattle.writer.specs.declared.Writer.{Writer}
 use Rattle.writer.specs.declared.Wrote.{Wrote}
@@ -20,7 +21,6 @@ use Rattle.writer.specs.Steps.{LineNear}
 use Rattle.desk_writer.specs.declared.Said.{Said}
 use Rattle.desk_writer.specs.declared.Said.the-variants as said
 use Rattle.desk_writer.specs.Pieces.{isWriter, clearedFrom, tailOf, wroteSaid, eventLeaves, toldLeaves, eventD}
-use Rattle.desk_pool.proofs.Both.{first, second}
 
 room-most : (starts : List ℕ) → pieceRoom starts ≤ atomLimit
 unfolding pieceRoom lesserOf
@@ -33,12 +33,12 @@ room-most starts = go (ltb (length starts) atomLimit) refl where
 pub near : (s : Spoken) → isWriter s ≡ true → LineNear (s .at)
 unfolding isWriter
 near s h1 =
-    let h2 = second (leb (s .at .pieces) (pieceRoom (s .starts))) _ h1 in
-    let h3 = second (leb (s .at .len) (length (s .out))) _ h2 in
-    let p = leb-true (s .at .pieces) (pieceRoom (s .starts)) (first (leb (s .at .pieces) (pieceRoom (s .starts))) _ h1) in
+    let h2 = both-second (leb (s .at .pieces) (pieceRoom (s .starts))) _ h1 in
+    let h3 = both-second (leb (s .at .len) (length (s .out))) _ h2 in
+    let p = leb-true (s .at .pieces) (pieceRoom (s .starts)) (both-first (leb (s .at .pieces) (pieceRoom (s .starts))) _ h1) in
     record {
       pieces = omega (arith, p, room-most (s .starts));
-      len = ltb-true (s .at .len) far (first (ltb (s .at .len) far) _ h3);
+      len = ltb-true (s .at .len) far (both-first (ltb (s .at .len) far) _ h3);
     }
 
 module _ (s : Spoken) (e : Event) where

@@ -21,8 +21,7 @@ use Rattle.writer.specs.Tables.{Spoken, spoken, writer, pieceRoom, added, piece
 use Rattle.feature.specs.Every.{every}
 use Rattle.desk_writer.specs.Pieces.{pieceEnd, isPiece, piecesStand, isWriter}
 use Rattle.feature.proofs.Every.{every-at, every-all}
-use Rattle.feature.proofs.Cases.{by-test}
-use Rattle.desk_pool.proofs.Both.{first, second, join}
+use Rattle.feature.proofs.Cases.{by-test, both-first, both-second, both-pass}
 
 above : {n : ℕ} → (n ≡ 0 → ⊥) → 0 < n
 above {n} e = go (ltb 0 n) refl where
@@ -59,8 +58,8 @@ laid starts w h = go (eqb (w .pieces) 0) refl h where
   go false q k =
       record {
         none = λ z. absurd (eqb-false (w .pieces) 0 q z);
-        nought = λ z. eqb-true (getD starts 0 0) 0 (first (eqb (getD starts 0 0) 0) _ k);
-        each = λ (i : ℕ) (l : i < w .pieces). leb-true (getD starts i 0) (pieceEnd starts w i) (every-at (isPiece starts w) (w .pieces) i (second (eqb (getD starts 0 0) 0) _ k) l);
+        nought = λ z. eqb-true (getD starts 0 0) 0 (both-first (eqb (getD starts 0 0) 0) _ k);
+        each = λ (i : ℕ) (l : i < w .pieces). leb-true (getD starts i 0) (pieceEnd starts w i) (every-at (isPiece starts w) (w .pieces) i (both-second (eqb (getD starts 0 0) 0) _ k) l);
       }
 
 lies : (starts : List ℕ) (w : Writer) → Laid starts w → piecesStand starts w ≡ true
@@ -68,7 +67,7 @@ unfolding piecesStand isPiece
 lies starts w h =
     by-test (λ (z : Bool). z ≡ true) (eqb (w .pieces) 0) {x = eqb (w .len) 0} {y = both (eqb (getD starts 0 0) 0) (every (isPiece starts w) (w .pieces))}
     (λ q. eq-eqb (w .len) 0 (h .none (eqb-true (w .pieces) 0 q)))
-    (λ q. join (eq-eqb (getD starts 0 0) 0 (h .nought (above (eqb-false (w .pieces) 0 q)))) (every-all (isPiece starts w) (w .pieces) (λ (i : ℕ) (l : i < w .pieces). le-leb (getD starts i 0) (pieceEnd starts w i) (h .each i l))))
+    (λ q. both-pass (eq-eqb (getD starts 0 0) 0 (h .nought (above (eqb-false (w .pieces) 0 q)))) (every-all (isPiece starts w) (w .pieces) (λ (i : ℕ) (l : i < w .pieces). le-leb (getD starts i 0) (pieceEnd starts w i) (h .each i l))))
 
 -- a piece starts within the line
 within : (starts : List ℕ) (w : Writer) → Laid starts w → (k i : ℕ) → i + k + 1 ≡ w .pieces → getD starts i 0 ≤ w .len
@@ -196,21 +195,21 @@ pub record Writes (s : Spoken) : Type 0 where
 pub facts : (s : Spoken) → isWriter s ≡ true → Writes s
 unfolding isWriter
 facts s h1 =
-    let h2 = second (leb (s .at .pieces) (pieceRoom (s .starts))) _ h1 in
-    let h3 = second (leb (s .at .len) (length (s .out))) _ h2 in
+    let h2 = both-second (leb (s .at .pieces) (pieceRoom (s .starts))) _ h1 in
+    let h3 = both-second (leb (s .at .len) (length (s .out))) _ h2 in
     record {
-      pieces = leb-true _ _ (first (leb (s .at .pieces) (pieceRoom (s .starts))) _ h1);
-      line = leb-true _ _ (first (leb (s .at .len) (length (s .out))) _ h2);
-      near = ltb-true _ _ (first (ltb (s .at .len) far) _ h3);
-      laid = laid (s .starts) (s .at) (second (ltb (s .at .len) far) _ h3);
+      pieces = leb-true _ _ (both-first (leb (s .at .pieces) (pieceRoom (s .starts))) _ h1);
+      line = leb-true _ _ (both-first (leb (s .at .len) (length (s .out))) _ h2);
+      near = ltb-true _ _ (both-first (ltb (s .at .len) far) _ h3);
+      laid = laid (s .starts) (s .at) (both-second (ltb (s .at .len) far) _ h3);
     }
 
 pub stands : (s : Spoken) → Writes s → isWriter s ≡ true
 unfolding isWriter
 stands s h =
-    join (le-leb _ _ (h .pieces))
-    (join (le-leb _ _ (h .line))
-    (join (lt-ltb _ _ (h .near))
+    both-pass (le-leb _ _ (h .pieces))
+    (both-pass (le-leb _ _ (h .line))
+    (both-pass (lt-ltb _ _ (h .near))
     (lies (s .starts) (s .at) (h .laid))))
 
 -- ---- what an event leaves

@@ -5,7 +5,7 @@ use Prim.Native.Nat.{ℕ, _+_, _<_, _≤_}
 use mathlib.Core.Path.{_≡_, refl, sym, ap, _∙_}
 use mathlib.Core.Logic.{_≢_}
 use mathlib.Core.List.{List, [], _∷_}
-use mathlib.Core.Bool.{Bool, true, false}
+use mathlib.Core.Bool.{Bool, true, false, false≢true}
 use native.Mathlib.Omega.{arith}
 use lib.ListN.{length, getD, set}
 use lib.Seq.{sets}
@@ -46,9 +46,6 @@ use Rattle.desk_report.proofs.Again.{builder-again}
 use Rattle.export.specs.Given.{onAtom, onBond, onBuilder}
 use Rattle.export.specs.Events.{BuilderCells, cellsOfBuilder, over, builderKept, builderAfter, builderUnheard, builderEvent, startX, builderRootX, builderExtendX, builderJoinX, builderPopX}
 
-no : false ≡ true → ⊥
-no e = let z : _≡_ {A = ℕ} 0 1 = cc in omega arith
-
 -- ---- what an event changes
 -- a refused one nothing but the refusal, and none that has seen no failure the atoms of one
 record Tame (b x : Bld) : Type 0 where
@@ -82,7 +79,7 @@ module _ (b : Bld) where
   tame-closed : (n place : ℕ) (q : Reconciled) → Tame b (closedBy (anew b) n place q)
   unfolding closedBy refuse failedSt anew
   tame-closed n place Fails =
-      by-test (λ (s : Builder). Tame b (bld (b .atoms) (b .entries) (b .path) (set (b .rings) n 0) s)) (b .st .failed) (λ t. record { same = λ z. absurd (z refl); kept = λ z. absurd (no (sym z)) }) (λ t. record { same = λ z. absurd (z refl); kept = λ z. absurd (no (sym z)) })
+      by-test (λ (s : Builder). Tame b (bld (b .atoms) (b .entries) (b .path) (set (b .rings) n 0) s)) (b .st .failed) (λ t. record { same = λ z. absurd (z refl); kept = λ z. absurd (false≢true (sym z)) }) (λ t. record { same = λ z. absurd (z refl); kept = λ z. absurd (false≢true (sym z)) })
   tame-closed n place (Both l r) =
       by-test (Tame b) (ltb (b .st .slots) (b .st .entries + 1)) (λ t. record { same = λ z. (_, _, refl); kept = λ z. (refl, refl) }) (λ t. record { same = λ z. absurd (z refl); kept = λ z. (refl, refl) })
 

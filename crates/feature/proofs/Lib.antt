@@ -5,3 +5,4 @@ pub mod Ranges
 pub mod Lists
 pub mod Cases
 pub mod Every
+pub mod Bonds

@@ -12,7 +12,7 @@ use Rattle.feature.specs.Pick.{both, either}
 use Rattle.feature.specs.Text.{letterStep}
 use Rattle.feature.specs.Names.{symbols, names, placeOf, begins}
 use Rattle.feature.specs.Steps.{Begun, Ranked}
-use Rattle.feature.proofs.Table.{at, every, both-left, both-right, rising}
+use Rattle.feature.proofs.Table.{at, both-left, both-right, rising, everyEntry}
 
 pub names-length : length names ≡ symbols
 unfolding names
@@ -138,7 +138,7 @@ no-byte a l = sym (begins-none a names (λ j h d. omega (arith, first-byte j (om
 unfoldable pub isBefore : ℕ → ℕ → ℕ → ℕ → Bool
 isBefore byte r j x = either (leb r j) (ltb x (byte * letterStep))
 
-pub begun-at : (byte r : ℕ) → T (leb r symbols) → T (every (isBefore byte r) 0 names) → Begun byte r
+pub begun-at : (byte r : ℕ) → T (leb r symbols) → T (everyEntry (isBefore byte r) 0 names) → Begun byte r
 unfolding isBefore
 begun-at byte r small test = record {
   small = leb→le r symbols small;

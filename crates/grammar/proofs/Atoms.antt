@@ -3,7 +3,7 @@ use Prim.Native.Nat.{ℕ, zero, suc, _+_, _*_, _<_, _≤_}
 use mathlib.Core.Path.{_≡_, refl, sym, ap, _∙_, subst}
 use mathlib.Core.List.{List, [], _∷_}
 use mathlib.Core.Option.{Option, none, some}
-use mathlib.Core.Bool.{Bool, true, false}
+use mathlib.Core.Bool.{Bool, true, false, false≢true}
 use native.Mathlib.Omega.{arith}
 use lib.Dec.{T, eqb, ltb, leb, leb→le}
 use borrow.Author.Tests.{eqb-true, eqb-false, eq-eqb, ne-eqb, ltb-false, lt-ltb, le-ltb, leb-true, leb-false, le-leb, lt-leb}
@@ -29,6 +29,7 @@ use Rattle.grammar.proofs.Sound.{digit-is}
 use Rattle.feature.specs.Names.{placeOf}
 use Rattle.feature.specs.Names as feature
 use Rattle.feature.specs.Text.{oneLetter, twoLetters}
+use Rattle.feature.proofs.Cases.{true-of}
 use Rattle.grammar.proofs.Table.{name-undigit, has1-leads, has2-leads, test-not}
 use Rattle.grammar.proofs.Symbols.{two-in, one-in, begins-in, no-end}
 use Rattle.grammar.proofs.Late.{latePart, lateClass}
@@ -124,9 +125,6 @@ digit-unclose x q m d8 = refl
 digit-unclose x q m d9 = refl
 
 -- ---- the number of a charge
-false-true : {P : Type 0} → false ≡ true → P
-false-true e = let z : _≡_ {A = ℕ} 0 1 = cc in absurd (omega arith)
-
 abbrev okayV : Digit → ℕ → Bool
 okayV d v = pick (eqb (value d) 1) (pick (leb 1 v) (leb v 5) false) false
 
@@ -156,7 +154,7 @@ module _ (s : List ℕ) (n : ℕ) where
       by false false e f =
           let m : leb 1 v ≡ true = le-leb 1 v (positive v e) in
           let l : leb v 5 ≡ true = le-leb v 5 (ltb-false 5 v f) in
-          false-true (sym h ∙ rw (m, l))
+          absurd (false≢true (sym h ∙ rw (m, l)))
 
   fifteen-one : (d : Digit) (v : ℕ) → T (okay1 d) → digitAt s n ≡ value d → digitAt s (n + 1) ≡ v → okayV d v ≡ false → fifteenAt s n ≡ part (value d) (n + 1)
   unfolding fifteenAt value okay1
@@ -640,10 +638,6 @@ peek-small : (s : List ℕ) (n : ℕ) (bs : List ℕ) → Here s n bs → peekAt
 peek-small s n [] e = rw (here-end e) (omega arith)
 peek-small s n (b ∷ bs) e = rw (here-byte e) (omega (arith, here-small e))
 
-truth : (t : Bool) → T t → t ≡ true
-truth true p = refl
-truth false p = absurd p
-
 untrue : (t u : Bool) → (T t → T u) → u ≡ false → t ≡ false
 untrue true true f e = e
 untrue true false f e = absurd (f tt)
@@ -655,7 +649,7 @@ module _ (s : List ℕ) (i : Isotope) where
 
   lead-run : (a : ℕ) (p : T (leads a symbolNames)) (n : ℕ) (bs : List ℕ) → a < 256 → Here s (n + 1) bs → symboled (symbolOf a (peekAt s (n + 1)) n) ≡ partRun (lead i a p) (n + 1) bs
   unfolding partRun partStep partEnd stopped latePart lacked symbolOf afterSymbol
-  lead-run a p n [] small e = rw (here-end e, ne-eqb a 256 (λ z. omega arith), two-in a 256 (omega arith), no-end a, one-in a, begins-in a, truth (leads a symbolNames) p)
+  lead-run a p n [] small e = rw (here-end e, ne-eqb a 256 (λ z. omega arith), two-in a 256 (omega arith), no-end a, one-in a, begins-in a, true-of (leads a symbolNames) p)
       (by (has1 a symbolNames) refl)
     where
       by : (t : Bool) → has1 a symbolNames ≡ t → symboled (pick t (Got (placeOf (oneLetter (scan.slip a)) feature.names) (n + 1)) (Stop (n + 1))) ≡ Lacks EndOfLine
@@ -665,11 +659,11 @@ module _ (s : List ℕ) (i : Isotope) where
           chiral-nil-by q = unfold scan.slip symbolK in chiral-nil s i (short a q) (n + 1) e
       by false h = rw (here-missing e)
   lead-run a p n (x ∷ bs) small e =
-      rw (here-byte e, ne-eqb a 256 (λ z. omega arith), two-in a x (omega (arith, here-small e)), one-in a, begins-in a, truth (leads a symbolNames) p)
+      rw (here-byte e, ne-eqb a 256 (λ z. omega arith), two-in a x (omega (arith, here-small e)), one-in a, begins-in a, true-of (leads a symbolNames) p)
       (either-way (λ (o : Option Part). symboled (two-way (has2 a x symbolNames)) ≡ stepped o (n + 1) bs) (has2 a x symbolNames) _ _
-      (λ q. rw (truth (has2 a x symbolNames) q, two-up n) (unfold symbolK in symbol-run s i (long a x q) (n + 1 + 1) bs (here-next e)))
+      (λ q. rw (true-of (has2 a x symbolNames) q, two-up n) (unfold symbolK in symbol-run s i (long a x q) (n + 1 + 1) bs (here-next e)))
       (λ z. rw z (either-way (λ (o : Option Part). symboled (one-way (has1 a symbolNames)) ≡ stepped o (n + 1) bs) (has1 a symbolNames) _ _
-      (λ q. rw (truth (has1 a symbolNames) q) (unfold scan.slip symbolK in chiral-byte s i (short a q) (n + 1) x bs e))
+      (λ q. rw (true-of (has1 a symbolNames) q) (unfold scan.slip symbolK in chiral-byte s i (short a q) (n + 1) x bs e))
       (λ z. rw (z, here-character e)))))
     where
       one-way : Bool → Step

@@ -1,6 +1,6 @@
 -- What stands at a place of a text, as the rest of the text from there on. Assumes nothing.
 use Prim.Native.Nat.{ℕ, _+_, _<_}
-use mathlib.Core.Path.{_≡_, refl, sym, ap, _∙_}
+use mathlib.Core.Path.{_≡_, sym, ap, _∙_}
 use mathlib.Core.List.{List, [], _∷_}
 use mathlib.Core.Option.{Option, none, some}
 use mathlib.Core.Bool.{Bool, true, false}
@@ -10,11 +10,9 @@ use lib.ListN.{length, drop, getD, length-drop, replicate, List·getD-eq-default
 use lib.Seq.{getD-drop, drop-drop}
 use lib.Dec.{T, eqb, ltb, eqb→eq}
 use borrow.Author.Tests.{lt-ltb, le-ltb}
-use Rattle.feature.specs.Bonds.{codeOf, kindOf}
-use Rattle.feature.specs.declared.bond_kind.BondKind.{BondKind}
-use Rattle.feature.specs.declared.bond_kind.BondKind.the-variants as kind
-use Rattle.feature.specs.declared.bond_kind.Coded.the-variants.{Kind}
-use Rattle.feature.proofs.Table.{at, every}
+use Rattle.feature.specs.Bonds.{codeOf}
+use Rattle.feature.proofs.Table.{at, everyEntry}
+use Rattle.feature.proofs.Bonds.{same-code}
 use Rattle.read_token.specs.Scan.{peekAt, missingAt}
 use Rattle.read_token.specs.Scan as scan
 use Rattle.read_token.specs.declared.scanner.Missing.the-variants.{EndOfLine, Character}
@@ -65,7 +63,7 @@ module _ {s : List ℕ} {n b : ℕ} {bs : List ℕ} where
   here-next h = record { is = drop-add n s ∙ ap (λ (l : List ℕ). drop 1 l) (h .is); small = h .small .1 }
 
 -- ---- what holds of each byte, by one test over all of them
-pub each : (f : ℕ → Bool) → T (every (λ k x. f k) 0 (replicate 256 0)) → (b : ℕ) → b < 256 → T (f b)
+pub each : (f : ℕ → Bool) → T (everyEntry (λ k x. f k) 0 (replicate 256 0)) → (b : ℕ) → b < 256 → T (f b)
 each f t b h = at (λ k x. f k) (replicate 256 0) t b h
 
 -- what a digit is worth, and 10 where there is none
@@ -80,23 +78,9 @@ pub digit-worth : (b : ℕ) → b < 256 → scan.digitOf b ≡ worthOf (digitOf 
 unfolding digit-right digitOf worthOf value scan.digitOf
 digit-worth b h = eqb→eq _ _ (each digit-right tt b h)
 
-kind-back : (k : BondKind) → kindOf (codeOf k) ≡ Kind k
-unfolding kindOf codeOf
-kind-back kind.Elided = refl
-kind-back kind.Single = refl
-kind-back kind.Double = refl
-kind-back kind.Triple = refl
-kind-back kind.Quadruple = refl
-kind-back kind.Aromatic = refl
-kind-back kind.Up = refl
-kind-back kind.Down = refl
-
-same-kind : (j k : BondKind) → codeOf j ≡ codeOf k → j ≡ k
-same-kind j k e = let f : Kind j ≡ Kind k = sym (kind-back j) ∙ ap kindOf e ∙ kind-back k in cc
-
 bond-right : ℕ → Bool
 bond-right b = eqb (codeOf (scan.signKind b)) (codeOf (bond?K (bondOf b)))
 
 pub bond-worth : (b : ℕ) → b < 256 → scan.signKind b ≡ bond?K (bondOf b)
 unfolding bond-right bondOf bond?K bondK scan.signKind codeOf
-bond-worth b h = same-kind _ _ (eqb→eq _ _ (each bond-right tt b h))
+bond-worth b h = same-code _ _ (eqb→eq _ _ (each bond-right tt b h))

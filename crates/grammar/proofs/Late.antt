@@ -6,6 +6,7 @@ use mathlib.Core.Bool.{Bool, true, false}
 use Prim.Native.Nat.{ℕ}
 use native.Mathlib.Omega.{arith}
 use Rattle.feature.specs.Text.{byte}
+use Rattle.feature.proofs.Cases.{clash}
 use Rattle.grammar.specs.Names.{has1, has2}
 use Rattle.grammar.specs.Grammar.{known, organics, symbolNames, Symbol, Isotope, at, Class, TH, AL, SP, TB, OH, class1, class2, plus, minus, signS, Atom, elided, bond, dot, symbolS, isotopeS, chiralS, hcountS}
 use Rattle.grammar.proofs.Machine.{leads, digitOf, bondOf, Part, bare, whole, isotope, lead, symbol, chiral1, chiral2, family, class, coded1, coded2, famOf, classOf, hcount, hcountN, signed, doubled, charge1, charge2, colon, map1, map2, map3, signOf, toMap, toCharge, closed, begins, toClose, toHcount, toChiral, toSymbol, partStep, partEnd, top, inside, Where, begin, after, State, want, inAtom, body, percent, percent1, fromPart, bodyStep, wantStep, atomStep, step}
@@ -63,45 +64,42 @@ late-class SP w e = let z : _≡_ {A = ℕ} 0 1 = cc in absurd (omega arith)
 late-class TB w e = afterTB w refl
 late-class OH w e = afterOH w refl
 
-false-late : {P : Type 0} → false ≡ true → P
-false-late e = let z : _≡_ {A = ℕ} 0 1 = cc in absurd (omega arith)
-
 class-text : (w : Where) (i : Isotope) (s : Symbol) (k : Class) → whereS w ++ partS (class i s k) ≡ (whereS w ++ ((byte "[") ∷ (isotopeS i ++ symbolS s))) ++ ((byte "@") ∷ class1 k ∷ class2 k ∷ [])
 unfolding partS opened chiralS hcountS
 class-text w i s k = simp append-assoc
 
 late-part : (w : Where) (q : Part) → latePart q ≡ true → Eaten (whereS w ++ partS q)
 unfolding latePart
-late-part w (bare a p) e = false-late e
-late-part w (whole s) e = false-late e
-late-part w (isotope i) e = false-late e
-late-part w (lead i a p) e = false-late e
-late-part w (symbol i s) e = false-late e
-late-part w (chiral1 i s) e = false-late e
-late-part w (chiral2 i s) e = false-late e
-late-part w (family i s k) e = false-late e
+late-part w (bare a p) e = clash e refl
+late-part w (whole s) e = clash e refl
+late-part w (isotope i) e = clash e refl
+late-part w (lead i a p) e = clash e refl
+late-part w (symbol i s) e = clash e refl
+late-part w (chiral1 i s) e = clash e refl
+late-part w (chiral2 i s) e = clash e refl
+late-part w (family i s k) e = clash e refl
 late-part w (class i s k) e = rw class-text (late-class k (whereS w ++ ((byte "[") ∷ (isotopeS i ++ symbolS s))) e)
-late-part w (coded1 i s k d p) e = false-late e
-late-part w (coded2 i s k d f p) e = false-late e
-late-part w (hcount i s c) e = false-late e
-late-part w (hcountN i s c d) e = false-late e
-late-part w (signed x g) e = false-late e
-late-part w (doubled x g) e = false-late e
-late-part w (charge1 x g d p) e = false-late e
-late-part w (charge2 x g d f p) e = false-late e
-late-part w (colon x q) e = false-late e
-late-part w (map1 x q a) e = false-late e
-late-part w (map2 x q a b) e = false-late e
-late-part w (map3 x q a b c) e = false-late e
-late-part w (closed x q m) e = false-late e
+late-part w (coded1 i s k d p) e = clash e refl
+late-part w (coded2 i s k d f p) e = clash e refl
+late-part w (hcount i s c) e = clash e refl
+late-part w (hcountN i s c d) e = clash e refl
+late-part w (signed x g) e = clash e refl
+late-part w (doubled x g) e = clash e refl
+late-part w (charge1 x g d p) e = clash e refl
+late-part w (charge2 x g d f p) e = clash e refl
+late-part w (colon x q) e = clash e refl
+late-part w (map1 x q a) e = clash e refl
+late-part w (map2 x q a b) e = clash e refl
+late-part w (map3 x q a b c) e = clash e refl
+late-part w (closed x q m) e = clash e refl
 
 pub late-text : (s : State) → late s ≡ true → Eaten (sofar s)
 unfolding late sofar
-late-text (want w) e = false-late e
+late-text (want w) e = clash e refl
 late-text (inAtom w q) e = late-part w q e
-late-text (body k c) e = false-late e
-late-text (percent k c x) e = false-late e
-late-text (percent1 k c x d) e = false-late e
+late-text (body k c) e = clash e refl
+late-text (percent k c x) e = clash e refl
+late-text (percent1 k c x d) e = clash e refl
 
 -- ---- and a text that ends so has led to a late state
 AtPart : Part → Type 0
@@ -201,14 +199,14 @@ late-two (inAtom w (whole s)) a k l v e = absurd a
 late-two (inAtom w (isotope i)) a k l v e = absurd a
 late-two (inAtom w (lead i x p)) a k l v e = absurd a
 late-two (inAtom w (symbol i s)) a k l v e = absurd a
-late-two (inAtom w (chiral1 i s)) a TH l v e = false-late l
-late-two (inAtom w (chiral1 i s)) a AL l v e = false-late l
-late-two (inAtom w (chiral1 i s)) a SP l v e = false-late l
+late-two (inAtom w (chiral1 i s)) a TH l v e = clash l refl
+late-two (inAtom w (chiral1 i s)) a AL l v e = clash l refl
+late-two (inAtom w (chiral1 i s)) a SP l v e = clash l refl
 late-two (inAtom w (chiral1 i s)) a TB l v e = let g : inAtom w (class i s TB) ≡ v = cc in rw (← g)
 late-two (inAtom w (chiral1 i s)) a OH l v e = let g : inAtom w (class i s OH) ≡ v = cc in rw (← g)
-late-two (inAtom w (chiral2 i s)) a TH l v e = false-late l
-late-two (inAtom w (chiral2 i s)) a AL l v e = false-late l
-late-two (inAtom w (chiral2 i s)) a SP l v e = false-late l
+late-two (inAtom w (chiral2 i s)) a TH l v e = clash l refl
+late-two (inAtom w (chiral2 i s)) a AL l v e = clash l refl
+late-two (inAtom w (chiral2 i s)) a SP l v e = clash l refl
 late-two (inAtom w (chiral2 i s)) a TB l v e = let z : _≡_ {A = ℕ} 0 1 = cc in absurd (omega arith)
 late-two (inAtom w (chiral2 i s)) a OH l v e = let z : _≡_ {A = ℕ} 0 1 = cc in absurd (omega arith)
 late-two (inAtom w (family i s f)) a k l v e = absurd a

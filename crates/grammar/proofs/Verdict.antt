@@ -10,6 +10,7 @@ use lib.ListN.{length, length-append}
 use lib.Dec.{ltb}
 use borrow.Author.Tests.{ltb-true, lt-ltb}
 use Rattle.feature.specs.Pick.{pick, both}
+use Rattle.feature.proofs.Cases.{both-true, clash}
 use Rattle.read_token.specs.declared.scanner.Missing.{Missing}
 use Rattle.read_token.specs.declared.scanner.Missing.the-variants.{EndOfLine, Character}
 use Rattle.builder.specs.Limits.{branchLimit}
@@ -55,13 +56,6 @@ unfolding lacked lateMissing
 late-is n [] = refl
 late-is n (b ∷ bs) = refl
 
-yes-both : (t u : Bool) → both t u ≡ true → (t ≡ true) × (u ≡ true)
-yes-both true u e = (refl, e)
-yes-both false u e = let z : _≡_ {A = ℕ} 0 1 = cc in absurd (omega arith)
-
-clash : {P : Type 0} (t : Bool) → t ≡ true → t ≡ false → P
-clash t e f = let z : _≡_ {A = ℕ} 0 1 = cc in absurd (omega arith)
-
 -- where the machine has gone too deep no line is within the limit
 deep-trees : (p : List ℕ) (b : ℕ) (t : State) → steps zero-state (p ++ (b ∷ [])) ≡ some t → deep t ≡ true → (v : Line) (w : List ℕ) → spell v ≡ p ++ (b ∷ w) → ¬ Fits branchLimit v
 deep-trees p b t e d v w g h =
@@ -86,9 +80,9 @@ verdict-go (b ∷ bs) p u n e h q = by (step u b) refl (λ t f. verdict-go bs (p
     refused f = record { before = p; byte = b; behind = bs; is = refl; place = q; alive = through-viable p u e; dead = stuck-dead p b u e f }
 
     judged : (f : step u b ≡ none) (x : Bool) → both (late u) (ltb b 128) ≡ x → Verdict (p ++ (b ∷ bs)) (told u ++ (Miss (lacked x n bs) ∷ []))
-    judged f true g = let c = yes-both (late u) (ltb b 128) g in
+    judged f true g = let c = both-true (late u) (ltb b 128) g in
         refusesLate n (told u) (refused f) (ap (λ (m : Missing). told u ++ (Miss m ∷ [])) (late-is n bs)) (unfold Late in (subst Eaten (reached p u e) (late-text u (c .0)), ltb-true b 128 (c .1)))
-    judged f false g = refuses n (told u) (unfold lacked in refl) (refused f) (unfold Late in λ z. clash (both (late u) (ltb b 128)) (rw (eaten-late p u e (z .0)) (lt-ltb b 128 (z .1))) g)
+    judged f false g = refuses n (told u) (unfold lacked in refl) (refused f) (unfold Late in λ z. clash (rw (eaten-late p u e (z .0)) (lt-ltb b 128 (z .1))) g)
 
     by : (o : Option State) → step u b ≡ o
         → ((t : State) → step u b ≡ some t → steps zero-state (p ++ (b ∷ [])) ≡ some t → Fit t → length (p ++ (b ∷ [])) ≡ n + 1 → Verdict ((p ++ (b ∷ [])) ++ bs) (full t (n + 1) bs))

@@ -23,6 +23,7 @@ use Rattle.feature.specs.declared.bond_kind.BondKind.the-variants as bonds
 use Rattle.feature.specs.declared.bond_kind.Coded.{Coded}
 use Rattle.feature.specs.declared.bond_kind.Coded.the-variants as coded
 use Rattle.feature.proofs.Ranges.{good, ranged}
+use Rattle.feature.proofs.Bonds.{kind-back}
 use Rattle.packing.specs.declared.Loaded.{Loaded}
 use Rattle.packing.specs.declared.Loaded.the-variants.{Held, Bad}
 use Rattle.packing.specs.declared.Entry.the-variants as entry
@@ -174,15 +175,8 @@ bond-zero target = refl
 
 -- a kind's number stands for it
 pub bond-words : (k : BondKind) (target : ℕ) → entryOfWords (codeOf k) target ≡ entry.Bond k target
-unfolding entryOfWords entryCoded kindOf codeOf
-bond-words bonds.Elided target = refl
-bond-words bonds.Single target = refl
-bond-words bonds.Double target = refl
-bond-words bonds.Triple target = refl
-bond-words bonds.Quadruple target = refl
-bond-words bonds.Aromatic target = refl
-bond-words bonds.Up target = refl
-bond-words bonds.Down target = refl
+unfolding entryOfWords entryCoded
+bond-words k target = rw (kind-back k)
 
 -- a number that is not the kind's at hand is one of the rest
 bond-step : (n : ℕ) (j k : BondKind) {rest : Coded} → pick (eqb n (codeOf j)) (coded.Kind j) rest ≡ coded.Kind k → (rest ≡ coded.Kind k → n ≡ codeOf k) → n ≡ codeOf k

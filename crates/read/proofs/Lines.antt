@@ -6,12 +6,12 @@ use native.Mathlib.Omega.{arith}
 use lib.ListN.{length, getD, replicate, length-replicate}
 use lib.Dec.{ltb, eqb}
 use Rattle.feature.specs.Pick.{pick}
+use Rattle.feature.proofs.Cases.{by-either}
 use Rattle.builder.specs.Limits.{textLimit, atomLimit, bondLimit, fewAtoms, lesserOf}
 use Rattle.packing.specs.Words.{atomWords, bondWords}
 use Rattle.builder.specs.Rings.{ringNumberCount}
 use Rattle.builder.specs.State.{Bld, entryWords, inversion, atomRoom, bondRoom}
 use Rattle.read_line.specs.Events.{endOfLine, character, nesting}
-use Rattle.read_line.proofs.Counts.{by-test}
 use Rattle.builder.specs.declared.build.Built.{Built}
 use Rattle.builder.specs.declared.build.Built.the-variants as built
 use Rattle.builder_meaning.specs.Sketch.{Sketch, BothEnds, sketchOf, finishS, atomTable, bondTable, padded, leftS}
@@ -76,12 +76,12 @@ not-done : (r c n m : ℕ) → readRefusal r c ≡ Done n m → ⊥
 unfolding readRefusal
 not-done r c n m =
     let Not : Answer → Type 0 = λ x. x ≡ Done n m → ⊥ in
-    by-test Not (eqb r endOfLine) (λ e. clash cc)
-    (by-test Not (eqb r character) (λ e. clash cc)
-    (by-test Not (eqb r inversion) (λ e. clash cc)
-    (by-test Not (eqb r atomRoom) (λ e. clash cc)
-    (by-test Not (eqb r bondRoom) (λ e. clash cc)
-    (by-test Not (eqb r nesting) (λ e. clash cc)
+    by-either Not (eqb r endOfLine) (λ e. clash cc)
+    (by-either Not (eqb r character) (λ e. clash cc)
+    (by-either Not (eqb r inversion) (λ e. clash cc)
+    (by-either Not (eqb r atomRoom) (λ e. clash cc)
+    (by-either Not (eqb r bondRoom) (λ e. clash cc)
+    (by-either Not (eqb r nesting) (λ e. clash cc)
     (λ e. clash cc))))))
 
 whole-done : (w : Built) (x y n m la lb : ℕ) (a b : List ℕ) → builtAnswer w x y ≡ Done n m → said (builtAnswer w x y) (leftS w la a) (leftS w lb b) ≡ said (Done n m) (padded la a) (padded lb b)
@@ -96,7 +96,7 @@ unfolding readText wholeOrRefused wholeOf
 done-holds s la lb n m e =
     let d = sketchOf s la lb in
     let Holds : Said → Type 0 = λ x. x .answer ≡ Done n m → x ≡ said (Done n m) (padded la (atomTable (d .nodes))) (padded lb (bondTable (d .nodes))) in (
-      by-test Holds (ltb textLimit (length s)) (λ h. absurd (clash cc))
-          (by-test Holds (eqb (d .refusal) 0) (whole-done (finishS d) _ _ n m la lb _ _) (λ h. absurd (not-done _ _ n m h))) e,
+      by-either Holds (ltb textLimit (length s)) (λ h. absurd (clash cc))
+          (by-either Holds (eqb (d .refusal) 0) (whole-done (finishS d) _ _ n m la lb _ _) (λ h. absurd (not-done _ _ n m h))) e,
       both-held s la lb,
     )

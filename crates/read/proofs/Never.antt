@@ -2,7 +2,7 @@
 use Prim.Native.Nat.{ℕ, zero, suc, _+_, _-_, _<_, _≤_}
 use mathlib.Core.Path.{_≡_, refl, sym, ap, _∙_, subst}
 use mathlib.Core.List.{List, [], _∷_}
-use mathlib.Core.Bool.{Bool, true, false}
+use mathlib.Core.Bool.{Bool, true, false, true≢false}
 use native.Mathlib.Omega.{arith}
 use lib.ListN.{length, getD}
 use lib.Dec.{eqb, ltb, leb}
@@ -17,6 +17,7 @@ use Rattle.feature.specs.declared.atom_kind.Inverted.the-variants.{Turned, Refu
 use Rattle.feature.specs.declared.bond_kind.BondKind.{BondKind}
 use Rattle.feature.specs.declared.bond_kind.Reconciled.{Reconciled}
 use Rattle.feature.specs.declared.bond_kind.Reconciled.the-variants.{Both, Fails}
+use Rattle.feature.proofs.Cases.{by-either, by-test}
 use Rattle.read_token.specs.Scan.{peekAt, atomAt, rnumAt}
 use Rattle.read_token.specs.declared.scanner.Found.{Found}
 use Rattle.read_token.specs.declared.scanner.Found.the-variants.{Atom, Nothing, Lacks}
@@ -38,7 +39,7 @@ use Rattle.read.specs.declared.Answer.the-variants.{NoAtom}
 use Rattle.read.specs.Read.{Said, readRefusal, builtAnswer}
 use Rattle.read.specs.Steps.{builtSaid, stateOf, stateSaid, within, readOf}
 use Rattle.read.specs.Line.{readText}
-use Rattle.read_line.proofs.Counts.{by-test, missing-not}
+use Rattle.read_line.proofs.Counts.{missing-not}
 use Rattle.read_line.proofs.Turn.{run-stuck}
 use Rattle.read.proofs.Lines.{read-line}
 
@@ -62,9 +63,6 @@ record Fine (b : Bld) (d : ℕ) : Type 0 where
   other : known (b .st .refusal) ≡ true
   level : b .st .refusal ≡ 0 → b .st .failed ≡ false → b .st .top ≡ d
 
-no : true ≡ false → ⊥
-no e = let z : _≡_ {A = ℕ} 0 1 = cc in omega arith
-
 module _ (b : Bld) (going : b .st .refusal ≡ 0) where
   -- a refusal that is not 18
   refused-fine : (d r n : ℕ) → known r ≡ true → (r ≡ 0 → ⊥) → Fine (refuse b r n) d
@@ -73,7 +71,7 @@ module _ (b : Bld) (going : b .st .refusal ≡ 0) where
 
   -- after a failure nothing is asked of the path
   numb-fine : (d : ℕ) (s : Builder) → known (s .refusal) ≡ true → s .failed ≡ b .st .failed → b .st .failed ≡ true → Fine (on b s) d
-  numb-fine d s other same failed = record { other = other; level = λ z f. absurd (no (sym (same ∙ failed) ∙ f)) }
+  numb-fine d s other same failed = record { other = other; level = λ z f. absurd (true≢false (sym (same ∙ failed) ∙ f)) }
 
   same-known : known (b .st .refusal) ≡ true
   same-known = rw going
@@ -96,7 +94,7 @@ module _ (b : Bld) (going : b .st .refusal ≡ 0) where
     root-fine : (k : AtomKind) (p : ℕ) → Fine (rootOf b k p) (d + 1)
     unfolding rootOf
     root-fine k p =
-        by-test (λ (x : Bld). Fine x (d + 1)) (leb (b .st .places) (b .st .atoms))
+        by-either (λ (x : Bld). Fine x (d + 1)) (leb (b .st .places) (b .st .atoms))
         (refused-fine (d + 1) atomRoom _ refl (λ z. omega arith)) (entered-fine k _)
 
     extended-fine : (e : BondKind) (t : Inverted) → Fine (extendedBy b e t) (d + 1)
@@ -109,9 +107,9 @@ module _ (b : Bld) (going : b .st .refusal ≡ 0) where
     extend-fine e k p h =
         let stands : b .st .top ≡ 0 → ⊥ = λ z. omega arith in
         rw (ne-eqb _ _ stands)
-        (by-test (λ (x : Bld). Fine x (d + 1)) (leb (b .st .places) (b .st .atoms))
+        (by-either (λ (x : Bld). Fine x (d + 1)) (leb (b .st .places) (b .st .atoms))
         (refused-fine (d + 1) atomRoom _ refl (λ z. omega arith))
-        (by-test (λ (x : Bld). Fine x (d + 1)) (ltb (b .st .slots) (b .st .entries + 2))
+        (by-either (λ (x : Bld). Fine x (d + 1)) (ltb (b .st .slots) (b .st .entries + 2))
         (refused-fine (d + 1) bondRoom _ refl (λ z. omega arith))
         (extended-fine e (invertOf k))))
 
@@ -129,14 +127,14 @@ module _ (b : Bld) (going : b .st .refusal ≡ 0) where
           (state (b .st .refusal) (b .st .carried) (b .st .places) (b .st .slots) (b .st .atoms) (b .st .entries) (b .st .top) (b .st .joins + 1) true x y)
 
       split : (q : Bool) → b .st .failed ≡ q → Fine (bld (b .atoms) (b .entries) (b .path) r (kept q)) d
-      split true e = record { other = same-known; level = λ z f. absurd (no f) }
-      split false e = record { other = same-known; level = λ z f. absurd (no f) }
+      split true e = record { other = same-known; level = λ z f. absurd (true≢false f) }
+      split false e = record { other = same-known; level = λ z f. absurd (true≢false f) }
 
     closed-fine : (n p : ℕ) (q : Reconciled) → Fine (closedBy b n p q) d
     unfolding closedBy
     closed-fine n p Fails = failed-fine (lastOf b) (openingOf b n) _
     closed-fine n p (Both l r) =
-        by-test (λ (x : Bld). Fine x d) (ltb (b .st .slots) (b .st .entries + 1))
+        by-either (λ (x : Bld). Fine x d) (ltb (b .st .slots) (b .st .entries + 1))
         (refused-fine d bondRoom _ refl (λ z. omega arith))
         (record { other = same-known; level = λ z f. top })
 
@@ -145,34 +143,30 @@ module _ (b : Bld) (going : b .st .refusal ≡ 0) where
     join-fine e n p h =
         let stands : b .st .top ≡ 0 → ⊥ = λ z. omega arith in
         rw (ne-eqb _ _ stands)
-        (by-test (λ (x : Bld). Fine x d) (eqb (getD (b .rings) n 0) 0)
-        (by-test (λ (x : Bld). Fine x d) (ltb (b .st .slots) (b .st .entries + 1))
+        (by-either (λ (x : Bld). Fine x d) (eqb (getD (b .rings) n 0) 0)
+        (by-either (λ (x : Bld). Fine x d) (ltb (b .st .slots) (b .st .entries + 1))
         (refused-fine d bondRoom _ refl (λ z. omega arith)) (opened-fine e n))
         (closed-fine n p (reconcileOf (openingKind b n) e)))
-
-by-equal : {A : Type 0} (P : A → Type 0) (q : Bool) {x y : A} → (q ≡ true → P x) → (q ≡ false → P y) → P (pick q x y)
-by-equal P true f g = f refl
-by-equal P false f g = g refl
 
 module _ (b : Bld) (d : ℕ) (going : b .st .refusal ≡ 0) (fine : Fine b d) where
   dot-fine : (k : AtomKind) (p : ℕ) → Fine (enterOf b Dot k p) (d + 1)
   unfolding enterOf ledOf unstoredOf
   dot-fine k p =
-      by-equal (λ (x : Bld). Fine x (d + 1)) (b .st .failed)
+      by-test (λ (x : Bld). Fine x (d + 1)) (b .st .failed)
       (λ f. numb-fine b going (d + 1) (countedSt (b .st)) (same-known b going) refl f)
       (λ f. root-fine b going d (fine .level going f) k p)
 
   bond-fine : (e : BondKind) (k : AtomKind) (p : ℕ) → 0 < d → Fine (enterOf b (Bond e) k p) (d + 1)
   unfolding enterOf ledOf unstoredOf
   bond-fine e k p h =
-      by-equal (λ (x : Bld). Fine x (d + 1)) (b .st .failed)
+      by-test (λ (x : Bld). Fine x (d + 1)) (b .st .failed)
       (λ f. numb-fine b going (d + 1) (markJudged (b .st) (invertOf k)) (judged-other b going (invertOf k)) (judged-same b going (invertOf k)) f)
       (λ f. extend-fine b going d (fine .level going f) e k p h)
 
   ring-fine : (e : BondKind) (n p : ℕ) → 0 < d → Fine (ringOf b e n p) d
   unfolding ringOf
   ring-fine e n p h =
-      by-equal (λ (x : Bld). Fine x d) (b .st .failed) (λ f. fine) (λ f. join-fine b going d (fine .level going f) e n p h)
+      by-test (λ (x : Bld). Fine x d) (b .st .failed) (λ f. fine) (λ f. join-fine b going d (fine .level going f) e n p h)
 
   pop-fine : (n : ℕ) → Fine (popOf b n) (d - n)
   unfolding popOf
@@ -203,7 +197,7 @@ fine-run : (es : List ReadEvent) → Never es
 unfolding Never run
 fine-run [] b d f s = f .other
 fine-run (e ∷ es) b d f s =
-    by-equal (λ (x : Bld). known (x .st .refusal) ≡ true) (eqb (b .st .refusal) 0)
+    by-test (λ (x : Bld). known (x .st .refusal) ≡ true) (eqb (b .st .refusal) 0)
     (λ q. fine-step e es b d (eqb-true _ _ q) f s (fine-run es)) (λ q. f .other)
 
 -- ---- and a text's events are such
@@ -262,7 +256,7 @@ led-some (Bond e) d h = h
 close-sound : (s : List ℕ) (base : ℕ) (k : ℕ → List ReadEvent) → 0 < base → ((at : ℕ) → Sound base (k at)) → Follows base (closeP s k)
 unfolding closeP missP Follows
 close-sound s base k h f at n some =
-    by-test (λ (es : List ReadEvent). Sound (base + n) es) (eqb (peekAt s at) (byte ")"))
+    by-either (λ (es : List ReadEvent). Sound (base + n) es) (eqb (peekAt s at) (byte ")"))
     (let back : base + n - n ≡ base = omega arith in (omega arith, subst (λ (d : ℕ). Sound d (k (at + 1))) (sym back) (f (at + 1)))) tt
 
 bodies-sound : (f : ℕ) (s : List ℕ) (room at base n : ℕ) (k : Rest) → 1 ≤ n → Follows base k → Sound (base + n) (bodies f s room at n k)
@@ -274,15 +268,15 @@ bodies-sound (suc g) s room at base n k some f =
     (λ at′ n′ some′. bodies-sound g s (room - 1) at′ (base + n) n′ _ some′
     (close-sound s (base + n) _ (omega arith) (λ at″. bodies-sound g s room at″ base n k some f))) in
     let flat : base + n + 0 ≡ base + n = omega arith in
-    by-test (λ (es : List ReadEvent). Sound (base + n) es) (eqb (bodyAt s at) (byte "0")) (f at n some)
-    (by-test (λ (es : List ReadEvent). Sound (base + n) es) (eqb (bodyAt s at) (byte "1"))
-    (by-test (λ (es : List ReadEvent). Sound (base + n) es) (eqb room 0) tt
+    by-either (λ (es : List ReadEvent). Sound (base + n) es) (eqb (bodyAt s at) (byte "0")) (f at n some)
+    (by-either (λ (es : List ReadEvent). Sound (base + n) es) (eqb (bodyAt s at) (byte "1"))
+    (by-either (λ (es : List ReadEvent). Sound (base + n) es) (eqb room 0) tt
     (subst (λ (d : ℕ). Sound d (lineP (bodies g s (room - 1)) s (ledAt s (at + 1) .next) (ledAt s (at + 1) .lead) (closeP s (λ at′. bodies g s room at′ n k)))) flat line))
     (unit-sound s (ledAt s at .next) base n _ some (λ at′ n′ some′. bodies-sound g s room at′ base n′ k some′ f) (ledAt s at .lead)))
 
 end-sound : (s : List ℕ) → Follows 0 (endP s)
 unfolding endP Follows
-end-sound s at n some = by-test (λ (es : List ReadEvent). Sound (0 + n) es) (ltb at (length s)) tt tt
+end-sound s at n some = by-either (λ (es : List ReadEvent). Sound (0 + n) es) (ltb at (length s)) tt tt
 
 pub parse-sound : (s : List ℕ) → Sound 0 (parse s)
 unfolding parse lineP Led Follows
@@ -306,7 +300,7 @@ refusal-said r c k nz e =
     let r4 = passed (eqb r atomRoom) (λ h. let z : _≡_ {A = ℕ} 0 1 = cc in omega arith) (r3 .1) in
     let r5 = passed (eqb r bondRoom) (λ h. let z : _≡_ {A = ℕ} 0 1 = cc in omega arith) (r4 .1) in
     let r6 = passed (eqb r nesting) (λ h. let z : _≡_ {A = ℕ} 0 1 = cc in omega arith) (r5 .1) in
-    no (sym k ∙ simp (ne-eqb r 0 nz, r1 .0, r2 .0, r3 .0, r4 .0, r5 .0, r6 .0))
+    true≢false (sym k ∙ simp (ne-eqb r 0 nz, r1 .0, r2 .0, r3 .0, r4 .0, r5 .0, r6 .0))
 
 built-said : (r : Built) (n m : ℕ) → builtAnswer r n m ≡ NoAtom → ⊥
 unfolding builtAnswer
@@ -322,13 +316,13 @@ state-known s a lb e p r =
 said-never : (lb : ℕ) (b : Bld) → known (b .st .refusal) ≡ true → stateSaid lb b .answer ≡ NoAtom → ⊥
 unfolding stateSaid builtSaid
 said-never lb b k =
-    by-equal (λ (x : Said). x .answer ≡ NoAtom → ⊥) (eqb (b .st .refusal) 0)
+    by-test (λ (x : Said). x .answer ≡ NoAtom → ⊥) (eqb (b .st .refusal) 0)
     (λ q. built-said _ _ _) (λ q. refusal-said _ _ k (eqb-false _ _ q))
 
 -- no text, whatever is lent, is answered with 18
 pub never-18 : (s : List ℕ) (la lb : ℕ) → readText s la lb .answer ≡ NoAtom → ⊥
 unfolding readOf within
 never-18 s la lb e =
-    by-test (λ (x : Said). x .answer ≡ NoAtom → ⊥) (ltb textLimit (length s))
+    by-either (λ (x : Said). x .answer ≡ NoAtom → ⊥) (ltb textLimit (length s))
     (λ h. let z : _≡_ {A = ℕ} 0 1 = cc in omega arith) (said-never lb _ (state-known s _ lb _ _ _))
     (ap (λ (x : Said). x .answer) (read-line s la lb) ∙ e)

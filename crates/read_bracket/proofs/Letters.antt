@@ -11,7 +11,7 @@ use Rattle.feature.specs.Pick.{either}
 use Rattle.feature.specs.Text.{byte, letterStep, twoLetters}
 use Rattle.feature.specs.Names.{symbols, names, placeOf}
 use Rattle.feature.proofs.Names.{names-length}
-use Rattle.feature.proofs.Table.{every, both-left, both-right}
+use Rattle.feature.proofs.Table.{everyEntry, both-left, both-right}
 
 -- a name of one letter, or of two of which the second is "a" or above
 lettered : ℕ → ℕ → Bool
@@ -25,12 +25,12 @@ module _ (b d : ℕ) (low : d < byte "a") where
     go true z t = omega (arith, eqb-true (x % letterStep) 0 z)
     go false z t = omega (arith, ltb→lt (byte "a") (x % letterStep) t)
 
-  none : (i : ℕ) (xs : List ℕ) → T (every lettered i xs) → placeOf (twoLetters b d) xs ≡ length xs
+  none : (i : ℕ) (xs : List ℕ) → T (everyEntry lettered i xs) → placeOf (twoLetters b d) xs ≡ length xs
   unfolding placeOf
   none i [] t = refl
   none i (x ∷ xs) t =
-      simp (ne-eqb x (twoLetters b d) (apart i x (both-left (lettered i x) (every lettered (suc i) xs) t)))
-      (ap suc (none (suc i) xs (both-right (lettered i x) (every lettered (suc i) xs) t)))
+      simp (ne-eqb x (twoLetters b d) (apart i x (both-left (lettered i x) (everyEntry lettered (suc i) xs) t)))
+      (ap suc (none (suc i) xs (both-right (lettered i x) (everyEntry lettered (suc i) xs) t)))
 
   pub no-name : symbols ≡ placeOf (twoLetters b d) names
   unfolding names lettered

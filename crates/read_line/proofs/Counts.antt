@@ -1,11 +1,9 @@
 -- How far an event lets a builder's counts grow, and that a refusal is none of 0. Assumes nothing.
 use Prim.Native.Nat.{ℕ, _+_, _≤_}
 use mathlib.Core.Path.{_≡_}
-use mathlib.Core.Bool.{Bool, true, false}
 use native.Mathlib.Omega.{arith}
 use lib.Dec.{eqb, ltb, leb}
 use lib.ListN.{getD}
-use Rattle.feature.specs.Pick.{pick}
 use Rattle.feature.specs.Kinds.{invertOf}
 use Rattle.feature.specs.Bonds.{reconcileOf}
 use Rattle.feature.specs.declared.atom_kind.AtomKind.{AtomKind}
@@ -14,6 +12,7 @@ use Rattle.feature.specs.declared.atom_kind.Inverted.the-variants.{Turned, Refu
 use Rattle.feature.specs.declared.bond_kind.BondKind.{BondKind}
 use Rattle.feature.specs.declared.bond_kind.Reconciled.{Reconciled}
 use Rattle.feature.specs.declared.bond_kind.Reconciled.the-variants.{Both, Fails}
+use Rattle.feature.proofs.Cases.{by-either}
 use Rattle.read_token.specs.declared.scanner.Missing.{Missing}
 use Rattle.read_token.specs.declared.scanner.Missing.the-variants.{EndOfLine, Character}
 use Rattle.builder.specs.declared.builder.Builder.{Builder}
@@ -24,11 +23,6 @@ use Rattle.read_line.specs.declared.lead.Lead.{Lead}
 use Rattle.read_line.specs.declared.lead.Lead.the-variants.{Dot, Bond}
 use Rattle.read_line.specs.Events.{countedSt, markJudged, unstoredOf, ledOf, enterOf, ringOf, missingSt}
 use Rattle.read_line.specs.Steps.{Counted}
-
--- a choice by a test has what both of its outcomes have
-pub by-test : {A : Type 0} (P : A → Type 0) (b : Bool) {x y : A} → P x → P y → P (pick b x y)
-by-test P true f g = f
-by-test P false f g = g
 
 abbrev At : ℕ → Bld → Type 0
 At n b = Counted (b .st) n
@@ -51,7 +45,7 @@ module _ (b : Bld) (at : ℕ) (c : Counted (b .st) at) where
   root-at : (k : AtomKind) (place : ℕ) → At (at + 1) (rootOf b k place)
   unfolding rootOf
   root-at k place =
-      by-test (At (at + 1)) (leb (b .st .places) (b .st .atoms)) (refuse-at _ _) (entered-at k _ (omega arith))
+      by-either (At (at + 1)) (leb (b .st .places) (b .st .atoms)) (refuse-at _ _) (entered-at k _ (omega arith))
 
   extended-at : (k : BondKind) (t : Inverted) → At (at + 1) (extendedBy b k t)
   unfolding extendedBy bonded entered
@@ -62,9 +56,9 @@ module _ (b : Bld) (at : ℕ) (c : Counted (b .st) at) where
   extend-at : (k : BondKind) (t : AtomKind) (place : ℕ) → At (at + 1) (extendOf b k t place)
   unfolding extendOf
   extend-at k t place =
-      by-test (At (at + 1)) (eqb (b .st .top) 0) (refuse-at _ _)
-      (by-test (At (at + 1)) (leb (b .st .places) (b .st .atoms)) (refuse-at _ _)
-      (by-test (At (at + 1)) (ltb (b .st .slots) (b .st .entries + 2)) (refuse-at _ _)
+      by-either (At (at + 1)) (eqb (b .st .top) 0) (refuse-at _ _)
+      (by-either (At (at + 1)) (leb (b .st .places) (b .st .atoms)) (refuse-at _ _)
+      (by-either (At (at + 1)) (ltb (b .st .slots) (b .st .entries + 2)) (refuse-at _ _)
       (extended-at k (invertOf t))))
 
   counted-at : Counted (countedSt (b .st)) (at + 1)
@@ -88,7 +82,7 @@ module _ (b : Bld) (at : ℕ) (c : Counted (b .st) at) where
   -- an atom
   pub enter-at : (l : Lead) (k : AtomKind) (place : ℕ) → At (at + 1) (enterOf b l k place)
   unfolding enterOf
-  enter-at l k place = by-test (At (at + 1)) (b .st .failed) (numb-at l k) (led-at l k place)
+  enter-at l k place = by-either (At (at + 1)) (b .st .failed) (numb-at l k) (led-at l k place)
 
   opened-at : (k : BondKind) (n : ℕ) → At (at + 1) (openedOf b k n)
   unfolding openedOf
@@ -97,7 +91,7 @@ module _ (b : Bld) (at : ℕ) (c : Counted (b .st) at) where
   failed-at : (x y : ℕ) → Counted (failedSt (b .st) x y) (at + 1)
   unfolding failedSt
   failed-at x y =
-      by-test (λ (s : Builder). Counted s (at + 1)) (b .st .failed)
+      by-either (λ (s : Builder). Counted s (at + 1)) (b .st .failed)
       (record { atoms = omega arith; entries = omega arith; top = omega arith; joins = omega arith })
       (record { atoms = omega arith; entries = omega arith; top = omega arith; joins = omega arith })
 
@@ -105,22 +99,22 @@ module _ (b : Bld) (at : ℕ) (c : Counted (b .st) at) where
   unfolding closedBy
   closed-at n place Fails = failed-at (lastOf b) (openingOf b n)
   closed-at n place (Both l r) =
-      by-test (At (at + 1)) (ltb (b .st .slots) (b .st .entries + 1)) (refuse-at _ _)
+      by-either (At (at + 1)) (ltb (b .st .slots) (b .st .entries + 1)) (refuse-at _ _)
       (record { atoms = omega arith; entries = omega arith; top = omega arith; joins = omega arith })
 
   join-at : (k : BondKind) (n place : ℕ) → At (at + 1) (joinOf b k n place)
   unfolding joinOf
   join-at k n place =
-      by-test (At (at + 1)) (eqb (b .st .top) 0) (refuse-at _ _)
-      (by-test (At (at + 1)) (eqb (getD (b .rings) n 0) 0)
-      (by-test (At (at + 1)) (ltb (b .st .slots) (b .st .entries + 1)) (refuse-at _ _) (opened-at k n))
+      by-either (At (at + 1)) (eqb (b .st .top) 0) (refuse-at _ _)
+      (by-either (At (at + 1)) (eqb (getD (b .rings) n 0) 0)
+      (by-either (At (at + 1)) (ltb (b .st .slots) (b .st .entries + 1)) (refuse-at _ _) (opened-at k n))
       (closed-at n place (reconcileOf (openingKind b n) k)))
 
   -- a ring number
   pub ring-at : (k : BondKind) (n place : ℕ) → At (at + 1) (ringOf b k n place)
   unfolding ringOf
   ring-at k n place =
-      by-test (At (at + 1)) (b .st .failed) (counted-more c (omega arith)) (join-at k n place)
+      by-either (At (at + 1)) (b .st .failed) (counted-more c (omega arith)) (join-at k n place)
 
 -- a pop, and something missing
 pub pop-at : (s : Builder) (at n : ℕ) → Counted s at → Counted (poppedSt s n) at

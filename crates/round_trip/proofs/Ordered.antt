@@ -3,7 +3,7 @@ use Prim.Native.Nat.{ℕ, zero, suc, _+_, _-_, _≤_, _<_}
 use mathlib.Core.Path.{_≡_, refl}
 use mathlib.Core.Logic.{_≢_}
 use mathlib.Core.List.{List, [], _∷_, _++_}
-use mathlib.Core.Bool.{true, false}
+use mathlib.Core.Bool.{true, false, false≢true}
 use native.Mathlib.Omega.{arith}
 use lib.ListN.{length, getD}
 use lib.Dec.{eqb}
@@ -15,7 +15,7 @@ use Rattle.walk_laws.specs.Trek.{Room, fresh}
 use Rattle.feature.proofs.Cases.{by-test}
 use Rattle.walk_laws.proofs.Moves.{Move, still, skip, root, ends, leaves, takes, refuses, joins, enters, turn-moves}
 use Rattle.walk_laws.proofs.Sums.{zeros-at}
-use Rattle.walk_laws.proofs.Sound.{Sound, up-some, sound-start, step-sound, no}
+use Rattle.walk_laws.proofs.Sound.{Sound, up-some, sound-start, step-sound}
 use Rattle.trip_text.specs.Steps.{Sayable}
 
 -- pops, then an event that goes on from what they leave
@@ -33,7 +33,7 @@ told-step : {g : Graph} {w : Walk} {d : ℕ} {x : Turn} {c : ℕ} → Sound g w 
 told-step s (still r h) n f es go = go n f
 told-step s (skip r h m) n f es go = go n f
 told-step s (root r h m k) n f es go = go 1 (λ e. omega arith)
-told-step s (ends r h) n f es go = go n (λ e. absurd (no e))
+told-step s (ends r h) n f es go = go n (λ e. absurd (false≢true e))
 told-step s (leaves r h) n f es go = go n (λ e. omega (arith, f r, up-some (s .stands r)))
 told-step s (takes r h) n f es go = go n f
 told-step s (refuses r h pairs q a b) n f es go = go n f
@@ -57,7 +57,7 @@ told-turns g (suc t) w d n s f =
 
 pub told-walk : (g : Graph) (lm lw lb lt : ℕ) (pairs : List ℕ) → Room g lm lb lt → (t : ℕ) → Sayable 0 (eventsOf g t (fresh lm lw lb lt pairs))
 told-walk g lm lw lb lt pairs r t =
-    told-turns g t (fresh lm lw lb lt pairs) 0 0 (sound-start g lm lw lb lt pairs r) (λ e. absurd (no e))
+    told-turns g t (fresh lm lw lb lt pairs) 0 0 (sound-start g lm lw lb lt pairs r) (λ e. absurd (false≢true e))
 
 -- ---- the first event
 -- where no atom stands and the next one is new, a turn says a root

@@ -9,13 +9,13 @@ use Rattle.feature.specs.Text.{byte}
 use Rattle.feature.specs.Steps.{Within}
 use Rattle.feature.specs.declared.atom_kind.BracketAtom.{BracketAtom}
 use Rattle.feature.specs.declared.atom_kind.AtomKind.the-variants.{Bracket}
+use Rattle.feature.proofs.Cases.{both-true}
 use Rattle.read_token.specs.declared.scanner.Part.{Part}
 use Rattle.read_token.specs.declared.scanner.Step.the-variants.{Got}
 use Rattle.read_token.specs.declared.scanner.Found.the-variants.{Atom}
 use Rattle.read_token.specs.Scan.{part, peekAt, isotopeAt, symbolAt, configurationAt, hydrogensAt, chargeAt, mapAt, closeAt, afterMap, afterCharge, afterHydrogens, afterConfiguration, configured, afterSymbol, afterIsotope, insideAt}
 use Rattle.spell.specs.Spell.{numberText, symbolText, configurationText, hydrogensText, chargeText, mapText}
 use Rattle.survive.specs.Survive.{fieldsSurvive}
-use Rattle.survive.proofs.Checked.{both-true}
 use Rattle.survive.proofs.Shift.{front, past}
 use Rattle.survive.proofs.Field.{got, Starts, joined, Here, back}
 use Rattle.survive.proofs.Fields.{isotope, symbol, configuration, hydrogens, charge, map, isotope-symbol, symbol-configuration, configuration-hydrogens, hydrogens-charge, charge-map}

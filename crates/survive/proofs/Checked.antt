@@ -8,7 +8,7 @@ use native.Mathlib.Omega.{arith}
 use lib.ListN.{replicate, length-replicate}
 use lib.Dec.{T, eqb, eqb→eq}
 use Rattle.feature.specs.Pick.{pick, both, neither}
-use Rattle.feature.proofs.Table.{at, every, both-left, both-right}
+use Rattle.feature.proofs.Table.{at, everyEntry, both-left, both-right}
 use Rattle.read_token.specs.declared.scanner.Step.{Step}
 use Rattle.read_token.specs.declared.scanner.Step.the-variants.{Got, Stop}
 
@@ -30,11 +30,11 @@ all-mem f (y ∷ ys) x a m = split (eqb x y) refl m (all-mem f ys x (both-right 
   split false e m ih = ih m
 
 -- a test at each number below n
-pub below : (f : ℕ → Bool) (n : ℕ) → T (every (λ k z. f k) 0 (replicate n 0)) → (k : ℕ) → k < n → T (f k)
+pub below : (f : ℕ → Bool) (n : ℕ) → T (everyEntry (λ k z. f k) 0 (replicate n 0)) → (k : ℕ) → k < n → T (f k)
 below f n t k h = at (λ k z. f k) (replicate n 0) t k (omega (arith, length-replicate {A = ℕ} n 0))
 
 -- and at each byte of a list
-pub checked : (f : ℕ → ℕ → Bool) (n : ℕ) (ys : List ℕ) → T (every (λ k z. all (f k) ys) 0 (replicate n 0)) → (k x : ℕ) → k < n → T (mem ys x) → T (f k x)
+pub checked : (f : ℕ → ℕ → Bool) (n : ℕ) (ys : List ℕ) → T (everyEntry (λ k z. all (f k) ys) 0 (replicate n 0)) → (k x : ℕ) → k < n → T (mem ys x) → T (f k x)
 checked f n ys t k x h m = all-mem (f k) ys x (below (λ k. all (f k) ys) n t k h) m
 
 -- what is read is the value and its text's end where the value survives, and another value, or none, where it doesn't
@@ -43,8 +43,3 @@ agrees true (Got w j) v k = both (eqb w v) (eqb j k)
 agrees true (Stop j) v k = false
 agrees false (Got w j) v k = neither (eqb w v)
 agrees false (Stop j) v k = true
-
--- two tests joined
-pub both-true : (a b : Bool) → both a b ≡ true → (a ≡ true) × (b ≡ true)
-both-true true b e = (refl, e)
-both-true false b e = absurd (let z : _≡_ {A = ℕ} 0 1 = cc in omega arith)

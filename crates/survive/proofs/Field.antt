@@ -10,7 +10,7 @@ use lib.ListN.{length, replicate, drop}
 use lib.Dec.{T, eqb, eqb→eq}
 use borrow.Author.Tests.{eq-eqb}
 use Rattle.feature.specs.Pick.{neither}
-use Rattle.feature.proofs.Table.{every, both-left, both-right}
+use Rattle.feature.proofs.Table.{everyEntry, both-left, both-right}
 use Rattle.read_token.specs.declared.scanner.Part.{Part}
 use Rattle.read_token.specs.declared.scanner.Step.{Step}
 use Rattle.read_token.specs.declared.scanner.Step.the-variants.{Got, Stop}
@@ -56,7 +56,7 @@ starts before after (x ∷ xs) t h s = record { head = x; rest = xs ++ t; is = r
 module _ (F G : Field) where
   -- each text of G, or what follows it where it is empty, starts with a byte that may follow F
   abbrev pub joins : Bool
-  joins = every (λ v z. leads (F .after) (G .after) (G .text v)) 0 (replicate (G .limit) 0)
+  joins = everyEntry (λ v z. leads (F .after) (G .after) (G .text v)) 0 (replicate (G .limit) 0)
 
   -- so field G may stand after field F
   pub joined : T joins → (v : ℕ) (t : List ℕ) → v < G .limit → Starts (G .after) t → Starts (F .after) (G .text v ++ t)

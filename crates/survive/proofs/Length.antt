@@ -7,7 +7,7 @@ use lib.ListN.{length, replicate}
 use lib.Dec.{T, ltb, ltb→lt, lit<}
 use Rattle.feature.specs.Names.{names}
 use Rattle.feature.specs.Kinds.{aliphaticCount, aromaticCount, inRange}
-use Rattle.feature.proofs.Table.{every}
+use Rattle.feature.proofs.Table.{everyEntry}
 use Rattle.feature.proofs.Ranges.{good}
 use Rattle.feature.specs.declared.atom_kind.AtomKind.{AtomKind}
 use Rattle.feature.specs.declared.atom_kind.AtomKind.the-variants.{Star, Aliphatic, Aromatic, Bracket}
@@ -17,7 +17,7 @@ use Rattle.survive.proofs.Checked.{below}
 use Rattle.survive.proofs.ReadBack.{survives-ranged, text-of}
 
 -- the organic kinds, by one test
-organic-some : (kind : ℕ → AtomKind) (limit : ℕ) → T (every (λ n z. ltb 0 (length (kindText (kind n)))) 0 (replicate limit 0)) → (n : ℕ) → n < limit → 0 < length (kindText (kind n))
+organic-some : (kind : ℕ → AtomKind) (limit : ℕ) → T (everyEntry (λ n z. ltb 0 (length (kindText (kind n)))) 0 (replicate limit 0)) → (n : ℕ) → n < limit → 0 < length (kindText (kind n))
 organic-some kind limit t n h = ltb→lt 0 (length (kindText (kind n))) (below (λ n. ltb 0 (length (kindText (kind n)))) limit t n h)
 
 kind-some : (k : AtomKind) → inRange k ≡ true → 0 < length (kindText k)

@@ -12,11 +12,11 @@ use Rattle.feature.proofs.Ranges.{good}
 use Rattle.feature.specs.declared.atom_kind.BracketAtom.{BracketAtom}
 use Rattle.feature.specs.declared.atom_kind.AtomKind.{AtomKind}
 use Rattle.feature.specs.declared.atom_kind.AtomKind.the-variants.{Star, Aliphatic, Aromatic, Bracket}
+use Rattle.feature.proofs.Cases.{both-true}
 use Rattle.read_token.specs.declared.scanner.Found.the-variants.{Atom}
 use Rattle.read_token.specs.Scan.{peekAt, bracketAt, aromaticOf, aliphaticOf, organicAt, starAt, orElse, otherAt, atomAt}
 use Rattle.spell.specs.Spell.{bracketText, kindText, atomText}
 use Rattle.survive.specs.Survive.{fieldsSurvive, survives, canFollow, Survives}
-use Rattle.survive.proofs.Checked.{both-true}
 use Rattle.survive.proofs.Shift.{front, past}
 use Rattle.survive.proofs.Bracketed.{fromIsotope, bracketed, inside-back}
 use Rattle.survive.proofs.Organic.{aliphatic-back, aromatic-back}

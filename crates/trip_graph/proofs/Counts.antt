@@ -11,11 +11,12 @@ use borrow.Author.Tests.{eq-eqb, ne-eqb}
 use Rattle.feature.specs.Pick.{pick}
 use Rattle.feature.specs.declared.atom_kind.AtomKind.{AtomKind}
 use Rattle.feature.specs.declared.bond_kind.BondKind.{BondKind}
+use Rattle.feature.proofs.Cases.{by-eq, clash}
 use Rattle.walk_entry.specs.Graph.{BondEntry, Graph, degreeAt}
 use Rattle.walk_laws.specs.Trek.{degrees}
 use Rattle.builder_meaning.specs.Sketch.{Edge, Node, countOf, upd, addEdge, waits, fillEdges, fill}
 use Rattle.trip_graph.specs.Opened.{Pair}
-use Rattle.trip_graph.proofs.Lists.{memb, Nodup, nil, cons, same-eq, same-ne, true≢false, by-eq, by-bool, or-true-left, memb-here, memb-there}
+use Rattle.trip_graph.proofs.Lists.{memb, Nodup, nil, cons, same-eq, same-ne, by-bool, or-true-left, memb-here, memb-there}
 use Rattle.trip_graph.proofs.View.{view}
 
 -- ---- what the builder's changes do to the count
@@ -68,7 +69,7 @@ zap-none : (f : ℕ → ℕ) (n : ℕ) (l : List ℕ) → memb n l ≡ false →
 unfolding sumOver memb
 zap-none f n [] h = refl
 zap-none f n (x ∷ l) h =
-    by-eq n x (λ e. absurd (true≢false (or-true-left _ (same-eq e)) h))
+    by-eq n x (λ e. clash (or-true-left _ (same-eq e)) h)
     (λ e. ap₂ (λ (a b : ℕ). a + b) (zap-other f n x (λ z. e (sym z))) (zap-none f n l (rw (same-ne n x e) at h)))
 
 zap-most : (f : ℕ → ℕ) (n : ℕ) {l : List ℕ} → Nodup l → sumOver f l ≤ sumOver (zap f n) l + f n
@@ -117,7 +118,7 @@ zap-below f n (x ∷ l) =
 
 zap-least : (f : ℕ → ℕ) (n : ℕ) (l : List ℕ) → memb n l ≡ true → sumOver (zap f n) l + f n ≤ sumOver f l
 unfolding sumOver memb
-zap-least f n [] h = absurd (true≢false h refl)
+zap-least f n [] h = clash h refl
 zap-least f n (x ∷ l) h =
     by-eq n x
     (λ e. let a : f n ≡ f x = ap f e in omega (arith, zap-here f n x (sym e), zap-below f n l))

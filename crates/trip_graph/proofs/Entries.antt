@@ -9,10 +9,11 @@ use lib.ListN.{length, length-append}
 use lib.Dec.{leb}
 use borrow.Author.Tests.{eq-eqb, ne-eqb, leb-true, leb-false}
 use Rattle.feature.specs.Bonds.{reverseOf}
+use Rattle.feature.proofs.Cases.{by-eq, clash}
 use Rattle.walk_entry.specs.Graph.{BondEntry, Graph, degreeAt, bondOf}
 use Rattle.trip_graph.specs.Renumber.{Backed, Simple}
 use Rattle.trip_graph.specs.Renumbered.{othersOf, parentEntry, doneOf}
-use Rattle.trip_graph.proofs.Lists.{same-refl, same-eq, same-ne, true≢false, by-eq, by-bool, or-true, or-true-left}
+use Rattle.trip_graph.proofs.Lists.{same-refl, same-eq, same-ne, by-bool, or-true, or-true-left}
 use Rattle.trip_graph.proofs.View.{hasT, kindT, NodupB, bnil, bcons}
 use Rattle.trip_graph.proofs.Opens.{hasT-app}
 
@@ -38,7 +39,7 @@ pub record First (Q : BondEntry → Type 0) (x : ℕ) (l : List BondEntry) : Typ
 
 pub first : {Q : BondEntry → Type 0} (x : ℕ) (l : List BondEntry) → All Q l → hasT x l ≡ true → First Q x l
 unfolding hasT kindT
-first x [] anil h = absurd (true≢false h refl)
+first x [] anil h = clash h refl
 first {Q = Q} x (e ∷ l) (acons q a) h =
     by-eq x (e .to)
     (λ p. record { entry = e; fact = q; leads = sym p; kind = rw (same-eq p) })
@@ -50,7 +51,7 @@ unfolding hasT
 nodup-snoc [] e bnil h = bcons refl bnil
 nodup-snoc (x ∷ l) e (bcons k n) h =
     by-eq (e .to) (x .to)
-    (λ q. absurd (true≢false (or-true-left _ (same-eq q)) h))
+    (λ q. clash (or-true-left _ (same-eq q)) h)
     (λ q. bcons (hasT-app (x .to) l (e ∷ []) ∙ rw (k, same-ne (x .to) (e .to) (λ z. q (sym z)))) (nodup-snoc l e n (rw (same-ne (e .to) (x .to) q) at h)))
 
 has-last : (l : List BondEntry) (e : BondEntry) → hasT (e .to) (l ++ (e ∷ [])) ≡ true

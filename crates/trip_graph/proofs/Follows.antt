@@ -17,6 +17,7 @@ use Rattle.feature.specs.declared.atom_kind.Inverted.the-variants.{Turned}
 use Rattle.feature.specs.declared.bond_kind.BondKind.{BondKind}
 use Rattle.feature.specs.declared.bond_kind.BondKind.the-variants.{Elided, Single, Double, Triple, Quadruple, Aromatic, Up, Down}
 use Rattle.feature.specs.declared.bond_kind.Reconciled.the-variants.{Both}
+use Rattle.feature.proofs.Cases.{by-eq}
 use Rattle.read_line.specs.declared.lead.Lead.the-variants.{Dot, Bond as Bonded}
 use Rattle.read_line.specs.Events.{ReadEvent, Enter, Join, Pop}
 use Rattle.writer.specs.Line as writer
@@ -26,7 +27,7 @@ use Rattle.walk_entry.specs.Graph.{BondEntry, Graph, entryTo}
 use Rattle.walk.specs.Walk.{popsOf}
 use Rattle.walk_laws.specs.Trek.{degrees}
 use Rattle.trip_graph.specs.Opened.{sameNumber, Pair, ringPair, look, del, numIn, joinIn, Distinct}
-use Rattle.trip_graph.proofs.Lists.{memb, idx, Nodup, same-refl, eq-of-same, by-eq, by-bool, or-true, or-true-left, or-elim, idx-app, idx-new, idx-lt, map-app}
+use Rattle.trip_graph.proofs.Lists.{memb, idx, Nodup, same-refl, eq-of-same, by-bool, or-true, or-true-left, or-elim, idx-app, idx-new, idx-lt, map-app}
 use Rattle.trip_graph.proofs.View.{hasT, kindT, NodupB, view, push, view-open, view-extend, view-close, close-kind, view-root}
 use Rattle.trip_graph.proofs.Opens.{heldOf, look-in, look-one, lookup-none, lookup-some, without-map, join-del-true, Froms, held-snoc}
 use Rattle.trip_graph.proofs.Counts.{count-app, count-add, count-fill, upd-length}

@@ -1,48 +1,34 @@
 -- Lists of numbers: membership and first index by a Boolean test, no element twice, update in place.
-use mathlib.Core.Path.{_≡_, refl, sym, ap, ap₂, _∙_, subst}
+use mathlib.Core.Path.{_≡_, refl, sym, ap, ap₂, _∙_}
 use mathlib.Core.Logic.{_≢_}
 use mathlib.Core.List.{List, [], _∷_, _++_, map}
-use mathlib.Core.Bool.{Bool, true, false, _&&_, _||_}
+use mathlib.Core.Bool.{Bool, true, false, _&&_, _||_, or-false}
 use Prim.Native.Nat.{ℕ, zero, suc, _<_}
-use native.Mathlib.Decide.{ℕ-discrete}
 use native.Mathlib.Omega.{arith}
-use lib.Dec.{T, eqb, eqb-refl, eqb→eq}
+use lib.Dec.{eqb, eqb-refl, eqb→eq}
 use lib.ListN.{length}
 use Rattle.feature.specs.Pick.{pick}
+use Rattle.feature.proofs.Cases.{by-eq, clash, true-of, false-of}
 use Rattle.builder_meaning.specs.Sketch.{Node, upd}
 use Rattle.trip_graph.specs.Opened.{sameNumber}
 
-pub T-true : (b : Bool) → T b → b ≡ true
-T-true true t = refl
-T-true false t = absurd t
-
-pub not-T-false : (b : Bool) → (T b → ⊥) → b ≡ false
-not-T-false true f = absurd (f tt)
-not-T-false false f = refl
-
 pub same-refl : (a : ℕ) → sameNumber a a ≡ true
 unfolding sameNumber
-same-refl a = T-true (eqb a a) (eqb-refl a)
+same-refl a = true-of (eqb a a) (eqb-refl a)
 
 pub same-eq : {a b : ℕ} → a ≡ b → sameNumber a b ≡ true
 same-eq {a} e = rw (← e) (same-refl a)
 
 pub same-ne : (a b : ℕ) → a ≢ b → sameNumber a b ≡ false
 unfolding sameNumber
-same-ne a b h = not-T-false (eqb a b) (λ t. h (eqb→eq a b t))
+same-ne a b h = false-of (eqb a b) (λ t. h (eqb→eq a b t))
 
 pub eq-of-same : (a b : ℕ) → sameNumber a b ≡ true → a ≡ b
 unfolding sameNumber
 eq-of-same a b h = eqb→eq a b (rw h tt)
 
-pub true≢false : {b : Bool} → b ≡ true → b ≡ false → ⊥
-true≢false {b} p q = let z : _≡_ {A = Bool} true false = cc in absurd (subst T z tt)
-
 pub ne-of-same : (a b : ℕ) → sameNumber a b ≡ false → a ≢ b
-ne-of-same a b h e = true≢false (same-eq e) h
-
-pub by-eq {ℓ} : {X : Type ℓ} (a b : ℕ) → (a ≡ b → X) → (a ≢ b → X) → X
-by-eq a b f g = elim (ℕ-discrete a b) [ yes e ↦ f e | no h ↦ g h ]
+ne-of-same a b h e = clash (same-eq e) h
 
 -- ---- membership, index, no element twice
 unfoldable pub memb : ℕ → List ℕ → Bool
@@ -59,7 +45,7 @@ pub data Nodup : List ℕ → Type 0 where
 
 pub idx-app : (v : ℕ) (l m : List ℕ) → memb v l ≡ true → idx v (l ++ m) ≡ idx v l
 unfolding memb idx
-idx-app v [] m h = absurd (true≢false h refl)
+idx-app v [] m h = clash h refl
 idx-app v (x ∷ l) m h =
     by-eq v x (λ e. rw (same-eq e) refl) (λ n. let k : memb v l ≡ true = rw (same-ne v x n) at h in rw (idx-app v l m k))
 
@@ -67,7 +53,7 @@ pub idx-new : (v : ℕ) (l : List ℕ) → memb v l ≡ false → idx v (l ++ (v
 unfolding memb idx
 idx-new v [] h = rw same-refl
 idx-new v (x ∷ l) h =
-    by-eq v x (λ e. absurd (true≢false (rw (same-eq e)) h)) (λ n. let k : memb v l ≡ false = rw (same-ne v x n) at h in rw (same-ne v x n) (ap suc (idx-new v l k)))
+    by-eq v x (λ e. clash (rw (same-eq e)) h) (λ n. let k : memb v l ≡ false = rw (same-ne v x n) at h in rw (same-ne v x n) (ap suc (idx-new v l k)))
 
 pub memb-app : (v : ℕ) (l m : List ℕ) → memb v (l ++ m) ≡ memb v l || memb v m
 unfolding memb
@@ -82,7 +68,7 @@ pub nodup-snoc : {l : List ℕ} (v : ℕ) → Nodup l → memb v l ≡ false →
 unfolding memb
 nodup-snoc v nil h = cons refl nil
 nodup-snoc v (cons {x} {l} k n) h =
-    by-eq v x (λ e. absurd (true≢false (rw (same-eq e)) h))
+    by-eq v x (λ e. clash (rw (same-eq e)) h)
     (λ d. cons (rw (memb-app x l (v ∷ []), k) (rw (same-ne x v (λ e. d (sym e))))) (nodup-snoc v n (rw (same-ne v x d) at h)))
 
 -- ---- update in place
@@ -105,7 +91,7 @@ unfolding memb idx upd
 map-upd F G f s [] n m hs ho = refl
 map-upd F G f s (x ∷ l) (cons k n) m hs ho =
     by-eq s x
-    (λ e. rw (same-eq e) (ap₂ (λ a b. a ∷ b) (rw (← e) hs) (map-same F G l (λ v q. ho v (λ w. true≢false q (rw (w, e) k)) (or-true (sameNumber v x) q)))))
+    (λ e. rw (same-eq e) (ap₂ (λ a b. a ∷ b) (rw (← e) hs) (map-same F G l (λ v q. ho v (λ w. clash q (rw (w, e) k)) (or-true (sameNumber v x) q)))))
     (λ d. let z : memb s l ≡ true = rw (same-ne s x d) at m in rw (same-ne s x d) (ap₂ (λ a b. a ∷ b) (ho x (λ e. d (sym e)) (rw same-refl)) (map-upd F G f s l n z hs (λ v w q. ho v w (or-true (sameNumber v x) q)))))
 
 -- ---- small facts
@@ -117,19 +103,11 @@ pub or-elim {ℓ} : {X : Type ℓ} (a b : Bool) → a || b ≡ true → (a ≡ t
 or-elim true b h f g = f refl
 or-elim false b h f g = g h
 
-pub or-false : (b : Bool) → b || false ≡ b
-or-false true = refl
-or-false false = refl
-
-pub and-false : (c : Bool) → c && false ≡ false
-and-false true = refl
-and-false false = refl
-
 pub and-left : (a b : Bool) → a && b ≡ true → a ≡ true
-and-left a b h = by-bool a (λ q. q) (λ q. absurd (true≢false h (rw q)))
+and-left a b h = by-bool a (λ q. q) (λ q. clash h (rw q))
 
 pub and-right : (a b : Bool) → a && b ≡ true → b ≡ true
-and-right a b h = by-bool a (λ q. rw q at h) (λ q. absurd (true≢false h (rw q)))
+and-right a b h = by-bool a (λ q. rw q at h) (λ q. clash h (rw q))
 
 pub memb-left : (x t : ℕ) (o : List ℕ) → memb x o ≡ true → memb x (o ++ (t ∷ [])) ≡ true
 memb-left x t o h = memb-app x o (t ∷ []) ∙ or-true-left _ h
@@ -144,10 +122,10 @@ memb-old x t o h = memb-app x o (t ∷ []) ∙ rw (same-ne x t h) (or-false (mem
 
 -- a new element is not the one that was there
 pub ne-of-memb : {x t : ℕ} (o : List ℕ) → memb x o ≡ true → memb t o ≡ false → x ≢ t
-ne-of-memb o a b q = true≢false (rw q at a) b
+ne-of-memb o a b q = clash (rw q at a) b
 
 pub not-new : (x t : ℕ) (o : List ℕ) → memb x (o ++ (t ∷ [])) ≡ false → x ≢ t
-not-new x t o h q = true≢false (memb-new t o) (rw q at h)
+not-new x t o h q = clash (memb-new t o) (rw q at h)
 
 pub memb-cons : (v x : ℕ) (l : List ℕ) → memb v (x ∷ l) ≡ true → v ≢ x → memb v l ≡ true
 unfolding memb
@@ -163,7 +141,7 @@ memb-here l q = or-true-left _ (same-eq q)
 
 pub idx-lt : (v : ℕ) (l : List ℕ) → memb v l ≡ true → idx v l < length l
 unfolding memb idx
-idx-lt v [] h = absurd (true≢false h refl)
+idx-lt v [] h = clash h refl
 idx-lt v (x ∷ l) h =
     by-eq v x (λ e. rw (same-eq e) (omega arith))
     (λ n. let k : memb v l ≡ true = rw (same-ne v x n) at h in rw (same-ne v x n) (omega (arith, idx-lt v l k)))

@@ -14,12 +14,12 @@ use Rattle.feature.specs.declared.atom_kind.AtomKind.{AtomKind}
 use Rattle.feature.specs.declared.atom_kind.AtomKind.the-variants.{Star, Aliphatic, Aromatic, Bracket}
 use Rattle.feature.specs.declared.atom_kind.Inverted.{Inverted}
 use Rattle.feature.specs.declared.atom_kind.Inverted.the-variants.{Turned}
-use Rattle.feature.proofs.Cases.{by-test}
+use Rattle.feature.proofs.Cases.{by-test, by-eq}
 use Rattle.feature.proofs.Ranges.{good, ranged}
 use Rattle.survive.specs.Survive.{configurationSurvives, fieldsSurvive, survives}
 use Rattle.walk_entry.specs.Ways.{isRefused, isFixed, even, saidAs}
 use Rattle.trip_graph.specs.Marks.{Tetrahedral, bearsHydrogen, otherMark, toggled, oddIndex, backKind, MarksServe}
-use Rattle.trip_graph.proofs.Lists.{by-eq, by-bool}
+use Rattle.trip_graph.proofs.Lists.{by-bool}
 
 -- the mark toggled where the atom bears hydrogen
 turned : AtomKind → AtomKind

@@ -4,13 +4,14 @@ use mathlib.Core.Path.{_≡_, refl, sym, ap, ap₂, _∙_, subst}
 use mathlib.Core.Logic.{_≢_}
 use mathlib.Core.List.{List, [], _∷_, _++_, map}
 use mathlib.Core.Option.{Option, none, some}
-use mathlib.Core.Bool.{Bool, true, false, not, _&&_, _||_}
+use mathlib.Core.Bool.{Bool, true, false, not, _&&_, _||_, or-false, and-false}
 use Prim.Native.Nat.{ℕ}
 use borrow.Author.Tests.{eq-eqb, ne-eqb}
+use Rattle.feature.proofs.Cases.{by-eq, clash}
 use Rattle.walk_entry.specs.Graph.{BondEntry}
 use Rattle.builder_meaning.specs.Sketch.{Held, held, lookup, ringFreed}
 use Rattle.trip_graph.specs.Opened.{sameNumber, Pair, ringPair, pairIs, look, del, numIn, joinIn, Distinct, dnil, dcons}
-use Rattle.trip_graph.proofs.Lists.{memb, idx, same-refl, same-eq, same-ne, eq-of-same, true≢false, by-eq, by-bool, and-false, and-left, idx-app, or-true, or-true-left, or-false, memb-left}
+use Rattle.trip_graph.proofs.Lists.{memb, idx, same-refl, same-eq, same-ne, eq-of-same, by-bool, and-left, idx-app, or-true, or-true-left, memb-left}
 use Rattle.trip_graph.proofs.View.{hasT, push, push-same, push-other, look-skip, look-here, look-del, look-gone, look-del-from, pair-from, pair-this, pair-a, pair-b, none≢some, some-inj}
 
 -- ---- members
@@ -45,7 +46,7 @@ in-join x P (there {y = y} {P = Q} i) = or-true (sameNumber (x .join) (y .join))
 -- a number that is open is the number of a member
 pub num-find : (P : List Pair) (r : ℕ) → numIn r P ≡ true → (x : Pair) × In x P × (x .num ≡ r)
 unfolding numIn
-num-find [] r h = absurd (true≢false h refl)
+num-find [] r h = clash h refl
 num-find (y ∷ P) r h =
     by-bool (sameNumber r (y .num)) (λ q. (y, here, sym (eq-of-same r (y .num) q)))
     (λ q. let f = num-find P r (rw q at h) in (f .0, there (f .1), f .2))
@@ -57,7 +58,7 @@ look-none-in P a b x h (there {y = y} {P = Q} i) =
     by-bool (pairIs a b y) (λ q. absurd (none≢some (sym (rw q at h)))) (λ q. look-none-in Q a b x (rw q at h) i)
 
 pub no-member : (P : List Pair) (a b : ℕ) (x : Pair) → look P a b ≡ none → In x P → a ≡ x .from → b ≡ x .onto → ⊥
-no-member P a b x h i p q = true≢false (pair-this a b x p q) (look-none-in P a b x h i)
+no-member P a b x h i p q = clash (pair-this a b x p q) (look-none-in P a b x h i)
 
 -- a member is found at its pair
 pub in-look : (P : List Pair) (x : Pair) (a b : ℕ) → Distinct P → In x P → a ≡ x .from → b ≡ x .onto → look P a b ≡ some x
@@ -82,10 +83,10 @@ look-one (z ∷ P) a b c x y (dcons n u j g) h k e =
     by-bool (pairIs a b z)
     (λ q. by-bool (pairIs a c z) (λ w. pair-b a c z w ∙ sym (pair-b a b z q))
     (λ w. let zx : z ≡ x = some-inj (rw q at h) in
-    absurd (true≢false (look-join P a c y (rw w at k)) (rw (e, ← ap (λ (v : Pair). v .join) zx) j))))
+    clash (look-join P a c y (rw w at k)) (rw (e, ← ap (λ (v : Pair). v .join) zx) j)))
     (λ q. by-bool (pairIs a c z)
     (λ w. let zy : z ≡ y = some-inj (rw w at k) in
-    absurd (true≢false (look-join P a b x (rw q at h)) (rw (← e, ← ap (λ (v : Pair). v .join) zy) j)))
+    clash (look-join P a b x (rw q at h)) (rw (← e, ← ap (λ (v : Pair). v .join) zy) j))
     (λ w. look-one P a b c x y g (rw q at h) (rw w at k) e))
 
 -- ---- how the builder holds an open pair
@@ -96,7 +97,7 @@ pub lookup-none : (o : List ℕ) (P : List Pair) (r : ℕ) → numIn r P ≡ fal
 unfolding numIn lookup heldOf
 lookup-none o [] r h = refl
 lookup-none o (x ∷ P) r h =
-    by-eq r (x .num) (λ q. absurd (true≢false (or-true-left _ (same-eq q)) h))
+    by-eq r (x .num) (λ q. clash (or-true-left _ (same-eq q)) h)
     (λ q. rw (ne-eqb (x .num) r (λ z. q (sym z))) (lookup-none o P r (rw (same-ne r (x .num) q) at h)))
 
 pub lookup-some : (o : List ℕ) (P : List Pair) (a b : ℕ) (x : Pair) → Distinct P → look P a b ≡ some x → lookup (x .num) (map (heldOf o) P) ≡ some (heldOf o x)
@@ -107,7 +108,7 @@ lookup-some o (y ∷ P) a b x (dcons n u j g) h =
     (λ q. let e : y ≡ x = some-inj (rw q at h) in
     rw (eq-eqb (y .num) (x .num) (ap (λ (v : Pair). v .num) e)) (ap (λ (v : Pair). some (held (v .num) (idx (v .from) o) (v .join))) e))
     (λ q. let m : look P a b ≡ some x = rw q at h in
-    rw (ne-eqb (y .num) (x .num) (λ w. true≢false (look-num P a b x m) (rw (← w) n))) (lookup-some o P a b x g m))
+    rw (ne-eqb (y .num) (x .num) (λ w. clash (look-num P a b x m) (rw (← w) n))) (lookup-some o P a b x g m))
 
 del-none : (P : List Pair) (a b : ℕ) → look P a b ≡ none → del a b P ≡ P
 unfolding look del
@@ -118,7 +119,7 @@ without-none : (o : List ℕ) (P : List Pair) (r : ℕ) → numIn r P ≡ false 
 unfolding numIn ringFreed heldOf
 without-none o [] r h = refl
 without-none o (x ∷ P) r h =
-    by-eq r (x .num) (λ q. absurd (true≢false (or-true-left _ (same-eq q)) h))
+    by-eq r (x .num) (λ q. clash (or-true-left _ (same-eq q)) h)
     (λ q. rw (ne-eqb (x .num) r (λ z. q (sym z))) (ap (λ (l : List Held). heldOf o x ∷ l) (without-none o P r (rw (same-ne r (x .num) q) at h))))
 
 pub without-map : (o : List ℕ) (P : List Pair) (a b : ℕ) (x : Pair) → Distinct P → look P a b ≡ some x → ringFreed (x .num) (map (heldOf o) P) ≡ map (heldOf o) (del a b P)
@@ -129,21 +130,21 @@ without-map o (y ∷ P) a b x (dcons n u j g) h =
     (λ q. let rx : y .num ≡ x .num = ap (λ (v : Pair). v .num) (some-inj (rw q at h)) in
     rw (q, eq-eqb (y .num) (x .num) rx) (without-none o P (x .num) (rw (← rx) n) ∙ ap (map (heldOf o)) (sym (del-none P a b (rw (pair-a a b y q, pair-b a b y q) u)))))
     (λ q. let m : look P a b ≡ some x = rw q at h in
-    rw (q, ne-eqb (y .num) (x .num) (λ w. true≢false (look-num P a b x m) (rw (← w) n))) (ap (λ (l : List Held). heldOf o y ∷ l) (without-map o P a b x g m)))
+    rw (q, ne-eqb (y .num) (x .num) (λ w. clash (look-num P a b x m) (rw (← w) n))) (ap (λ (l : List Held). heldOf o y ∷ l) (without-map o P a b x g m)))
 
 -- ---- what taking a pair out keeps
 pub num-del : (P : List Pair) (a b r : ℕ) → numIn r P ≡ false → numIn r (del a b P) ≡ false
 unfolding numIn del
 num-del [] a b r h = refl
 num-del (x ∷ P) a b r h =
-    by-bool (sameNumber r (x .num)) (λ q. absurd (true≢false (or-true-left _ q) h))
+    by-bool (sameNumber r (x .num)) (λ q. clash (or-true-left _ q) h)
     (λ q. let m : numIn r P ≡ false = rw q at h in by-bool (pairIs a b x) (λ w. rw w (num-del P a b r m)) (λ w. rw (w, q) (num-del P a b r m)))
 
 pub join-del : (P : List Pair) (a b r : ℕ) → joinIn r P ≡ false → joinIn r (del a b P) ≡ false
 unfolding joinIn del
 join-del [] a b r h = refl
 join-del (x ∷ P) a b r h =
-    by-bool (sameNumber r (x .join)) (λ q. absurd (true≢false (or-true-left _ q) h))
+    by-bool (sameNumber r (x .join)) (λ q. clash (or-true-left _ q) h)
     (λ q. let m : joinIn r P ≡ false = rw q at h in by-bool (pairIs a b x) (λ w. rw w (join-del P a b r m)) (λ w. rw (w, q) (join-del P a b r m)))
 
 look-del-none : (P : List Pair) (a b c d : ℕ) → look P c d ≡ none → look (del a b P) c d ≡ none
@@ -168,13 +169,13 @@ num-gone (y ∷ P) a b x (dcons n u j g) h =
     by-bool (pairIs a b y)
     (λ q. rw q (num-del P a b (x .num) (rw (← ap (λ (v : Pair). v .num) (some-inj (rw q at h))) n)))
     (λ q. let m : look P a b ≡ some x = rw q at h in
-    rw (q, same-ne (x .num) (y .num) (λ w. true≢false (look-num P a b x m) (rw w n))) (num-gone P a b x g m))
+    rw (q, same-ne (x .num) (y .num) (λ w. clash (look-num P a b x m) (rw w n))) (num-gone P a b x g m))
 
 pub num-del-true : (P : List Pair) (a b r : ℕ) → numIn r (del a b P) ≡ true → numIn r P ≡ true
-num-del-true P a b r h = by-bool (numIn r P) (λ q. q) (λ q. absurd (true≢false h (num-del P a b r q)))
+num-del-true P a b r h = by-bool (numIn r P) (λ q. q) (λ q. clash h (num-del P a b r q))
 
 pub join-del-true : (P : List Pair) (a b r : ℕ) → joinIn r (del a b P) ≡ true → joinIn r P ≡ true
-join-del-true P a b r h = by-bool (joinIn r P) (λ q. q) (λ q. absurd (true≢false h (join-del P a b r q)))
+join-del-true P a b r h = by-bool (joinIn r P) (λ q. q) (λ q. clash h (join-del P a b r q))
 
 in-cons : {x y : Pair} {P Q : List Pair} → (In x P → In x Q) → In x (y ∷ P) → In x (y ∷ Q)
 in-cons f here = here
@@ -231,7 +232,7 @@ pub record Pol (o : List ℕ) (d : ℕ → List BondEntry) (P : List Pair) : Typ
 pub is-none : (q : Option Pair) → isSome q ≡ false → q ≡ none
 unfolding isSome
 is-none none h = refl
-is-none (some r) h = absurd (true≢false refl h)
+is-none (some r) h = clash refl h
 
 -- an entry that is ahead opens nothing
 pub shut : {o : List ℕ} {d : ℕ → List BondEntry} {P : List Pair} → Pol o d P → (a b : ℕ) → hasT b (d a) ≡ false → look P a b ≡ none
@@ -246,7 +247,7 @@ opened-has {d = d} K a b x h = and-left (hasT b (d a)) _ (sym (K .opn a b) ∙ r
 pub both-ahead : {o : List ℕ} {d : ℕ → List BondEntry} {P : List Pair} → Pol o d P → (a b : ℕ) → hasT b (d a) ≡ false → look P b a ≡ none → hasT a (d b) ≡ false
 unfolding isSome
 both-ahead {d = d} K a b h l =
-    by-bool (hasT a (d b)) (λ q. absurd (true≢false {b = true} refl (let z = K .opn b a in let y : false ≡ true && not false = rw (l, q, h) at z in sym y))) (λ q. q)
+    by-bool (hasT a (d b)) (λ q. clash {b = true} refl (let z = K .opn b a in let y : false ≡ true && not false = rw (l, q, h) at z in sym y)) (λ q. q)
 
 pub hasT-app : (x : ℕ) (l m : List BondEntry) → hasT x (l ++ m) ≡ hasT x l || hasT x m
 unfolding hasT

@@ -4,20 +4,21 @@ use mathlib.Core.Path.{_≡_, refl, sym, ap, ap₂, _∙_, subst}
 use mathlib.Core.Logic.{_≢_}
 use mathlib.Core.List.{List, [], _∷_}
 use mathlib.Core.Option.{none, some}
-use mathlib.Core.Bool.{Bool, true, false}
+use mathlib.Core.Bool.{true, false}
 use Prim.Native.Nat.{ℕ, zero, suc, _+_, _*_, _≤_, _<_}
 use native.Mathlib.Omega.{arith}
 use lib.ListN.{length, getD, set, length-set, length-replicate}
 use lib.Seq.{getD-set-same, getD-set-other}
 use lib.Dec.{ltb, eqb}
 use borrow.Author.Tests.{eq-eqb, ne-eqb, eqb-true, lt-ltb, le-ltb, ltb-true, ltb-false}
-use Rattle.feature.specs.Pick.{pick, both}
+use Rattle.feature.specs.Pick.{pick}
+use Rattle.feature.proofs.Cases.{both-first, both-second, by-eq, clash}
 use Rattle.join_pool.specs.declared.Pool.{Pool}
 use Rattle.join_pool.specs.declared.Given.the-variants.{Number}
 use Rattle.join_pool.specs.Pairs.{highest, slotWords, pool, opens, openNumber, slot, counterNext, counterOf, nextOf, hits, openOf, closeOf, openOrClose, hitPair, hitOf}
 use Rattle.walk_laws.proofs.Sums.{zeros-at}
 use Rattle.trip_graph.specs.Opened.{sameNumber, Pair, ringPair, pairIs, look, del, numIn, Distinct, Opens, full, number, Serves}
-use Rattle.trip_graph.proofs.Lists.{same-eq, same-ne, eq-of-same, true≢false, by-eq, by-bool, or-true-left, or-elim}
+use Rattle.trip_graph.proofs.Lists.{same-eq, same-ne, eq-of-same, by-bool, or-true-left, or-elim}
 use Rattle.trip_graph.proofs.View.{some-inj, pair-a, pair-b}
 use Rattle.trip_graph.proofs.Opens.{In, in-case, look-in, in-num, num-find, no-member, in-look, in-del, in-kept, num-gone, num-del-true}
 
@@ -109,14 +110,6 @@ pub record Holds (p : Pool) (pairs : List ℕ) (P : List Pair) : Type 0 where
   below : (n : ℕ) → numIn n P ≡ true → (1 ≤ n) × (n < p .counter)
   spare : p .spare ≢ 0 → (p .spare < p .counter) × (numIn (p .spare) P ≡ false)
 
-both-one : (a b : Bool) → both a b ≡ true → a ≡ true
-both-one true b h = refl
-both-one false b h = h
-
-both-two : (a b : Bool) → both a b ≡ true → b ≡ true
-both-two true b h = h
-both-two false b h = absurd (true≢false h refl)
-
 slot-opens : (pairs : List ℕ) (x : Pair) (lo hi : ℕ) → Slot pairs x → loOf (x .from) (x .onto) ≡ lo → hiOf (x .from) (x .onto) ≡ hi → opens pairs (x .num) lo hi ≡ true
 unfolding opens
 slot-opens pairs x lo hi s l h = rw (eq-eqb _ 1 (s .open1), eq-eqb _ lo (s .lower ∙ l), eq-eqb _ hi (s .higher ∙ h))
@@ -142,7 +135,7 @@ module _ (pairs : List ℕ) (lo hi : ℕ) where
   search-is r zero l h o u = absurd (omega arith)
   search-is r (suc n) l h o u =
       by-bool (opens pairs (suc n) lo hi) (λ q. rw q (u (suc n) q))
-      (λ q. rw q (search-is r n l (by-eq r (suc n) (λ e. absurd (true≢false o (rw e q))) (λ e. omega arith)) o u))
+      (λ q. rw q (search-is r n l (by-eq r (suc n) (λ e. clash o (rw e q)) (λ e. omega arith)) o u))
 
 -- ---- the counter
 grown-range : (c : ℕ) → c ≤ 100 → (c ≤ counterNext c) × (counterNext c ≤ 100) × (c ≤ 99 → c < counterNext c)
@@ -168,10 +161,10 @@ module _ (p : Pool) (pairs : List ℕ) (P : List Pair) (H : Holds p pairs P) (g 
   opened : (n lo hi : ℕ) → opens pairs n lo hi ≡ true → Opened n lo hi
   unfolding opens
   opened n lo hi h =
-      let a : getD pairs (n * slotWords) 0 ≡ 1 = eqb-true _ 1 (both-one _ _ h) in
-      let t = both-two (eqb (getD pairs (n * slotWords) 0) 1) _ h in
-      let b : getD pairs (n * slotWords + 1) 0 ≡ lo = eqb-true _ lo (both-one _ _ t) in
-      let c : getD pairs (n * slotWords + 2) 0 ≡ hi = eqb-true _ hi (both-two (eqb (getD pairs (n * slotWords + 1) 0) lo) _ t) in
+      let a : getD pairs (n * slotWords) 0 ≡ 1 = eqb-true _ 1 (both-first _ _ h) in
+      let t = both-second (eqb (getD pairs (n * slotWords) 0) 1) _ h in
+      let b : getD pairs (n * slotWords + 1) 0 ≡ lo = eqb-true _ lo (both-first _ _ t) in
+      let c : getD pairs (n * slotWords + 2) 0 ≡ hi = eqb-true _ hi (both-second (eqb (getD pairs (n * slotWords + 1) 0) lo) _ t) in
       by-bool (numIn n P)
       (λ q. let f = num-find P n q in
       let s = H .slots (f .0) (f .1) in
@@ -237,7 +230,7 @@ module _ (p : Pool) (pairs : List ℕ) (P : List Pair) (H : Holds p pairs P) (g 
             room = slot-length pairs (x .num) 0 0 0 ∙ H .room;
             low = omega (arith, H .low);
             high = c .1;
-            slots = λ y i. slot-kept pairs (x .num) 0 0 0 y (λ z. true≢false (in-num y (del t s P) i) (rw z gone)) (H .slots y (in-del P t s y i));
+            slots = λ y i. slot-kept pairs (x .num) 0 0 0 y (λ z. clash (in-num y (del t s P) i) (rw z gone)) (H .slots y (in-del P t s y i));
             free = λ n h. by-eq n (x .num)
                 (λ e. rw e (slot-open pairs (x .num) 0 0 0 (omega arith)))
                 (λ e. slot-away pairs (x .num) 0 0 0 (n * slotWords) (λ z. e (omega arith)) (λ z. omega arith) (λ z. omega arith)
@@ -245,7 +238,7 @@ module _ (p : Pool) (pairs : List ℕ) (P : List Pair) (H : Holds p pairs P) (g 
                 (λ q. let k = num-find P n q in
                 by-bool (pairIs t s (k .0))
                 (λ z. absurd (e (sym (k .2) ∙ ap (λ (y : Pair). y .num) (some-inj (sym (in-look P (k .0) t s g (k .1) (pair-a t s (k .0) z) (pair-b t s (k .0) z)) ∙ l)))))
-                (λ z. absurd (true≢false (in-num (k .0) (del t s P) (in-kept P t s (k .0) (k .1) z)) (rw (k .2) h))))
+                (λ z. clash (in-num (k .0) (del t s P) (in-kept P t s (k .0) (k .1) z)) (rw (k .2) h)))
                 (λ q. q)));
             below = λ n h. let a = H .below n (num-del-true P t s n h) in (a .0, omega arith);
             spare = λ h. (omega arith, gone);
@@ -281,9 +274,9 @@ module _ (p : Pool) (pairs : List ℕ) (P : List Pair) (H : Holds p pairs P) (g 
                   lower = slot-lo pairs n 1 (loOf s t) (hiOf s t) rm;
                   higher = slot-hi pairs n 1 (loOf s t) (hiOf s t) rm;
                 }))
-                (λ k. slot-kept pairs n 1 (loOf s t) (hiOf s t) y (λ z. true≢false (in-num y P k) (rw z (nf .2))) (H .slots y k));
+                (λ k. slot-kept pairs n 1 (loOf s t) (hiOf s t) y (λ z. clash (in-num y P k) (rw z (nf .2))) (H .slots y k));
             free = λ m k. by-eq m (nextOf p)
-                (λ e. absurd (true≢false (or-true-left _ (same-eq e)) k))
+                (λ e. clash (or-true-left _ (same-eq e)) k)
                 (λ e. slot-away pairs n 1 (loOf s t) (hiOf s t) (m * slotWords) (λ z. e (omega arith)) (λ z. omega arith) (λ z. omega arith)
                 ∙ H .free m (rw (same-ne m (nextOf p) e) at k));
             below = λ m k. or-elim (sameNumber m (nextOf p)) (numIn m P) k
@@ -307,9 +300,9 @@ pool-serves = record {
     room = length-replicate {A = ℕ} 300 0;
     low = omega arith;
     high = omega arith;
-    slots = λ x i. absurd (true≢false (in-num x [] i) refl);
+    slots = λ x i. clash (in-num x [] i) refl;
     free = λ n h. zeros-at 300 (n * slotWords);
-    below = λ n h. absurd (true≢false h refl);
+    below = λ n h. clash h refl;
     spare = λ h. absurd (h refl);
   };
   closes = λ p pairs P s t x H g a l l′.

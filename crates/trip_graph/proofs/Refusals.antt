@@ -3,7 +3,7 @@
 use mathlib.Core.Path.{_≡_, refl, sym, subst}
 use mathlib.Core.Logic.{_≢_}
 use mathlib.Core.List.{List}
-use mathlib.Core.Bool.{Bool, true, false}
+use mathlib.Core.Bool.{true}
 use Prim.Native.Nat.{ℕ, zero, suc, _+_, _≤_, _<_}
 use native.Mathlib.Omega.{arith}
 use lib.ListN.{getD}
@@ -18,12 +18,11 @@ use Rattle.walk_entry.specs.Ways.{isFixed, even, inversion}
 use Rattle.walk.specs.declared.walker.Walker.{Walker}
 use Rattle.walk.specs.Walk.{Walk, Turn, quiet, withWalker, tookAt, leftIn, rootTurn, leaveOf, numberedOf, ringTurn, enteredOf, enterTurn, bondTurn, entryTurn, atomOf, turnOf, stepOf, walkTo, unknownTarget, ringNumbers}
 use Rattle.walk_laws.specs.Trek.{Room, fresh}
-use Rattle.feature.proofs.Cases.{by-test}
+use Rattle.feature.proofs.Cases.{by-test, both-first, clash}
 use Rattle.walk_laws.proofs.Moves.{turn-moves}
 use Rattle.walk_laws.proofs.Sound.{Sound, sound-start, step-sound, up-within}
 use Rattle.trip_graph.specs.Renumber.{Simple, Known}
 use Rattle.trip_graph.specs.Marks.{Tetrahedral}
-use Rattle.trip_graph.proofs.Lists.{true≢false}
 use Rattle.trip_graph.proofs.Marks.{marks-serve}
 use Rattle.trip_graph.proofs.Ways.{way-is}
 
@@ -33,10 +32,6 @@ pub data Only (g : Graph) (r : ℕ) : Type 0 where
   unknown : r ≡ unknownTarget → (a i : ℕ) → a < g .size → i < degreeAt g a → g .size ≤ bondOf g a i .to → Only g r
   numbers : r ≡ ringNumbers → Only g r
   mark : r ≡ inversion → (t : ℕ) → t < g .size → isFixed (kindAt g t) ≡ true → Only g r
-
-both-left : (a b : Bool) → both a b ≡ true → a ≡ true
-both-left true b h = refl
-both-left false b h = h
 
 module _ (g : Graph) (W : Simple g) (w : Walk) (dep : ℕ) (snd : Sound g w dep) (fine : w .at .refusal ≡ 0) where
   abbrev O : Turn → Type 0
@@ -77,7 +72,7 @@ module _ (g : Graph) (W : Simple g) (w : Walk) (dep : ℕ) (snd : Sound g w dep)
         let k = W .backed s0 i0 hs more in
         subst (λ (y : Way). O (enteredOf g (tookAt w s0 i0) (e0 .kind) (e0 .to) y)) (sym (way-is g W s0 i0 (e0 .to) ht refl k))
         (by-test (λ (y : Way). O (enteredOf g (tookAt w s0 i0) (e0 .kind) (e0 .to) y)) (both (isFixed (kindAt g (e0 .to))) (even (k .place)))
-        (λ q. mark refl (e0 .to) ht (both-left _ _ q)) (λ q. none fine))
+        (λ q. mark refl (e0 .to) ht (both-first _ _ q)) (λ q. none fine))
 
     bond-only : O (bondTurn g (tookAt w s0 i0) s0 e0)
     unfolding bondTurn ringTurn
@@ -120,4 +115,4 @@ rings-only g W K T lm lw lb lt pairs r t h = go (only-refusals g W lm lw lb lt p
     go (none e) = absurd (h e)
     go (unknown e a i l q f) = absurd (omega (arith, f, K a i l q))
     go (numbers e) = e
-    go (mark e a l f) = absurd (true≢false f (marks-serve .free (kindAt g a) (T a l)))
+    go (mark e a l f) = clash f (marks-serve .free (kindAt g a) (T a l))

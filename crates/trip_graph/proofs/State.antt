@@ -12,6 +12,7 @@ use lib.Seq.{getD-set-same, getD-set-other}
 use Rattle.feature.specs.Pick.{pick}
 use Rattle.feature.specs.Bonds.{reverseOf}
 use Rattle.feature.specs.declared.atom_kind.AtomKind.{AtomKind}
+use Rattle.feature.proofs.Cases.{by-eq, clash}
 use Rattle.join_pool.specs.declared.Pool.{Pool}
 use Rattle.walk_entry.specs.Graph.{BondEntry, Graph, kindAt, degreeAt, bondIn, bondOf, entryTo}
 use Rattle.walk.specs.declared.walker.Walker.{Walker}
@@ -21,7 +22,7 @@ use Rattle.trip_graph.specs.Opened.{sameNumber}
 use Rattle.trip_graph.specs.Renumber.{Backed, Simple}
 use Rattle.trip_graph.specs.Renumbered.{doneOf, firstAtoms}
 use Rattle.trip_graph.specs.Marks.{backKind}
-use Rattle.trip_graph.proofs.Lists.{memb, idx, Nodup, same-ne, eq-of-same, true≢false, by-eq, by-bool, or-elim, idx-app, idx-new, nodup-snoc, memb-left, memb-new, memb-old, ne-of-memb, not-new, memb-cons, memb-there, memb-here}
+use Rattle.trip_graph.proofs.Lists.{memb, idx, Nodup, same-ne, eq-of-same, by-bool, or-elim, idx-app, idx-new, nodup-snoc, memb-left, memb-new, memb-old, ne-of-memb, not-new, memb-cons, memb-there, memb-here}
 use Rattle.trip_graph.proofs.View.{hasT, push, push-same, push-other}
 use Rattle.trip_graph.proofs.Opens.{hasT-push}
 use Rattle.trip_graph.proofs.Entries.{done-step, done-pass, done-nothing, done-parent, done-fresh}
@@ -197,8 +198,8 @@ module _ {g : Graph} {w : Walk} {o fr : List ℕ} (S : Sta g w o fr) where
         backs = S .backs;
         takes = S .takes;
         left = λ v m k. by-eq v (w .at .here) (λ q. rw q h) (λ q. S .left v m (rw (e, same-ne v (w .at .here) q)));
-        held = λ v m. absurd (true≢false m refl);
-        line = λ q. absurd (true≢false q refl);
+        held = λ v m. clash m refl;
+        line = λ q. clash q refl;
         rest = λ q. refl;
       }
 
@@ -221,7 +222,7 @@ module _ {g : Graph} {w : Walk} {o fr : List ℕ} (S : Sta g w o fr) where
         left = λ v m k. by-eq v (w .at .here) (λ q. rw q h) (λ q. S .left v m (rw (A .is, same-ne v (w .at .here) q) k));
         held = λ v m. S .held v (rw (A .is) (memb-there v (w .at .here) (A .rest) m));
         line = λ q. A .line;
-        rest = λ q. absurd (true≢false refl q);
+        rest = λ q. clash refl q;
       }
 
   -- the entry at hand taken: other pool and pops, and what it leads to was met
@@ -238,7 +239,7 @@ module _ {g : Graph} {w : Walk} {o fr : List ℕ} (S : Sta g w o fr) where
     left-next : (v : ℕ) → memb v o ≡ true → memb v fr ≡ false → degreeAt g v ≤ getD (set (w .taken) (w .at .here) (getD (w .taken) (w .at .here) 0 + 1)) v 0
     left-next v m k =
         let h = line-head (S .line r) in
-        let ne : v ≢ w .at .here = λ e. true≢false (rw (h .is) (memb-here (h .rest) e)) k in
+        let ne : v ≢ w .at .here = λ e. clash (rw (h .is) (memb-here (h .rest) e)) k in
         rw (getD-set-other (w .taken) (w .at .here) v (getD (w .taken) (w .at .here) 0 + 1) 0 ne) (S .left v m k)
 
     pub sta-pass : getD (w .back) (w .at .here) 0 ≡ getD (w .taken) (w .at .here) 0 + 1 → Sta g (tookAt w (w .at .here) (getD (w .taken) (w .at .here) 0)) o fr
@@ -355,10 +356,10 @@ module _ {g : Graph} {w : Walk} {o fr : List ℕ} (S : Sta g w o fr) where
           seen = subst (λ (d : ℕ → List BondEntry). (v x : ℕ) → hasT x (d v) ≡ true → memb x (o ++ (t ∷ [])) ≡ true) (sym (root-done g (w .back) (w .taken) t rb (S .unback t mt))) (λ v x h. memb-left x t o (S .seen v x h));
           backs = backs-next 0 (omega arith);
           takes = S .takes;
-          left = λ v m k. by-eq v t (λ q. absurd (true≢false (memb-here [] q) k)) (λ q. S .left v (sym (memb-old v t o q) ∙ m) (rw e refl));
-          held = λ v m. by-eq v t (λ q. rw q (memb-new t o)) (λ q. absurd (true≢false (memb-cons v t [] m q) refl));
+          left = λ v m k. by-eq v t (λ q. clash (memb-here [] q) k) (λ q. S .left v (sym (memb-old v t o q) ∙ m) (rw e refl));
+          held = λ v m. by-eq v t (λ q. rw q (memb-new t o)) (λ q. clash (memb-cons v t [] m q) refl);
           line = λ q. base t (getD-set-same (w .back) t 0 0 rb);
-          rest = λ q. absurd (true≢false refl q);
+          rest = λ q. clash refl q;
         }
 
 -- a new atom entered from the standing one, whose entry at hand is taken
@@ -407,11 +408,11 @@ module _ {g : Graph} {w : Walk} {o fr : List ℕ} (S : Sta g w o fr)
             (λ p. seen-push S rt r more apart (o ++ (t ∷ [])) (λ x m. memb-left x t o m) (rw to (memb-new t o)) v x (rw (push-other t bb (push s e d) v p) at q)));
         backs = backs-next S t rm rb ht mt few b (k .within);
         takes = takes-next S rt r more;
-        left = λ v m q. by-eq v t (λ p. absurd (true≢false (memb-here fr p) q))
-            (λ p. left-next S rt r more v (sym (memb-old v t o p) ∙ m) (by-bool (memb v fr) (λ y. absurd (true≢false (memb-there v t fr y) q)) (λ y. y)));
+        left = λ v m q. by-eq v t (λ p. clash (memb-here fr p) q)
+            (λ p. left-next S rt r more v (sym (memb-old v t o p) ∙ m) (by-bool (memb v fr) (λ y. clash (memb-there v t fr y) q) (λ y. y)));
         held = λ v m. by-eq v t (λ p. rw p (memb-new t o)) (λ p. memb-left v t o (S .held v (memb-cons v t fr m p)));
         line = λ q. up t fr (λ y. let x : b ≡ 0 = sym z ∙ y in omega arith)
             (subst (λ (i : ℕ). Line g (set (w .back) t b) (bondIn (g .bonds) (g .first) t (i - 1) .to) fr) (sym z)
             (subst (λ (i : ℕ). Line g (set (w .back) t b) i fr) (sym (ap (λ (x : BondEntry). x .to) back-bond)) (line-kept g (w .back) t b s fr off (S .line r))));
-        rest = λ q. absurd (true≢false refl q);
+        rest = λ q. clash refl q;
       }

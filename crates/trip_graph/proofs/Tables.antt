@@ -13,11 +13,12 @@ use Rattle.feature.specs.declared.atom_kind.AtomKind.{AtomKind}
 use Rattle.feature.specs.declared.atom_kind.AtomKind.the-variants.{Star}
 use Rattle.feature.specs.declared.bond_kind.BondKind.{BondKind}
 use Rattle.feature.specs.declared.bond_kind.BondKind.the-variants.{Elided}
+use Rattle.feature.proofs.Cases.{by-eq}
+use Rattle.feature.proofs.Bonds.{sure-code}
 use Rattle.packing.specs.declared.Loaded.{Loaded}
 use Rattle.packing.specs.declared.Loaded.the-variants as loaded
 use Rattle.packing.specs.Words as words
 use Rattle.packing.proofs.Laws.{load-words, only}
-use Rattle.builder_meaning.proofs.Twins.{sure-code}
 use Rattle.builder.specs.Limits.{atomLimit}
 use Rattle.builder.specs.Build as build
 use Rattle.builder.proofs.Degrees.{entry-starts-length}
@@ -28,7 +29,6 @@ use Rattle.walk_laws.specs.Trek.{degrees}
 use Rattle.trip_graph.specs.Renumber.{numberedAs, Numbering, Renumbers}
 use Rattle.trip_graph.specs.Renumbered.{entriesOf, edgeOf, nodeOf, Numbers, firstAtoms, renumbered}
 use Rattle.trip_graph.specs.Marks.{Tetrahedral, backKind}
-use Rattle.trip_graph.proofs.Lists.{by-eq}
 use Rattle.trip_graph.proofs.Entries.{entries-length}
 use Rattle.trip_graph.proofs.Marks.{marks-serve}
 use Rattle.trip_graph.proofs.Trip.{atoms-length, atoms-at, renumbered-length}

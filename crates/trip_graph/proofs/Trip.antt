@@ -8,6 +8,7 @@ use Prim.Native.Nat.{ℕ, zero, suc, _-_, _≤_, _<_}
 use native.Mathlib.Omega.{arith}
 use lib.ListN.{length, getD, replicate, length-append, length-map, length-replicate}
 use borrow.Author.Tests.{eq-eqb, ne-eqb}
+use Rattle.feature.proofs.Cases.{by-eq, clash}
 use Rattle.join_pool.specs.declared.Pool.{Pool}
 use Rattle.writer.specs.Line.{Event, Root, Extend, Join, Pop}
 use Rattle.builder_meaning.specs.Sketch.{To, Edge, Sketch, node, startS, runS, countOf, openHere, openIn, firstOpenS, ringsSay, saysS, finishS}
@@ -24,7 +25,7 @@ use Rattle.trip_graph.specs.Renumber.{Simple, Known, Backed, Numbering}
 use Rattle.trip_graph.specs.Steps.{Built}
 use Rattle.trip_graph.specs.Renumbered.{entriesOf, edgeOf, nodeOf, Numbers, byWalk, firstAtoms, renumbered}
 use Rattle.trip_graph.specs.Marks.{Tetrahedral, backKind}
-use Rattle.trip_graph.proofs.Lists.{memb, idx, Nodup, nil, cons, same-refl, same-eq, same-ne, true≢false, by-eq, map-same, idx-lt, memb-here, memb-there}
+use Rattle.trip_graph.proofs.Lists.{memb, idx, Nodup, nil, cons, same-refl, same-eq, same-ne, map-same, idx-lt, memb-here, memb-there}
 use Rattle.trip_graph.proofs.View.{hasT, tgt, encT, aim, view, enc-same, look-here, pair-this}
 use Rattle.trip_graph.proofs.Opens.{Pol, fnil, from-first, isSome, heldOf}
 use Rattle.trip_graph.proofs.Entries.{Behind, first, done-all, done-has, done-length, done-nothing, entries-length}
@@ -105,15 +106,15 @@ module _ (H : Pool → List ℕ → List Pair → Type 0) (Q : Serves H) (g : Gr
     met = λ x. zeros-at lm x;
     order = refl;
     wide = rw (length-replicate {A = ℕ} lw 0) wide;
-    small = λ x h. absurd (true≢false h refl);
+    small = λ x h. clash h refl;
     unback = λ v h. zeros-at lb v;
     untaken = λ v h. zeros-at lt v;
-    seen = λ v x h. absurd (true≢false h (has-start v x));
+    seen = λ v x h. clash h (has-start v x);
     backs = λ v. rw (zeros-at lb v) (omega arith);
     takes = λ v. rw (zeros-at lt v) (omega arith);
-    left = λ v m k. absurd (true≢false m refl);
-    held = λ v m. absurd (true≢false m refl);
-    line = λ q. absurd (true≢false q refl);
+    left = λ v m k. clash m refl;
+    held = λ v m. clash m refl;
+    line = λ q. clash q refl;
     rest = λ q. refl;
   }
 
@@ -136,7 +137,7 @@ module _ (H : Pool → List ℕ → List Pair → Type 0) (Q : Serves H) (g : Gr
       fine = refl;
       places = hp;
       slots = hs;
-      joins = λ j h. absurd (true≢false h refl);
+      joins = λ j h. clash h refl;
     };
     fine = refl;
   }
@@ -145,7 +146,7 @@ module _ (H : Pool → List ℕ → List Pair → Type 0) (Q : Serves H) (g : Gr
 -- lists by place
 at-idx : (x : ℕ) (o : List ℕ) → memb x o ≡ true → getD o (idx x o) 0 ≡ x
 unfolding memb idx
-at-idx x [] h = absurd (true≢false h refl)
+at-idx x [] h = clash h refl
 at-idx x (y ∷ o) h = by-eq x y (λ e. rw (same-eq e) (sym e)) (λ e. rw (same-ne x y e) (at-idx x o (rw (same-ne x y e) at h)))
 
 at-memb : (o : List ℕ) (v : ℕ) → v < length o → memb (getD o v 0) o ≡ true
@@ -158,7 +159,7 @@ unfolding idx
 idx-at v nil h = absurd (omega arith)
 idx-at zero (cons {x = y} {l = o} k n) h = rw (same-refl y)
 idx-at (suc v) (cons {x = y} {l = o} k n) h =
-    rw (same-ne (getD o v 0) y (λ e. true≢false (at-memb o v (omega arith)) (rw e k))) (ap suc (idx-at v n (omega arith)))
+    rw (same-ne (getD o v 0) y (λ e. clash (at-memb o v (omega arith)) (rw e k))) (ap suc (idx-at v n (omega arith)))
 
 pub atoms-length : (atom : ℕ → ℕ) (n : ℕ) → length (firstAtoms atom n) ≡ n
 unfolding firstAtoms
@@ -183,9 +184,9 @@ atoms-at atom (suc n) v h =
     (λ e. at-left (firstAtoms atom n) (atom n ∷ []) v (omega (arith, atoms-length atom n)) ∙ atoms-at atom n v (omega arith))
 
 not-lone : (p q : Bool) → p && not q ≡ true → (p ≡ true → q ≡ true) → ⊥
-not-lone true true h f = true≢false h refl
-not-lone true false h f = true≢false (f refl) refl
-not-lone false q h f = true≢false h refl
+not-lone true true h f = clash h refl
+not-lone true false h f = clash (f refl) refl
+not-lone false q h f = clash h refl
 
 -- no entry is open
 first-none : (number : ℕ → ℕ) (es : List BondEntry) (q : Option ℕ) → openIn (map (edgeOf number) es) q ≡ q

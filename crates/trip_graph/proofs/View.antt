@@ -3,7 +3,7 @@ use mathlib.Core.Path.{_≡_, refl, sym, ap, ap₂, _∙_}
 use mathlib.Core.Logic.{_≢_}
 use mathlib.Core.List.{List, [], _∷_, _++_, map}
 use mathlib.Core.Option.{Option, none, some}
-use mathlib.Core.Bool.{Bool, true, false, _||_}
+use mathlib.Core.Bool.{Bool, true, false, _||_, and-false}
 use Prim.Native.Nat.{ℕ}
 use native.Mathlib.Omega.{arith}
 use lib.ListN.{length}
@@ -12,10 +12,11 @@ use Rattle.feature.specs.Bonds.{reverseOf}
 use Rattle.feature.specs.declared.atom_kind.AtomKind.{AtomKind}
 use Rattle.feature.specs.declared.bond_kind.BondKind.{BondKind}
 use Rattle.feature.specs.declared.bond_kind.BondKind.the-variants.{Elided}
+use Rattle.feature.proofs.Cases.{by-eq, clash}
 use Rattle.builder_meaning.specs.Sketch.{Target, To, Open, Edge, Node, edge, node, upd, edgesAt, addEdge, waits, openKind, fillEdges, fill}
 use Rattle.walk_entry.specs.Graph.{BondEntry, entryTo}
 use Rattle.trip_graph.specs.Opened.{sameNumber, Pair, ringPair, pairIs, look, del}
-use Rattle.trip_graph.proofs.Lists.{memb, idx, Nodup, same-refl, same-eq, same-ne, eq-of-same, true≢false, by-eq, by-bool, and-false, and-left, and-right, idx-app, idx-new, map-same, map-upd, map-app, or-true}
+use Rattle.trip_graph.proofs.Lists.{memb, idx, Nodup, same-refl, same-eq, same-ne, eq-of-same, by-bool, and-left, and-right, idx-app, idx-new, map-same, map-upd, map-app, or-true}
 
 unfoldable pub hasT : ℕ → List BondEntry → Bool
 hasT x [] = false
@@ -148,7 +149,7 @@ module _ (τ τ′ : ℕ → Target) (r : ℕ) (k : BondKind) (s i : ℕ) (here 
       let kq : e .kind ≡ k = rw (same-eq p) at q in
       let g : τ′ (e .to) ≡ To i = rw p at set in
       rw z (ap₂ (λ (a : Edge) (b : List Edge). a ∷ b) (edge-eq (sym kq) (sym g))
-      (enc-same τ τ′ l (λ x m. sym (keep x (λ w. true≢false (rw (w, p) at m) f))))))
+      (enc-same τ τ′ l (λ x m. sym (keep x (λ w. clash (rw (w, p) at m) f))))))
       (λ p. rw (others (e .to) (λ w. p (sym w))) (ap₂ (λ (a : Edge) (b : List Edge). a ∷ b) (edge-eq refl (sym (keep (e .to) (λ w. p (sym w)))))
       (fill-enc l n (rw (same-ne s (e .to) p) at h) (rw (same-ne s (e .to) p) at q))))
 
@@ -173,7 +174,7 @@ module _ (κ : ℕ → AtomKind) (o : List ℕ) (P : List Pair) (d : ℕ → Lis
       let n : Pair = ringPair s (e .to) r j in
       map-upd (view κ o P d) (view κ o (n ∷ P) (push s e d)) _ s o nod ms
       (view-add κ κ o o P (n ∷ P) d (push s e d) s e (Open j) refl (push-same s e d)
-      (λ x k. aim-eq o o P (n ∷ P) s x (look-skip n P s x (pair-onto s x n (λ q. true≢false k (rw q fresh)))) refl)
+      (λ x k. aim-eq o o P (n ∷ P) s x (look-skip n P s x (pair-onto s x n (λ q. clash k (rw q fresh)))) refl)
       (rw (look-here n P s (e .to) (pair-this s (e .to) n refl refl))))
       (λ v h m. view-same κ κ o o P (n ∷ P) d (push s e d) v refl (push-other s e d v h)
       (λ x k. aim-eq o o P (n ∷ P) v x (look-skip n P v x (pair-from v x n h)) refl))
@@ -190,19 +191,19 @@ module _ (κ : ℕ → AtomKind) (o : List ℕ) (P : List Pair) (d : ℕ → Lis
       let back : BondEntry = entryTo (reverseOf (e .kind)) s in
       let d1 : ℕ → List BondEntry = push s e d in
       let d2 : ℕ → List BondEntry = push t back d1 in
-      let s≢t : s ≢ t = λ q. true≢false (rw q at ms) mt in
+      let s≢t : s ≢ t = λ q. clash (rw q at ms) mt in
       let old : (v x : ℕ) → hasT x (d v) ≡ true → aim o′ P v x ≡ aim o P v x = λ v x k. aim-eq o o′ P P v x refl (idx-app x o (t ∷ []) (seen v x k)) in
       let here : view κ′ o′ P d2 s ≡ addEdge (edge (e .kind) (To (length o))) (view κ o P d s) =
       view-add κ κ′ o o′ P P d d2 s e (To (length o)) (kq s s≢t) (push-other t back d1 s s≢t ∙ push-same s e d) (old s) (rw (l1, idx-new t o mt)) in
       let others : (v : ℕ) → v ≢ s → memb v o ≡ true → view κ′ o′ P d2 v ≡ view κ o P d v =
-      λ v h m. let vt : v ≢ t = λ q. true≢false (rw q at m) mt in view-same κ κ′ o o′ P P d d2 v (kq v vt) (push-other t back d1 v vt ∙ push-other s e d v h) (old v) in
+      λ v h m. let vt : v ≢ t = λ q. clash (rw q at m) mt in view-same κ κ′ o o′ P P d d2 v (kq v vt) (push-other t back d1 v vt ∙ push-other s e d v h) (old v) in
       let last : view κ′ o′ P d2 t ≡ node (κ′ t) (edge (reverseOf (e .kind)) (To (idx s o)) ∷ []) =
       view-one κ′ o′ P d2 t back (To (idx s o)) (push-same t back d1 ∙ ap (λ (l : List BondEntry). l ++ (back ∷ [])) (push-other s e d t (λ q. s≢t (sym q)) ∙ ut)) (rw (l2, idx-app s o (t ∷ []) ms)) in
       map-app (view κ′ o′ P d2) o (t ∷ []) ∙ ap₂ (λ (a : List Node) (b : Node). a ++ (b ∷ [])) (map-upd (view κ o P d) (view κ′ o′ P d2) _ s o nod ms here others) last
 
 edges-map : (t : ℕ) (F : ℕ → Node) (o : List ℕ) → memb t o ≡ true → edgesAt (idx t o) (map F o) ≡ F t .edges
 unfolding edgesAt idx memb
-edges-map t F [] m = absurd (true≢false m refl)
+edges-map t F [] m = clash m refl
 edges-map t F (x ∷ o) m = by-eq t x (λ p. rw (same-eq p) (rw p refl)) (λ p. rw (same-ne t x p) (edges-map t F o (rw (same-ne t x p) at m)))
 
 pub none≢some : {a : Pair} → _≡_ {A = Option Pair} none (some a) → ⊥
@@ -219,7 +220,7 @@ module _ (κ : ℕ → AtomKind) (o : List ℕ) (P : List Pair) (d : ℕ → Lis
     (nodt : NodupB (d (e .to))) (has : hasT s (d (e .to)) ≡ true) (back : kindT s (d (e .to)) ≡ reverseOf (e .kind)) where
   waits-one : (x : ℕ) (q : Option Pair) (i : ℕ) → look P (e .to) x ≡ q → waits (r .join) (tgt q i) ≡ true → x ≡ s
   unfolding waits tgt
-  waits-one x none i l h = absurd (true≢false h refl)
+  waits-one x none i l h = clash h refl
   waits-one x (some a) i l h = one x a l (eq-of-same (a .join) (r .join) (unfold sameNumber in h))
 
   waits-here : waits (r .join) (aim o P (e .to) s) ≡ true
@@ -275,5 +276,5 @@ view-root κ κ′ o P d i kq mi seen u =
     let o′ : List ℕ = o ++ (i ∷ []) in
     map-app (view κ′ o′ P d) o (i ∷ [])
     ∙ ap₂ (λ (a : List Node) (b : Node). a ++ (b ∷ []))
-    (map-same (view κ o P d) (view κ′ o′ P d) o (λ v m. view-same κ κ′ o o′ P P d d v (kq v (λ q. true≢false (rw q at m) mi)) refl (λ x k. aim-eq o o′ P P v x refl (idx-app x o (i ∷ []) (seen v x k)))))
+    (map-same (view κ o P d) (view κ′ o′ P d) o (λ v m. view-same κ κ′ o o′ P P d d v (kq v (λ q. clash (rw q at m) mi)) refl (λ x k. aim-eq o o′ P P v x refl (idx-app x o (i ∷ []) (seen v x k)))))
     (rw u)

@@ -16,10 +16,11 @@ use Rattle.feature.specs.declared.atom_kind.AtomKind.{AtomKind}
 use Rattle.feature.specs.declared.atom_kind.AtomKind.the-variants.{Star, Aliphatic, Aromatic, Bracket}
 use Rattle.feature.specs.declared.bond_kind.BondKind.{BondKind}
 use Rattle.feature.specs.declared.bond_kind.BondKind.the-variants as kind
+use Rattle.feature.proofs.Cases.{both-true, true-of}
 use Rattle.spell.specs.Spell.{nameText, organicSymbols, bracketText, kindText, atomText, bondText, digits, rnumText}
 use Rattle.read_token.specs.Scan.{signKind, markWidth}
 use Rattle.survive.specs.Survive.{survives, canFollow}
-use Rattle.survive.proofs.Checked.{below, both-true}
+use Rattle.survive.proofs.Checked.{below}
 use Rattle.survive.proofs.ReadBack.{survives-ranged, text-of}
 use Rattle.read_line.specs.Parse.{bodyOf}
 
@@ -47,10 +48,6 @@ pub record Plain (t : List ℕ) : Type 0 where
 -- so it is not empty
 pub plain-long : {t : List ℕ} → Plain t → 0 < length t
 plain-long {t} p = omega (arith, ap length (p .is))
-
-true-of : (b : Bool) → T b → b ≡ true
-true-of true t = refl
-true-of false t = absurd t
 
 of-test : (t : List ℕ) → T (plainText t) → Plain t
 of-test [] h = absurd h

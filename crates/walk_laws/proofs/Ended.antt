@@ -4,7 +4,7 @@ use Prim.Native.Nat.{ℕ, zero, suc, _+_, _-_, _≤_, _<_}
 use mathlib.Core.Path.{_≡_, refl, sym, ap, _∙_}
 use mathlib.Core.Logic.{_≢_}
 use mathlib.Core.List.{List}
-use mathlib.Core.Bool.{Bool, true, false}
+use mathlib.Core.Bool.{Bool, true, false, false≢true}
 use native.Mathlib.Omega.{arith}
 use lib.ListN.{getD}
 use lib.Dec.{leb, eqb}
@@ -15,7 +15,7 @@ use Rattle.walk_laws.specs.Trek.{Room, fresh, degrees, Finished}
 use Rattle.feature.proofs.Cases.{by-test}
 use Rattle.walk_laws.proofs.Moves.{Move, still, skip, root, ends, leaves, takes, refuses, joins, enters, turn-moves}
 use Rattle.walk_laws.proofs.Sums.{unmet, unmet-set, unmet-none, unmet-all, entriesLeft, left-all}
-use Rattle.walk_laws.proofs.Sound.{no, Sound, up-some, sound-start, step-sound}
+use Rattle.walk_laws.proofs.Sound.{Sound, up-some, sound-start, step-sound}
 use Rattle.walk_laws.proofs.Fits.{left-less}
 
 -- what is left to do: roots to try, entries to take, atoms to meet, and d atoms on the way up to leave
@@ -32,8 +32,8 @@ done-stays : (g : Graph) (w : Walk) → w .at .standing ≡ false → g .size �
 unfolding stepOf turnOf rootTurn
 done-stays g w r h =
     by-test (λ (x : Turn). x .after ≡ w) (eqb (w .at .refusal) 0)
-    (λ q. by-test (λ (x : Turn). x .after ≡ w) (w .at .standing) (λ z. absurd (no (sym r ∙ z)))
-    (λ z. by-test (λ (x : Turn). x .after ≡ w) (leb (g .size) (w .at .next)) (λ y. refl) (λ y. absurd (no (sym y ∙ le-leb _ _ h)))))
+    (λ q. by-test (λ (x : Turn). x .after ≡ w) (w .at .standing) (λ z. absurd (false≢true (sym r ∙ z)))
+    (λ z. by-test (λ (x : Turn). x .after ≡ w) (leb (g .size) (w .at .next)) (λ y. refl) (λ y. absurd (false≢true (sym y ∙ le-leb _ _ h)))))
     (λ q. refl)
 
 refused-stays : (g : Graph) (w : Walk) → eqb (w .at .refusal) 0 ≡ false → stepOf g w .after ≡ w

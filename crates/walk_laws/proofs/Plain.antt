@@ -4,13 +4,13 @@ use Prim.Native.Nat.{ℕ, zero, suc, _+_, _-_, _≤_, _<_}
 use mathlib.Core.Path.{_≡_, refl, sym, ap, ap₂, _∙_, subst}
 use mathlib.Core.Logic.{_≢_}
 use mathlib.Core.List.{List, [], _∷_, _++_, append-assoc, append-nil}
-use mathlib.Core.Bool.{Bool, true, false}
+use mathlib.Core.Bool.{Bool, true, false, false≢true}
 use native.Mathlib.Omega.{arith}
 use lib.ListN.{length, getD, set, take, length-append, length-set, length-replicate}
 use lib.Seq.{getD-set-same, getD-set-other, take-suc-set, take-all}
 use lib.Dec.{ltb, leb, eqb}
 use borrow.Author.Tests.{eqb-true, eqb-false, leb-true, leb-false, ne-eqb, eq-eqb}
-use Rattle.feature.proofs.Cases.{by-test}
+use Rattle.feature.proofs.Cases.{by-test, by-eq}
 use Rattle.feature.specs.Pick.{pick}
 use Rattle.feature.specs.Bonds.{sameKind, reverseOf}
 use Rattle.feature.specs.declared.bond_kind.BondKind.{BondKind}
@@ -31,8 +31,7 @@ use Rattle.walk_laws.specs.Trek.{fresh, degrees, Finished, leastWalk, le
 use Rattle.walk_laws.specs.Plain.{Trail, Outcome, Goes, Refused, Visit, andThen, numberFrom, numberIn, meets, leaves, joins, rings, enters, follows, entriesFrom, visitOf, rootsFrom, startTrail, plainWalk}
 use Rattle.walk_laws.specs.OneWalk.{trailOf, refusalIn, HoldTrail, OneWalk}
 use Rattle.walk_laws.proofs.Moves.{EntersBy, way-back}
-use Rattle.walk_laws.proofs.Sums.{by-eq, unmet, unmet-set, unmet-all, zeros-at}
-use Rattle.walk_laws.proofs.Sound.{no}
+use Rattle.walk_laws.proofs.Sums.{unmet, unmet-set, unmet-all, zeros-at}
 use Rattle.walk_laws.proofs.Ended.{ended}
 use Rattle.walk_laws.proofs.Longer.{least-exact}
 
@@ -517,11 +516,11 @@ module _ (g : Graph) where
   turn-step : (w : Walk) (fs : List Frame) (s : Trail) → Shows w fs s → Step s (turnOf g w) (whole (w .at .next) fs (Goes s))
   unfolding turnOf
   turn-step w [] s h =
-      by-test (λ (x : Turn). Step s x (whole (w .at .next) [] (Goes s))) (w .at .standing) (λ q. absurd (no (sym (h .stands) ∙ q))) (λ q. root-step w s h)
+      by-test (λ (x : Turn). Step s x (whole (w .at .next) [] (Goes s))) (w .at .standing) (λ q. absurd (false≢true (sym (h .stands) ∙ q))) (λ q. root-step w s h)
   turn-step w (f ∷ fs) s h =
       by-test (λ (x : Turn). Step s x (whole (w .at .next) (f ∷ fs) (Goes s))) (w .at .standing)
       (λ q. subst (λ (a : ℕ). Step s (atomOf g w a) (whole (w .at .next) (f ∷ fs) (Goes s))) (sym (h .stands .1)) (atom-step w f fs s h (top w f fs (h .held))))
-      (λ q. absurd (no (sym q ∙ h .stands .0)))
+      (λ q. absurd (false≢true (sym q ∙ h .stands .0)))
 
   -- ---- turns
   -- a refused walk stays as it is and says nothing
@@ -545,7 +544,7 @@ module _ (g : Graph) where
   done-one w [] s h d =
       let z : g .size - w .at .next ≡ 0 = omega (arith, d .next) in
       rw z (record { said = append-nil (s .said); refusal = h .going; first = h .first; second = h .second; numbered = tt; tables = h .tables })
-  done-one w (f ∷ fs) s h d = absurd (no (sym (d .standing) ∙ h .stands .0))
+  done-one w (f ∷ fs) s h d = absurd (false≢true (sym (d .standing) ∙ h .stands .0))
 
   module _ (n : ℕ)
       (ih : (w : Walk) (fs : List Frame) (s : Trail) → Shows w fs s → (walkTo g n w .at .refusal ≡ 0 → Finished g (walkTo g n w))

@@ -4,18 +4,16 @@ use Prim.Native.Nat.{ℕ, suc, _+_, _-_, _≤_, _<_}
 use mathlib.Core.Path.{_≡_, refl, sym, ap, _∙_, subst}
 use mathlib.Core.Logic.{_≢_}
 use mathlib.Core.List.{List}
-use mathlib.Core.Bool.{true, false}
+use mathlib.Core.Bool.{true, false, false≢true}
 use native.Mathlib.Omega.{arith}
 use lib.ListN.{length, getD, set, length-set, length-replicate}
 use lib.Seq.{getD-set-same, getD-set-other}
+use Rattle.feature.proofs.Cases.{by-eq}
 use Rattle.walk_entry.specs.Graph.{Graph, bondIn}
 use Rattle.walk.specs.Walk.{Walk, Turn}
 use Rattle.walk_laws.specs.Trek.{Room, fresh}
 use Rattle.walk_laws.proofs.Moves.{Move, still, skip, root, ends, leaves, takes, refuses, joins, enters, parentOf}
-use Rattle.walk_laws.proofs.Sums.{by-eq, unmet, unmet-set, unmet-all}
-
-pub no : false ≡ true → ⊥
-no e = let z : _≡_ {A = ℕ} 0 1 = cc in omega arith
+use Rattle.walk_laws.proofs.Sums.{unmet, unmet-set, unmet-all}
 
 -- the entries back lead from an atom up to its root, over so many atoms, all of them met
 pub data Up (g : Graph) (met back : List ℕ) : ℕ → ℕ → Type 0 where
@@ -68,7 +66,7 @@ sound-start g lm lw lb lt pairs r =
       next = omega arith;
       counted = omega (arith, unmet-all (g .size) lm);
       tried = λ a l. absurd (omega arith);
-      stands = λ e. absurd (no e);
+      stands = λ e. absurd (false≢true e);
       rests = λ e. (refl, refl);
     }
 
@@ -97,7 +95,7 @@ module _ {g : Graph} {w : Walk} {d : ℕ} (s : Sound g w d) where
         next = omega arith;
         counted = s .counted;
         tried = λ a l. by-eq a (w .at .next) (λ e. rw e m) (λ ne. s .tried a (omega arith));
-        stands = λ e. absurd (no (sym r ∙ e));
+        stands = λ e. absurd (false≢true (sym r ∙ e));
         rests = λ e. s .rests r;
       }
   step-sound (root r h m k) =
@@ -110,7 +108,7 @@ module _ {g : Graph} {w : Walk} {d : ℕ} (s : Sound g w d) where
         counted = met-counted (w .at .next) (w .at .count + 1) h m nz;
         tried = λ a l. by-eq a (w .at .next) (λ e. rw (e, here) nz) (λ ne. met-kept (w .at .next) (w .at .count + 1) a nz h (s .tried a (omega arith)));
         stands = λ e. top (w .at .next) h (rw here nz) (getD-set-same (w .back) (w .at .next) 0 0 (omega (arith, s .room .back)));
-        rests = λ e. absurd (no (sym e));
+        rests = λ e. absurd (false≢true (sym e));
       }
   step-sound (ends r h) =
       record {
@@ -118,7 +116,7 @@ module _ {g : Graph} {w : Walk} {d : ℕ} (s : Sound g w d) where
         next = s .next;
         counted = s .counted;
         tried = s .tried;
-        stands = λ e. absurd (no e);
+        stands = λ e. absurd (false≢true e);
         rests = λ e. (refl, refl);
       }
   step-sound (leaves r h) =
@@ -128,7 +126,7 @@ module _ {g : Graph} {w : Walk} {d : ℕ} (s : Sound g w d) where
         counted = s .counted;
         tried = s .tried;
         stands = λ e. up-parent (s .stands r) h;
-        rests = λ e. absurd (no (sym e));
+        rests = λ e. absurd (false≢true (sym e));
       }
   step-sound (takes r h) =
       record {
@@ -169,5 +167,5 @@ module _ {g : Graph} {w : Walk} {d : ℕ} (s : Sound g w d) where
         counted = met-counted t (w .at .count + 1) l m nz;
         tried = λ a i. met-kept t (w .at .count + 1) a nz l (s .tried a i);
         stands = λ z. above t d l (rw here nz) (rw back nb) (subst (λ (i : ℕ). Up g (set (w .met) t (w .at .count + 1)) (set (w .back) t b) (bondIn (g .bonds) (g .first) t (i - 1) .to) d) (sym back) (subst (λ (i : ℕ). Up g (set (w .met) t (w .at .count + 1)) (set (w .back) t b) i d) (sym to) up));
-        rests = λ z. absurd (no (sym z));
+        rests = λ z. absurd (false≢true (sym z));
       }

@@ -3,13 +3,13 @@ use Prim.Native.Nat.{ℕ, zero, suc, _+_, _-_, _≤_, _<_}
 use mathlib.Core.Path.{_≡_, refl, sym, ap}
 use mathlib.Core.Logic.{_≢_}
 use mathlib.Core.List.{List}
-use mathlib.Core.Bool.{Bool, true, false}
 use native.Mathlib.Omega.{arith}
 use lib.ListN.{length, getD, set, replicate}
 use lib.Seq.{getD-set-same, getD-set-other}
 use lib.Dec.{eqb}
-use borrow.Author.Tests.{ne-eqb, eqb-true, eqb-false}
+use borrow.Author.Tests.{ne-eqb}
 use Rattle.feature.specs.Pick.{pick}
+use Rattle.feature.proofs.Cases.{by-eq}
 use Rattle.walk_entry.specs.Graph.{Graph, degreeAt}
 use Rattle.walk_laws.specs.Trek.{degrees}
 
@@ -17,14 +17,6 @@ use Rattle.walk_laws.specs.Trek.{degrees}
 sumTo : (ℕ → ℕ) → ℕ → ℕ
 sumTo f zero = 0
 sumTo f (suc n) = sumTo f n + f n
-
--- two numbers are equal or not
-pub by-eq : {P : Type 0} (a b : ℕ) → (a ≡ b → P) → (a ≢ b → P) → P
-by-eq {P} a b f g = go (eqb a b) refl
-  where
-    go : (q : Bool) → eqb a b ≡ q → P
-    go true e = f (eqb-true a b e)
-    go false e = g (eqb-false a b e)
 
 -- sums go by their terms
 sum-same : (f h : ℕ → ℕ) (n : ℕ) → ((a : ℕ) → a < n → f a ≡ h a) → sumTo f n ≡ sumTo h n

@@ -3,11 +3,11 @@ use Prim.Native.Nat.{ℕ, _≤_}
 use native.Mathlib.Omega.{arith}
 use lib.ListN.{length, length-append}
 use lib.Dec.{leb, eqb}
+use Rattle.feature.proofs.Cases.{by-either}
 use Rattle.spell.proofs.Lengths.{either-short, atom-short, bond-short, rnum-short}
 use Rattle.writer.specs.Line.{Event, Root, Extend, Join, Pop, dotText}
 use Rattle.writer.specs.Tables.{Spoken, pieceRoom, added, pieceT, lengthened, joinT, wrapT, popT, sayT}
 use Rattle.writer.specs.Steps.{LineGrows}
-use Rattle.writer.proofs.Pieces.{pick-both}
 
 pub dot-short : (n : ℕ) → length (dotText n) ≤ 1
 unfolding dotText
@@ -17,18 +17,18 @@ dot-short n = either-short 1 (eqb n 0) _ _ (omega arith) (omega arith)
 pub say-grows : (s : Spoken) (e : Event) → LineGrows (s .at) (sayT s e .at)
 unfolding sayT pieceT added joinT lengthened popT wrapT
 say-grows s (Root k) =
-    pick-both (λ (z : Spoken). LineGrows (s .at) (z .at)) (leb (pieceRoom (s .starts)) (s .at .pieces)) _ _
+    by-either (λ (z : Spoken). LineGrows (s .at) (z .at)) (leb (pieceRoom (s .starts)) (s .at .pieces))
     (record { pieces = omega arith; len = omega arith })
     (record { pieces = omega arith; len = simp length-append (omega (arith, dot-short (s .at .pieces), atom-short k)) })
 say-grows s (Extend b k) =
-    pick-both (λ (z : Spoken). LineGrows (s .at) (z .at)) (leb (pieceRoom (s .starts)) (s .at .pieces)) _ _
+    by-either (λ (z : Spoken). LineGrows (s .at) (z .at)) (leb (pieceRoom (s .starts)) (s .at .pieces))
     (record { pieces = omega arith; len = omega arith })
     (record { pieces = omega arith; len = simp length-append (omega (arith, bond-short b, atom-short k)) })
 say-grows s (Join b n) =
-    pick-both (λ (z : Spoken). LineGrows (s .at) (z .at)) (eqb (s .at .pieces) 0) _ _
+    by-either (λ (z : Spoken). LineGrows (s .at) (z .at)) (eqb (s .at .pieces) 0)
     (record { pieces = omega arith; len = omega arith })
     (record { pieces = omega arith; len = simp length-append (omega (arith, bond-short b, rnum-short n)) })
 say-grows s (Pop d) =
-    pick-both (λ (z : Spoken). LineGrows (s .at) (z .at)) (leb (s .at .pieces) d) _ _
+    by-either (λ (z : Spoken). LineGrows (s .at) (z .at)) (leb (s .at .pieces) d)
     (record { pieces = omega arith; len = omega arith })
     (record { pieces = omega arith; len = omega arith })

@@ -12,6 +12,7 @@ use borrow.Author.Tests.{eq-eqb, ne-eqb, leb-false}
 use Rattle.feature.specs.Pick.{pick}
 use Rattle.feature.specs.Text.{byte, bytes}
 use Rattle.feature.proofs.Lists.{sets-append}
+use Rattle.feature.proofs.Cases.{by-either}
 use Rattle.builder.specs.Limits.{atomLimit, lesserOf}
 use Rattle.spell.specs.Spell.{atomText, bondText, rnumText}
 use Rattle.writer.specs.Line.{Event, Root, Extend, Join, Pop, lineOf, dotText, addPiece, onLast, wrapped, popPieces, writeEvent, writeEvents}
@@ -246,16 +247,12 @@ holds-step {o} {ps} {s} (Join b n) h = holds-join o ps s h (bondText b ++ rnumTe
 holds-step (Pop d) h = holds-pop h d
 
 -- ---- the table's length
-pub pick-both : {A : Type 0} (P : A → Type 0) (b : Bool) (x y : A) → P x → P y → P (pick b x y)
-pick-both P true x y p q = p
-pick-both P false x y p q = q
-
 pub say-starts : (s : Spoken) (e : Event) → length (sayT s e .starts) ≡ length (s .starts)
 unfolding sayT pieceT added joinT lengthened popT wrapT
-say-starts s (Root k) = pick-both (λ (z : Spoken). length (z .starts) ≡ length (s .starts)) (leb (pieceRoom (s .starts)) (s .at .pieces)) _ _ refl (length-set (s .starts) (s .at .pieces) (s .at .len))
-say-starts s (Extend b k) = pick-both (λ (z : Spoken). length (z .starts) ≡ length (s .starts)) (leb (pieceRoom (s .starts)) (s .at .pieces)) _ _ refl (length-set (s .starts) (s .at .pieces) (s .at .len))
-say-starts s (Join b n) = pick-both (λ (z : Spoken). length (z .starts) ≡ length (s .starts)) (eqb (s .at .pieces) 0) _ _ refl refl
-say-starts s (Pop d) = pick-both (λ (z : Spoken). length (z .starts) ≡ length (s .starts)) (leb (s .at .pieces) d) _ _ refl refl
+say-starts s (Root k) = by-either (λ (z : Spoken). length (z .starts) ≡ length (s .starts)) (leb (pieceRoom (s .starts)) (s .at .pieces)) refl (length-set (s .starts) (s .at .pieces) (s .at .len))
+say-starts s (Extend b k) = by-either (λ (z : Spoken). length (z .starts) ≡ length (s .starts)) (leb (pieceRoom (s .starts)) (s .at .pieces)) refl (length-set (s .starts) (s .at .pieces) (s .at .len))
+say-starts s (Join b n) = by-either (λ (z : Spoken). length (z .starts) ≡ length (s .starts)) (eqb (s .at .pieces) 0) refl refl
+say-starts s (Pop d) = by-either (λ (z : Spoken). length (z .starts) ≡ length (s .starts)) (leb (s .at .pieces) d) refl refl
 
 pub say-room : (s : Spoken) (e : Event) → pieceRoom (sayT s e .starts) ≡ pieceRoom (s .starts)
 say-room s e = room-same (sayT s e .starts) (s .starts) (say-starts s e)
