@@ -1,6 +1,5 @@
 -- Laws that several proofs cite.
 pub mod Rings
-pub mod Sums
 pub mod Joins
 pub mod Passes
 pub mod Whole

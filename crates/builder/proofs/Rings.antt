@@ -10,7 +10,7 @@ use lib.Seq.{sets, ext-getD, take-suc, length-take-le, getD-set-same, getD-set-o
 use lib.Dec.{eqb}
 use native.Mathlib.Numerals.{add-one}
 use borrow.Author.Tests.{eqb-true, eqb-false}
-use Rattle.feature.proofs.Lists.{sets-append}
+use Rattle.feature.proofs.Lists.{sets-append, sets-nil, sets-cons}
 use Rattle.builder.specs.Rings.{ringNumberCount, front}
 
 pub front-length : (n : ℕ) (l : List ℕ) → length (front n l) ≡ n
@@ -26,14 +26,6 @@ front-at (suc n) [] zero h = refl
 front-at (suc n) [] (suc j) h = front-at n [] j (le-of-suc-le-suc h)
 front-at (suc n) (x ∷ l) zero h = refl
 front-at (suc n) (x ∷ l) (suc j) h = front-at n l j (le-of-suc-le-suc h)
-
-sets-cons : (x : ℕ) (l : List ℕ) (i : ℕ) (vs : List ℕ) → sets (x ∷ l) (suc i) vs ≡ x ∷ sets l i vs
-sets-cons x l i [] = refl
-sets-cons x l i (v ∷ vs) = sets-cons x (set l i v) (suc i) vs
-
-sets-nil : (i : ℕ) (vs : List ℕ) → sets [] i vs ≡ []
-sets-nil i [] = refl
-sets-nil i (v ∷ vs) = sets-nil (suc i) vs
 
 -- the room's own front laid over it changes nothing
 front-over : (n : ℕ) (l : List ℕ) → sets l 0 (front n l) ≡ l

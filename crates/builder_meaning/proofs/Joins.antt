@@ -15,6 +15,7 @@ use Rattle.feature.specs.declared.bond_kind.BondKind.{BondKind}
 use Rattle.feature.specs.declared.bond_kind.Reconciled.{Reconciled}
 use Rattle.feature.specs.declared.bond_kind.Reconciled.the-variants.{Both, Fails}
 use Rattle.feature.proofs.Bonds.{sure-code, Reversed, reconciled}
+use Rattle.feature.proofs.Cases.{impossible}
 use Rattle.builder.specs.Rings.{ringNumberCount}
 use Rattle.builder.specs.State.{Bld, bld, state, unclosed, entryWords, entryList, bondRoom, noAtom, refuse, joinedSt, failedSt, lastOf, openedOf, openedAt, openingOf, openingKind, closedBy, joinOf}
 use Rattle.builder.specs.declared.builder.Builder.{Builder}
@@ -75,7 +76,7 @@ module _ (b : Bld) (d : Sketch) (same : Same b d) (whole : d .unseen ≡ 0) wher
         (set (b .rings) n (b .st .entries + 1)) (upd s (addEdge (edge e (Open (d .joins)))) (d .nodes)) rs (held n s (d .joins) ∷ d .opens)
         more (omega (arith, more, same .state .entries, same .state .slots))
         (rw length-sets) (length-set (b .rings) n (b .st .entries + 1))
-        (entries-push (same .kinds) (same .rows) (b .entries) (d .nodes) (same .entries) s e (Open (d .joins)) (b .st .entries) (lastOf b) (unclosed + b .st .joins) (stands .below) (λ y q. absurd (let z : _≡_ {A = ℕ} 0 1 = cc in omega arith)) (same .state .entries) standing (ap (λ (j : ℕ). unclosed + j) (same .state .joins)) (omega (arith, same .room .entries, same .state .slots)))
+        (entries-push (same .kinds) (same .rows) (b .entries) (d .nodes) (same .entries) s e (Open (d .joins)) (b .st .entries) (lastOf b) (unclosed + b .st .joins) (stands .below) (λ y q. impossible cc) (same .state .entries) standing (ap (λ (j : ℕ). unclosed + j) (same .state .joins)) (omega (arith, same .room .entries, same .state .slots)))
         (rings-hold rs (b .rings) (d .opens) (d .joins + 1) r1 n (b .st .entries + 1) (held n s (d .joins)) low (same .room .rings) refl at
         (λ m l e. omega (arith, e, ring-within (same .rows) (getD (b .rings) m 0) (lookup m (d .opens)) (same .rings .each m l), same .state .entries)))
         (twins-open (same .rows) s e (d .joins) (same .twins))
@@ -189,7 +190,7 @@ module _ (b : Bld) (d : Sketch) (same : Same b d) (whole : d .unseen ≡ 0) wher
           (omega (arith, more, kept)) (omega (arith, more, kept, room, same .state .entries, same .state .slots))
           (simp length-sets) (length-set (b .rings) n 0)
           (entries-push (same .kinds) rs t1 (upd (h .atom) (fill (h .join) l s) (d .nodes)) g1 s r (To (h .atom)) (b .st .entries) (lastOf b) (openingOf b n) (stands .below) (λ y q. let z : h .atom ≡ y = cc in omega (arith, z, opener-below)) (same .state .entries ∙ sym kept) standing opening-is (rw length-sets (omega (arith, room, same .room .entries, same .state .slots))))
-          (rings-push rs (set (b .rings) n 0) (ringFreed n (d .opens)) (d .joins) r1 s r (To (h .atom)) (d .joins + 1) (omega arith) (λ y q. absurd (let z : _≡_ {A = ℕ} 0 1 = cc in omega arith)))
+          (rings-push rs (set (b .rings) n 0) (ringFreed n (d .opens)) (d .joins) r1 s r (To (h .atom)) (d .joins + 1) (omega arith) (λ y q. impossible cc))
           (twins-close (same .rows) (at .place) (h .atom) (at .kind) (h .join) l r s opened back (same .twins)))
 
     same-ring : (e : BondKind) (o : Option Held) → Ring (same .rows) (getD (b .rings) n 0) o → Same (pick (eqb (getD (b .rings) n 0) 0) (pick (ltb (b .st .slots) (b .st .entries + 1)) (refuse b bondRoom place) (openedOf b e n)) (closedBy b n place (reconcileOf (openingKind b n) e))) (ringS d e n place s o)

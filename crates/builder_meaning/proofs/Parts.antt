@@ -12,7 +12,7 @@ use Rattle.feature.specs.Bonds.{codeOf}
 use Rattle.feature.specs.declared.atom_kind.AtomKind.{AtomKind}
 use Rattle.feature.specs.declared.atom_kind.AtomKind.the-variants.{Star}
 use Rattle.feature.specs.declared.bond_kind.BondKind.{BondKind}
-use Rattle.feature.proofs.Cases.{by-eq}
+use Rattle.feature.proofs.Cases.{by-eq, impossible}
 use Rattle.packing.specs.Words.{atomWords, wordsOf, listOf}
 use Rattle.packing.proofs.Laws.{sets-beside, sets-in, sets-first}
 use Rattle.builder.specs.State.{entryWords, entryList}
@@ -173,7 +173,7 @@ way-pop n top ws path m w =
 pub way-none : (n top : ℕ) (ws : List ℕ) → Way n top ws [] → top ≡ 0
 unfolding lastly
 way-none n zero ws w = refl
-way-none n (suc top) ws w = absurd (let z : _≡_ {A = ℕ} 0 1 = cc (w .is) in omega arith)
+way-none n (suc top) ws w = impossible (cc (w .is))
 
 -- the atom that stands
 pub record Stands (n top : ℕ) (ws : List ℕ) (s : ℕ) : Type 0 where
@@ -183,7 +183,7 @@ pub record Stands (n top : ℕ) (ws : List ℕ) (s : ℕ) : Type 0 where
 
 pub way-some : (n top : ℕ) (ws : List ℕ) (s : ℕ) (rest : List ℕ) → Way n top ws (s ∷ rest) → Stands n top ws s
 unfolding lastly
-way-some n zero ws s rest w = absurd (let z : _≡_ {A = ℕ} 0 1 = cc (w .is) in omega arith)
+way-some n zero ws s rest w = impossible (cc (w .is))
 way-some n (suc top) ws s rest w =
     let e : s ≡ getD ws top 0 = cc (w .is) in
     let i : suc top - 1 ≡ top = omega arith in

@@ -11,7 +11,7 @@ use lib.Dec.{eqb}
 use borrow.Author.Tests.{eq-eqb, ne-eqb}
 use Rattle.feature.specs.Pick.{pick}
 use Rattle.feature.specs.declared.bond_kind.BondKind.{BondKind}
-use Rattle.feature.proofs.Cases.{by-eq}
+use Rattle.feature.proofs.Cases.{by-eq, impossible}
 use Rattle.builder.specs.Rings.{ringNumberCount}
 use Rattle.builder_meaning.specs.Sketch.{Target, To, Open, Held, lookup, ringFreed}
 use Rattle.builder_meaning.proofs.Rows.{Row, row, noRow, Opened}
@@ -152,7 +152,7 @@ module _ (rs : List Row) (ws : List ℕ) (hs : List Held) (j : ℕ) (g : Rings r
       was : (q y : ℕ) → getD (set rs p (row a l (To x))) q noRow .target ≡ Open y → getD rs q noRow .target ≡ Open y
       was q y e =
           by-eq q p
-          (λ i. absurd (let s : To x ≡ Open y = ap (λ (r : Row). r .target) (sym (ap (λ (n : ℕ). getD (set rs p (row a l (To x))) n noRow) i ∙ getD-set-same rs p (row a l (To x)) noRow within)) ∙ e in let z : _≡_ {A = ℕ} 0 1 = cc in omega arith))
+          (λ i. absurd (let s : To x ≡ Open y = ap (λ (r : Row). r .target) (sym (ap (λ (n : ℕ). getD (set rs p (row a l (To x))) n noRow) i ∙ getD-set-same rs p (row a l (To x)) noRow within)) ∙ e in impossible cc))
           (λ d. ap (λ (r : Row). r .target) (sym (getD-set-other rs p q (row a l (To x)) noRow d)) ∙ e)
 
   -- the entry that a number holds is the only one of its join

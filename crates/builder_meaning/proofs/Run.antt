@@ -12,6 +12,7 @@ use Rattle.feature.specs.declared.atom_kind.AtomKind.{AtomKind}
 use Rattle.feature.specs.declared.atom_kind.Inverted.{Inverted}
 use Rattle.feature.specs.declared.atom_kind.Inverted.the-variants.{Turned, Refused}
 use Rattle.feature.specs.declared.bond_kind.BondKind.{BondKind}
+use Rattle.feature.proofs.Cases.{impossible}
 use Rattle.read_token.specs.declared.scanner.Missing.{Missing}
 use Rattle.read_token.specs.declared.scanner.Missing.the-variants.{EndOfLine, Character}
 use Rattle.builder.specs.Rings.{ringNumberCount}
@@ -64,7 +65,7 @@ module _ (b : Bld) (d : Sketch) (same : Same b d) where
             fits = s .fits;
             holds = s .holds;
             atoms = omega (arith, s .atoms);
-            seen = λ e. absurd (let q : hasFailed (d .failure) ≡ true = ap hasFailed broke in let z : _≡_ {A = ℕ} 0 1 = cc in omega arith);
+            seen = λ e. absurd (let q : hasFailed (d .failure) ≡ true = ap hasFailed broke in impossible cc);
           };
           atoms = same .atoms;
           entries = same .entries;

@@ -15,6 +15,7 @@ use Rattle.feature.specs.declared.atom_kind.AtomKind.{AtomKind}
 use Rattle.feature.specs.declared.atom_kind.Inverted.{Inverted}
 use Rattle.feature.specs.declared.atom_kind.Inverted.the-variants.{Turned, Refused}
 use Rattle.feature.specs.declared.bond_kind.BondKind.{BondKind}
+use Rattle.feature.proofs.Cases.{impossible}
 use Rattle.packing.specs.Words.{atomWords, listOf}
 use Rattle.builder.specs.State.{Bld, bld, entryWords, entryList, inversion, atomRoom, bondRoom, noAtom, refuse, lastOf, entered, rootOf, bonded, extendedBy, extendOf, popOf}
 use Rattle.builder_meaning.specs.Sketch.{To, Node, Sketch, edge, node, refused, popped, atomAdded, nextNumber, countOf, upd, addEdge, rootS, bondedS, extendS, targetOf}
@@ -27,8 +28,8 @@ use Rattle.builder_meaning.proofs.RingNumbers.{rings-push}
 -- two choices by tests that agree
 pub both-ways : {A B : Type 0} (R : A → B → Type 0) (t u : Bool) {x y : A} {x′ y′ : B} → t ≡ u → (t ≡ true → R x x′) → (t ≡ false → R y y′) → R (pick t x y) (pick u x′ y′)
 both-ways R true true e f g = f refl
-both-ways R true false e f g = absurd (let z : _≡_ {A = ℕ} 0 1 = cc in omega arith)
-both-ways R false true e f g = absurd (let z : _≡_ {A = ℕ} 0 1 = cc in omega arith)
+both-ways R true false e f g = impossible cc
+both-ways R false true e f g = impossible cc
 both-ways R false false e f g = g refl
 
 -- tables of the same lengths have the same room
@@ -191,8 +192,8 @@ module _ (b : Bld) (d : Sketch) (same : Same b d) where
           let g0 = entries-root (same .kinds) (same .rows) (b .entries) (d .nodes) k (same .entries) in
           let g1 = entries-push ks (same .rows) (b .entries) (d .nodes ++ (node k [] ∷ [])) g0 s e (To (nextNumber d)) (b .st .entries) (lastOf b) (b .st .atoms) (below-more k) (λ y q. let z : nextNumber d ≡ y = cc in omega (arith, z, number-held, grew)) (same .state .entries) last-is number-is (omega arith) in
           let g2 = entries-push ks rs t1 (upd s (addEdge (edge e (To (nextNumber d)))) (d .nodes ++ (node k [] ∷ []))) g1 (nextNumber d) (reverseOf e) (To s) (b .st .entries + 1) (b .st .atoms) (lastOf b) (omega (arith, number-held, grew)) (λ y q. let z : s ≡ y = cc in omega (arith, z, below-more k)) (omega (arith, more, same .state .entries)) number-is last-is (rw length-sets (omega arith)) in
-          let r1 = rings-push (same .rows) (b .rings) (d .opens) (d .joins) (same .rings) s e (To (nextNumber d)) (d .joins) (omega arith) (λ y q. absurd (let z : _≡_ {A = ℕ} 0 1 = cc in omega arith)) in
-          let r2 = rings-push rs (b .rings) (d .opens) (d .joins) r1 (nextNumber d) (reverseOf e) (To s) (d .joins) (omega arith) (λ y q. absurd (let z : _≡_ {A = ℕ} 0 1 = cc in omega arith)) in
+          let r1 = rings-push (same .rows) (b .rings) (d .opens) (d .joins) (same .rings) s e (To (nextNumber d)) (d .joins) (omega arith) (λ y q. impossible cc) in
+          let r2 = rings-push rs (b .rings) (d .opens) (d .joins) r1 (nextNumber d) (reverseOf e) (To s) (d .joins) (omega arith) (λ y q. impossible cc) in
           entered-same k (sets t1 ((b .st .entries + 1) * entryWords) (entryList (b .st .atoms) (codeOf (reverseOf e)) (lastOf b)))
           (upd s (addEdge (edge e (To (nextNumber d)))) (d .nodes) ++ (node k (edge (reverseOf e) (To s) ∷ []) ∷ []))
           (rs ++ (back ∷ [])) (b .st .entries + 2) free

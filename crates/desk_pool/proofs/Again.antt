@@ -5,6 +5,7 @@ use mathlib.Core.Bool.{Bool, true, false}
 use mathlib.Core.List.{List}
 use native.Mathlib.Omega.{arith}
 use Rattle.feature.specs.Pick.{pick}
+use Rattle.feature.proofs.Cases.{impossible}
 use Rattle.join_pool.specs.declared.Pool.{Pool}
 use Rattle.join_pool.specs.declared.Given.{Given}
 use Rattle.join_pool.specs.declared.Given.the-variants as given
@@ -22,11 +23,11 @@ number-again a b q n l pairs m (given.Number p k) h e =
     let same : n ≡ k = cc in
     let stands : isPool q l ≡ true = cc (h .0) in
     (stands, omega (arith, same, h .1), omega (arith, same, h .2))
-number-again a b q n l pairs m given.Full h e = absurd (let y : handed.Number q n ≡ handed.RingNumbers = one-answer a b e in let z : _≡_ {A = ℕ} 0 1 = cc in omega arith)
+number-again a b q n l pairs m given.Full h e = absurd (let y : handed.Number q n ≡ handed.RingNumbers = one-answer a b e in impossible cc)
 
 pub handed-again : (p : Pool) (pairs : List ℕ) (a b : ℕ) (q : Pool) (n : ℕ) (l : List ℕ) → gives a b (handed.Number q n) l ≡ hitD p pairs a b → (isPool q l ≡ true) × (0 < n) × (n ≤ highest)
 unfolding hitD givenBy
 handed-again p pairs a b q n l e = go (isPool p pairs) refl e where
   go : (t : Bool) → isPool p pairs ≡ t → gives a b (handed.Number q n) l ≡ pick t (givenBy a b (hitOf p pairs a b)) (gives a b handed.BadTable pairs) → (isPool q l ≡ true) × (0 < n) × (n ≤ highest)
   go true t f = number-again a b q n l pairs (hitOf p pairs a b .left) (hitOf p pairs a b .answer) (pool-kept.hit-kept p pairs a b t) f
-  go false t f = absurd (let y : handed.Number q n ≡ handed.BadTable = one-answer a b f in let z : _≡_ {A = ℕ} 0 1 = cc in omega arith)
+  go false t f = absurd (let y : handed.Number q n ≡ handed.BadTable = one-answer a b f in impossible cc)

@@ -7,7 +7,7 @@ use native.Mathlib.Omega.{arith}
 use lib.ListN.{length, length-append, length-take, length-replicate}
 use lib.Dec.{eqb}
 use Rattle.feature.specs.Pick.{pick, both}
-use Rattle.feature.proofs.Cases.{both-second}
+use Rattle.feature.proofs.Cases.{both-second, impossible}
 use Rattle.writer.specs.declared.Writer.{Writer}
 use Rattle.writer.specs.declared.Wrote.{Wrote}
 use Rattle.writer.specs.declared.Wrote.the-variants as wrote
@@ -40,14 +40,14 @@ held-again w out starts o t s (wrote.Held v) h e near =
     let places : starts ≡ t = ap (λ (x : EventLeft). x .starts) e in
     let stands = h (rw same at near) in
     rw (same, outs, places) (same-writer v o (pick (eqb (s .at .pieces) 0) (clearedFrom (v .len) o) o) t (tail-long (eqb (s .at .pieces) 0) (v .len) o (writer-kept.facts (spoken v o t) stands .line)) stands)
-held-again w out starts o t s (wrote.AtomRoom n) h e near = absurd (let y : said.Held w ≡ said.AtomRoom n = one-answer e in let z : _≡_ {A = ℕ} 0 1 = cc in omega arith)
-held-again w out starts o t s (wrote.OutRoom n) h e near = absurd (let y : said.Held w ≡ said.OutRoom n = one-answer e in let z : _≡_ {A = ℕ} 0 1 = cc in omega arith)
-held-again w out starts o t s wrote.NoPiece h e near = absurd (let y : said.Held w ≡ said.NoPiece = one-answer e in let z : _≡_ {A = ℕ} 0 1 = cc in omega arith)
-held-again w out starts o t s wrote.Overpop h e near = absurd (let y : said.Held w ≡ said.Overpop = one-answer e in let z : _≡_ {A = ℕ} 0 1 = cc in omega arith)
+held-again w out starts o t s (wrote.AtomRoom n) h e near = absurd (let y : said.Held w ≡ said.AtomRoom n = one-answer e in impossible cc)
+held-again w out starts o t s (wrote.OutRoom n) h e near = absurd (let y : said.Held w ≡ said.OutRoom n = one-answer e in impossible cc)
+held-again w out starts o t s wrote.NoPiece h e near = absurd (let y : said.Held w ≡ said.NoPiece = one-answer e in impossible cc)
+held-again w out starts o t s wrote.Overpop h e near = absurd (let y : said.Held w ≡ said.Overpop = one-answer e in impossible cc)
 
 pub said-again : (ok : Bool) (s : Spoken) (e : Event) (w : Writer) (out starts : List ℕ) → eventLeaves (said.Held w) out starts ≡ eventD ok s e → w .len < far → isWriter (spoken w out starts) ≡ true
 unfolding eventD toldLeaves
 said-again ok s e w out starts d near = go (both ok (isWriter s)) refl d where
   go : (t : Bool) → both ok (isWriter s) ≡ t → eventLeaves (said.Held w) out starts ≡ pick t (toldLeaves (s .at) (eventOf s e)) (eventLeaves said.BadTable (s .out) (s .starts)) → isWriter (spoken w out starts) ≡ true
   go true t f = held-again w out starts (eventOf s e .out) (eventOf s e .starts) s (eventOf s e .answer) (writer-kept.event-kept s e (both-second ok (isWriter s) t)) f near
-  go false t f = absurd (let y : said.Held w ≡ said.BadTable = one-answer f in let z : _≡_ {A = ℕ} 0 1 = cc in omega arith)
+  go false t f = absurd (let y : said.Held w ≡ said.BadTable = one-answer f in impossible cc)

@@ -19,11 +19,11 @@ use Rattle.writer.specs.declared.Wrote.the-variants.{Held, AtomRoom, OutRoom, N
 use Rattle.writer.specs.Line.{Event, Root, Extend, Join, Pop, lineOf, writeEvent}
 use Rattle.writer.specs.Tables.{Spoken, spoken, writer, pieceRoom, bytesFrom, added, pieceT, lengthened, joinT, wrapT, popT, sayT, EventTold, toldWith, eventRefusing, fitting, eventOf}
 use Rattle.writer.specs.Pieces.{pieceStarts, Holds}
-use Rattle.writer.proofs.Pieces.{length-starts, holds-step}
+use Rattle.writer.proofs.Pieces.{length-starts, holds-step, room-held}
 use Rattle.desk_writer.specs.declared.Said.the-variants as said
 use Rattle.desk_writer.specs.Pieces.{isWriter, wroteSaid, saidTold, writerWords, clearedFrom, tailOf, eventLeaves, toldLeaves, eventD}
 use Rattle.desk_writer.specs.OnPieces.{piecesTo, piecesIn, fitsIn, eventAnswer, groundOf, piecesAfter, OnPieces, EventOnward}
-use Rattle.desk_writer.proofs.WriterKept.{Laid, facts, room-held, laid-before, starts-within}
+use Rattle.desk_writer.proofs.WriterKept.{Laid, facts, laid-before, starts-within}
 
 -- ---- the pieces of a state
 piece-count : (out starts : List ℕ) (n end : ℕ) → length (piecesTo out starts n end) ≡ n

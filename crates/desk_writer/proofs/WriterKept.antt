@@ -6,28 +6,23 @@ use mathlib.Core.Path.{_≡_, refl, sym, ap, _∙_}
 use mathlib.Core.Bool.{Bool, true, false}
 use mathlib.Core.List.{List, _++_}
 use native.Mathlib.Omega.{arith}
+use native.Mathlib.Nat.{pos-of-ne-zero}
 use lib.ListN.{length, getD, set, length-set}
 use lib.Seq.{sets, length-sets, getD-set-same, getD-set-other}
 use lib.Dec.{ltb, leb, eqb}
 use borrow.Author.Tests.{lt-ltb, le-ltb, le-leb, lt-leb, eq-eqb, ne-eqb, ltb-true, ltb-false, leb-true, leb-false, eqb-true, eqb-false}
 use Rattle.feature.specs.Pick.{pick, both}
-use Rattle.builder.specs.Limits.{atomLimit, lesserOf}
 use Rattle.spell.specs.Spell.{atomText, bondText, rnumText}
 use Rattle.writer.specs.declared.Writer.{Writer}
 use Rattle.writer.specs.declared.Wrote.{Wrote}
 use Rattle.writer.specs.declared.Wrote.the-variants.{Held, AtomRoom, OutRoom, NoPiece, Overpop}
 use Rattle.writer.specs.Line.{Event, Root, Extend, Join, Pop, dotText, wrapped}
 use Rattle.writer.specs.Tables.{Spoken, spoken, writer, pieceRoom, added, pieceT, lengthened, joinT, lastStart, bytesFrom, wrapT, popT, sayT, EventTold, toldWith, eventRefusing, fitting, eventOf, far}
+use Rattle.writer.proofs.Pieces.{room-held}
 use Rattle.feature.specs.Every.{every}
 use Rattle.desk_writer.specs.Pieces.{pieceEnd, isPiece, piecesStand, isWriter}
 use Rattle.feature.proofs.Every.{every-at, every-all}
 use Rattle.feature.proofs.Cases.{by-test, both-first, both-second, both-pass}
-
-above : {n : ℕ} → (n ≡ 0 → ⊥) → 0 < n
-above {n} e = go (ltb 0 n) refl where
-  go : (q : Bool) → ltb 0 n ≡ q → 0 < n
-  go true q = ltb-true 0 n q
-  go false q = absurd (let l = ltb-false 0 n q in e (omega arith))
 
 -- ---- where a piece ends
 end-inner : (starts : List ℕ) (w : Writer) (i : ℕ) → i + 1 < w .pieces → pieceEnd starts w i ≡ getD starts (i + 1) 0
@@ -67,7 +62,7 @@ unfolding piecesStand isPiece
 lies starts w h =
     by-test (λ (z : Bool). z ≡ true) (eqb (w .pieces) 0) {x = eqb (w .len) 0} {y = both (eqb (getD starts 0 0) 0) (every (isPiece starts w) (w .pieces))}
     (λ q. eq-eqb (w .len) 0 (h .none (eqb-true (w .pieces) 0 q)))
-    (λ q. both-pass (eq-eqb (getD starts 0 0) 0 (h .nought (above (eqb-false (w .pieces) 0 q)))) (every-all (isPiece starts w) (w .pieces) (λ (i : ℕ) (l : i < w .pieces). le-leb (getD starts i 0) (pieceEnd starts w i) (h .each i l))))
+    (λ q. both-pass (eq-eqb (getD starts 0 0) 0 (h .nought (pos-of-ne-zero (eqb-false (w .pieces) 0 q)))) (every-all (isPiece starts w) (w .pieces) (λ (i : ℕ) (l : i < w .pieces). le-leb (getD starts i 0) (pieceEnd starts w i) (h .each i l))))
 
 -- a piece starts within the line
 within : (starts : List ℕ) (w : Writer) → Laid starts w → (k i : ℕ) → i + k + 1 ≡ w .pieces → getD starts i 0 ≤ w .len
@@ -127,7 +122,7 @@ module _ (starts : List ℕ) (w : Writer) (h : Laid starts w) (n : ℕ) (room : 
   more-nought = go (eqb (w .pieces) 0) refl where
     go : (q : Bool) → eqb (w .pieces) 0 ≡ q → getD more 0 0 ≡ 0
     go true q = let e = eqb-true (w .pieces) 0 q in new 0 (sym e) ∙ h .none e
-    go false q = let l = above (eqb-false (w .pieces) 0 q) in old 0 l ∙ h .nought l
+    go false q = let l = pos-of-ne-zero (eqb-false (w .pieces) 0 q) in old 0 l ∙ h .nought l
 
   more-each : (i : ℕ) → i < w .pieces + 1 → getD more i 0 ≤ pieceEnd more grown i
   more-each i l = go (ltb i (w .pieces)) (ltb (i + 1) (w .pieces)) refl refl where
@@ -230,11 +225,6 @@ fitting-kept s n h =
     (λ q. (refl, refl))
     (λ q l. stands (spoken (n .at) (n .out) (n .starts)) (h (ltb-false (length (s .out)) (n .at .len) q) l))
 
-pub room-held : (starts : List ℕ) → pieceRoom starts ≤ length starts
-unfolding pieceRoom lesserOf
-room-held starts =
-    by-test (λ (z : ℕ). z ≤ length starts) (ltb (length starts) atomLimit) {x = length starts} {y = atomLimit} (λ q. omega arith) (λ q. ltb-false (length starts) atomLimit q)
-
 room-set : (starts : List ℕ) (i v : ℕ) → pieceRoom (set starts i v) ≡ pieceRoom starts
 unfolding pieceRoom
 room-set starts i v = rw (length-set starts i v)
@@ -261,7 +251,7 @@ module _ (s : Spoken) (h : Writes s) where
         pieces = h .pieces;
         line = rw length-sets fits;
         near = near;
-        laid = fewer-laid (s .starts) (s .at) (h .laid) (s .at .pieces) (s .at .len + length text) (above z) (omega arith) (omega arith);
+        laid = fewer-laid (s .starts) (s .at) (h .laid) (s .at .pieces) (s .at .len + length text) (pos-of-ne-zero z) (omega arith) (omega arith);
       }))
 
   pop-kept : (d : ℕ) → d < s .at .pieces → Keeps s (fitting s (popT s d))

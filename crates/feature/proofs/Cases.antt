@@ -4,6 +4,7 @@ use mathlib.Core.Path.{_≡_, refl, sym, _∙_}
 use mathlib.Core.Logic.{_≢_}
 use mathlib.Core.Bool.{Bool, true, false, true≢false, false≢true}
 use native.Mathlib.Decide.{ℕ-discrete}
+use native.Mathlib.Omega.{arith}
 use lib.Dec.{T}
 use Rattle.feature.specs.Pick.{pick, both}
 
@@ -23,6 +24,10 @@ pub by-eq {ℓ} : {X : Type ℓ} (a b : ℕ) → (a ≡ b → X) → (a ≢ b �
 by-eq a b f g = elim (ℕ-discrete a b) [ yes e ↦ f e | no h ↦ g h ]
 
 -- ---- tests
+-- Two values that begin with different constructors are not equal: with such an equation at hand, `impossible cc`.
+pub impossible {ℓ} : {X : Type ℓ} → _≡_ {A = ℕ} 0 1 → X
+impossible e = absurd (omega arith)
+
 -- no test passes and fails
 pub clash {ℓ} : {X : Type ℓ} {b : Bool} → b ≡ true → b ≡ false → X
 clash p q = absurd (true≢false (sym p ∙ q))

@@ -1,11 +1,12 @@
 -- A test that every number below n passes: what one turn of a loop says of it. Assumes nothing.
 use Prim.Native.Nat.{ℕ, zero, suc, _+_, _<_, _≤_}
-use mathlib.Core.Path.{_≡_, refl, subst, sym, _∙_}
+use mathlib.Core.Path.{_≡_, refl, subst, sym}
 use mathlib.Core.Bool.{Bool, true, false}
 use native.Mathlib.Omega.{arith}
 use native.Mathlib.Numerals.{add-one}
 use lib.Dec.{eqb}
 use borrow.Author.Tests.{eqb-true, eqb-false}
+use Rattle.feature.proofs.Cases.{clash}
 use Rattle.feature.specs.Pick.{pick}
 use Rattle.feature.specs.Every.{every}
 
@@ -38,7 +39,7 @@ pub every-at : (f : ℕ → Bool) (n i : ℕ) → every f n ≡ true → i < n �
 every-at f n i all h = go (f i) refl where
   go : (q : Bool) → f i ≡ q → f i ≡ true
   go true e = e
-  go false e = absurd (let z : false ≡ true = sym (every-fails f n i h e) ∙ all in let y : _≡_ {A = ℕ} 0 1 = cc in omega arith)
+  go false e = clash all (every-fails f n i h e)
 
 pub every-all : (f : ℕ → Bool) (n : ℕ) → ((i : ℕ) → i < n → f i ≡ true) → every f n ≡ true
 unfolding every

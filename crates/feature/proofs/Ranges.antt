@@ -1,10 +1,9 @@
 -- The test of a kind's ranges says the same as the facts. Assumes nothing.
-use Prim.Native.Nat.{ℕ}
 use mathlib.Core.Path.{_≡_, refl}
 use mathlib.Core.Bool.{Bool, true, false}
-use native.Mathlib.Omega.{arith}
 use lib.Dec.{ltb, leb}
 use borrow.Author.Tests.{lt-ltb, le-ltb, lt-leb, ltb-true, ltb-false, leb-false}
+use Rattle.feature.proofs.Cases.{impossible}
 use Rattle.feature.specs.Pick.{pick}
 use Rattle.feature.specs.Names.{symbols}
 use Rattle.feature.specs.Kinds.{aliphaticCount, aromaticCount, noNumber, noHydrogens, noCharge, configurations, bracketInRange, inRange}
@@ -14,7 +13,7 @@ use Rattle.feature.specs.declared.atom_kind.AtomKind.{AtomKind}
 use Rattle.feature.specs.declared.atom_kind.AtomKind.the-variants.{Star, Aliphatic, Aromatic, Bracket}
 
 passes : (b : Bool) {c : Bool} → pick b false c ≡ true → (b ≡ false) × (c ≡ true)
-passes true e = absurd (let z : _≡_ {A = ℕ} 0 1 = cc in omega arith)
+passes true e = impossible cc
 passes false e = (refl, e)
 
 bracket-within : (b : BracketAtom) → bracketInRange b ≡ true → Within b

@@ -1,10 +1,11 @@
 -- What the reader finds at an atom is what the machine's atom in the making comes to, state by state. Assumes nothing.
-use Prim.Native.Nat.{ℕ, zero, suc, _+_, _*_, _<_, _≤_}
+use Prim.Native.Nat.{ℕ, _+_, _*_, _<_, _≤_}
 use mathlib.Core.Path.{_≡_, refl, sym, ap, _∙_, subst}
 use mathlib.Core.List.{List, [], _∷_}
 use mathlib.Core.Option.{Option, none, some}
 use mathlib.Core.Bool.{Bool, true, false, false≢true}
 use native.Mathlib.Omega.{arith}
+use native.Mathlib.Nat.{pos-of-ne-zero}
 use lib.Dec.{T, eqb, ltb, leb, leb→le}
 use borrow.Author.Tests.{eqb-true, eqb-false, eq-eqb, ne-eqb, ltb-false, lt-ltb, le-ltb, leb-true, leb-false, le-leb, lt-leb}
 use Rattle.feature.specs.Pick.{pick, both}
@@ -29,7 +30,7 @@ use Rattle.grammar.proofs.Sound.{digit-is}
 use Rattle.feature.specs.Names.{placeOf}
 use Rattle.feature.specs.Names as feature
 use Rattle.feature.specs.Text.{oneLetter, twoLetters}
-use Rattle.feature.proofs.Cases.{true-of}
+use Rattle.feature.proofs.Cases.{true-of, impossible}
 use Rattle.grammar.proofs.Table.{name-undigit, has1-leads, has2-leads, test-not}
 use Rattle.grammar.proofs.Symbols.{two-in, one-in, begins-in, no-end}
 use Rattle.grammar.proofs.Late.{latePart, lateClass}
@@ -65,10 +66,6 @@ guard2 P a b x y u v f g = by (eqb a b) refl
 pub either-way : {X : Type 0} (P : X → Type 0) (t : Bool) (f : T t → X) (y : X) → ((q : T t) → P (f q)) → (t ≡ false → P y) → P (test t f y)
 either-way P true f y p q = p tt
 either-way P false f y p q = q refl
-
-positive : (v : ℕ) → eqb v 0 ≡ false → 1 ≤ v
-positive zero e = absurd (eqb-false 0 0 e refl)
-positive (suc v) e = omega arith
 
 -- ---- digits
 module _ {s : List ℕ} {n : ℕ} where
@@ -152,7 +149,7 @@ module _ (s : List ℕ) (n : ℕ) where
       by true u e f = refl
       by false true e f = refl
       by false false e f =
-          let m : leb 1 v ≡ true = le-leb 1 v (positive v e) in
+          let m : leb 1 v ≡ true = le-leb 1 v (pos-of-ne-zero (eqb-false v 0 e)) in
           let l : leb v 5 ≡ true = le-leb v 5 (ltb-false 5 v f) in
           absurd (false≢true (sym h ∙ rw (m, l)))
 
@@ -522,7 +519,7 @@ module _ (s : List ℕ) (i : Isotope) (y : Symbol) where
         where
           none-here : (t : Bool) → eqb (value d) 0 ≡ t → valid1 k d ≡ false → marked (pick t (Stop n) (pick (ltb (most k) (value d)) (Stop n) (Got (base k + value d) (n + 1)))) ≡ Lacks (Character n)
           none-here true q p = rw (here-character e)
-          none-here false q p = rw (lt-ltb (most k) (value d) (valid-no k d p (positive (value d) q)), here-character e)
+          none-here false q p = rw (lt-ltb (most k) (value d) (valid-no k d p (pos-of-ne-zero (eqb-false (value d) 0 q))), here-character e)
 
   -- a template of more than nine: one digit or two
   coded1-long : (k : Class) (d : Digit) (p : T (valid1 k d)) (n : ℕ) (bs : List ℕ) → Here s n bs
@@ -560,7 +557,7 @@ module _ (s : List ℕ) (i : Isotope) (y : Symbol) where
               (pick (eqb (digitAt s (n + 1)) 10) (Got (base k + value d) (n + 1)) (pick (ltb (most k) (value d * 10 + digitAt s (n + 1))) (Got (base k + value d) (n + 1)) (Got (base k + (value d * 10 + digitAt s (n + 1))) (n + 2))))))
               ≡ Lacks (lacked (ltb x 128) n bs)
           none-here true q p = rw (late-missing s n x bs e)
-          none-here false q p = absurd (omega (arith, value-small d, valid-no k d p (positive (value d) q)))
+          none-here false q p = absurd (omega (arith, value-small d, valid-no k d p (pos-of-ne-zero (eqb-false (value d) 0 q))))
 
   -- the second letter of a template
   trigonal-run : (n : ℕ) (bs : List ℕ) → Here s n bs → marked (trigonalAt s n) ≡ partRun (family i y TH) n bs
@@ -705,5 +702,5 @@ module _ (s : List ℕ) (i : Isotope) where
   symbol-digit n b bs d e g = symbol-byte n b bs e ∙ ap (λ (o : Option Part). stepped o n bs) (test-not (leads b symbolNames) _ _ (undigit (leads b symbolNames) refl))
     where
       undigit : (t : Bool) → leads b symbolNames ≡ t → leads b symbolNames ≡ false
-      undigit true h = let z : digitOf b ≡ none = name-undigit b (subst T (sym h) tt) in let y : _≡_ {A = ℕ} 0 1 = cc in absurd (omega arith)
+      undigit true h = let z : digitOf b ≡ none = name-undigit b (subst T (sym h) tt) in impossible cc
       undigit false h = h

@@ -167,21 +167,21 @@ klass (m2 a b) = a ∷ b ∷ []
 klass (m3 a b c) = a ∷ b ∷ c ∷ []
 
 -- the templates have the same numbers in both
-pub same-last : (k : Class) → arrangements k ≡ most k
+pub same-arrangements : (k : Class) → arrangements k ≡ most k
 unfolding arrangements most
-same-last TH = refl
-same-last AL = refl
-same-last SP = refl
-same-last TB = refl
-same-last OH = refl
+same-arrangements TH = refl
+same-arrangements AL = refl
+same-arrangements SP = refl
+same-arrangements TB = refl
+same-arrangements OH = refl
 
 pub same1 : (k : Class) (d : Digit) → named1 k d ≡ valid1 k d
 unfolding named1 valid1
-same1 k d = rw (same-last k)
+same1 k d = rw (same-arrangements k)
 
 pub same2 : (k : Class) (d e : Digit) → named2 k d e ≡ valid2 k d e
 unfolding named2 valid2
-same2 k d e = rw (same-last k)
+same2 k d e = rw (same-arrangements k)
 
 chiral : Chiral → Chiral′
 chiral flat = flat′

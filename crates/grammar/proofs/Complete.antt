@@ -9,6 +9,7 @@ use lib.Dec.{eqb, leb, T, le→leb, leb→le}
 use native.Mathlib.Omega.{arith}
 use Rattle.feature.specs.Pick.{pick}
 use Rattle.feature.specs.Text.{byte}
+use Rattle.feature.proofs.Cases.{impossible}
 use Rattle.grammar.specs.Names.{has1, has2}
 use Rattle.grammar.specs.Grammar.{Digit, d0, d1, d2, d3, d4, d5, d6, d7, d8, d9, BondSign, organics, bare1, bare2, symbolNames, Symbol, short, long, organicS, Isotope, iso0, iso1, iso2, iso3, Chiral, flat, at, atat, code1, code2, Class, TH, AL, SP, TB, OH, valid1, valid2, value, most, class1, class2, Hcount, bald, H, Hn, Head, head, headS, Sign, plus, minus, signS, okay1, okay2, Charge, neutral, sign, twice, num1, num2, chargeS, Map, nomap, m1, m2, m3, mapS, Atom, organic, bracket, Rnum, ring1, ring2, Link, elided, bond, dot, Line, start, link, ring, branch, digitS, bondS, symbolS, isotopeS, chiralS, hcountS, atomS, rnumS, bond?S, linkS, spell}
 use Rattle.grammar.proofs.Table.{Free, free-use, Apart, lead-apart, bracket-apart, bracket-lead, digit-free, bond-free, bond-of, bond-undigit, bond-unpercent, Quiet, quiet-plus, quiet-minus, quiet-colon, quiet-close, free-point, free-percent, free-lp, free-rp, test-yes, test-not, has1-leads, has2-leads, seconds, no-second, name-undigit, at-second, H-second}
@@ -290,7 +291,7 @@ atom-steps (b ∷ bs) w q p e = by (partStep q b) (λ r. atom-steps bs w r p) e
   where
     by : (o : Option Part) → ((r : Part) → parts r bs ≡ some p → steps (inAtom w r) bs ≡ some (inAtom w p)) → chain o (λ r. parts r bs) ≡ some p
         → chain (atomStep w o (partEnd q) b) (λ t. steps t bs) ≡ some (inAtom w p)
-    by none f g = let z : _≡_ {A = ℕ} 0 1 = cc in absurd (omega arith)
+    by none f g = impossible cc
     by (some r) f g = f r g
 
 want-opener : (w : Where) (b : ℕ) → Apart b → wantStep w b ≡ fromPart w (begins b)

@@ -8,18 +8,18 @@ use mathlib.Core.Option.{none}
 use native.Mathlib.Omega.{arith}
 use lib.ListN.{length}
 use Rattle.feature.specs.Text.{byte, bytes}
+use Rattle.feature.proofs.Cases.{impossible}
 use Rattle.read_token.specs.declared.scanner.Missing.the-variants.{EndOfLine, Character}
 use Rattle.read_line.specs.Events.{Miss}
 use Rattle.read_line.specs.Parse.{parse}
 use Rattle.grammar.specs.Names.{table, lackedNames, has1, has2}
-use Rattle.grammar.specs.Grammar.{link, meaning, tells, enter, atomK, bracketK, symbolK, Digit, d0, d1, d2, d3, d6, d9, value, digitS, organics, bare1, bare2, organicS, symbolNames, known, short, long, symbolS, iso0, isotopeS, flat, Class, TB, OH, most, class1, class2, valid2, chiralS, bald, H, hcountS, head, headS, Sign, plus, minus, signS, neutral, chargeS, okay1, okay2, nomap, mapS, organic, bracket, atomS, ring1, rnumS, bond?S, elided, linkS, Line, start, ring, branch, spell}
+use Rattle.grammar.specs.Grammar.{link, meaning, tells, enter, atomK, bracketK, symbolK, Digit, d0, d1, d2, d3, d6, d9, value, digitS, organics, bare1, bare2, organicS, symbolNames, known, short, long, symbolS, iso0, isotopeS, flat, TB, OH, most, class1, class2, valid2, chiralS, bald, H, hcountS, head, headS, Sign, plus, minus, signS, neutral, chargeS, okay1, okay2, nomap, mapS, organic, bracket, atomS, ring1, rnumS, bond?S, elided, linkS, Line, start, ring, branch, spell}
 use Rattle.grammar.proofs.Verdict.{read-tree}
 use Rattle.grammar.proofs.First.{after-line}
-use Rattle.grammar.proofs.Chains.{same-last}
 use Rattle.grammar.proofs.Late.{late, latePart, eaten-late}
 use Rattle.builder.specs.Limits.{branchLimit}
 use Rattle.grammar.specs.Lines.{Fits, Eaten, Late, Ends, Bytes, WrongAt}
-use Rattle.grammar.specs.OpenSmiles.{arrangements, openOrganics, openNames, OpenOrganic, OpenSymbol, uncounted, flat′, pair′, chiralS′, paired, SmallChiral, bracket′, neutral′, digit′, digits′, no-rings, Chain, first, branched, no-branches, digitsS, chargeS′, classS′, atomS′, ringsS, chainS, Small, SmallCharge, SmallAtom, Strict, StrictAtom, NoBranch, Terminator, space, tab, feed, return, terminatorS}
+use Rattle.grammar.specs.OpenSmiles.{openOrganics, openNames, OpenOrganic, OpenSymbol, uncounted, flat′, pair′, chiralS′, paired, SmallChiral, bracket′, neutral′, digit′, digits′, no-rings, Chain, first, branched, no-branches, digitsS, chargeS′, classS′, atomS′, ringsS, chainS, Small, SmallCharge, SmallAtom, Strict, StrictAtom, NoBranch, Terminator, space, tab, feed, return, terminatorS}
 use Rattle.grammar.proofs.Machine.{top, ending, digitOf, bondOf, begins, leads, bodyStep}
 use Rattle.grammar.proofs.Table.{seconds, Free, free}
 use Rattle.grammar.proofs.Link.{full, told, toldWhere, toldAround, halt, parse-full}
@@ -42,10 +42,6 @@ more-organics = refl
 pub all-organics : lackedNames openOrganics organics ≡ []
 unfolding lackedNames organics openOrganics has1 has2
 all-organics = refl
-
--- the numbers of the templates' arrangements are the same
-pub same-arrangements : (k : Class) → arrangements k ≡ most k
-same-arrangements k = same-last k
 
 -- ---- read, and no OpenSMILES
 
@@ -305,7 +301,7 @@ now-timely (branch c l d) = refl
 
 timely : (t : Line) → ¬ Eaten (spell t)
 unfolding zero-state
-timely t h = let e : late (now top t) ≡ true = eaten-late (spell t) (now top t) (read-line t top) h in let f : late (now top t) ≡ false = now-timely t in let z : _≡_ {A = ℕ} 0 1 = cc in absurd (omega arith)
+timely t h = let e : late (now top t) ≡ true = eaten-late (spell t) (now top t) (read-line t top) h in let f : late (now top t) ≡ false = now-timely t in impossible cc
 
 pub terminator-told : (t : Line) (x : Terminator) (behind : List ℕ) → Fits branchLimit t → Bytes (spell t ++ (terminatorS x ∷ behind))
     → Ends (parse (spell t ++ (terminatorS x ∷ behind))) (Miss (Character (length (spell t))))

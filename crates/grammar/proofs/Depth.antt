@@ -9,6 +9,7 @@ use mathlib.Core.Logic.{_⊎_, inl, inr}
 use native.Mathlib.Omega.{arith}
 use borrow.Author.Tests.{ltb-true, ltb-false}
 use Rattle.feature.specs.Text.{byte}
+use Rattle.feature.proofs.Cases.{impossible}
 use Rattle.builder.specs.Limits.{branchLimit}
 use Rattle.grammar.specs.Grammar.{Atom, elided, bond, dot, Line, start, link, ring, branch}
 use Rattle.grammar.specs.Lines.{Fits}
@@ -125,7 +126,7 @@ fit-steps [] s t e h = let g : s ≡ t = cc in rw g h
 fit-steps (x ∷ xs) s t e h = by (step s x) (kept s x) (λ r. fit-steps xs r t) e
   where
     by : (o : Option State) → Kept x s o → ((r : State) → steps r xs ≡ some t → Fit t → Fit r) → chain o (λ r. steps r xs) ≡ some t → Fit s
-    by none k f g = let z : _≡_ {A = ℕ} 0 1 = cc in absurd (omega arith)
+    by none k f g = impossible cc
     by (some r) k f g = k .0 (f r g h)
 
 fit-height : (k : Around) → FitA k → height k ≤ branchLimit
@@ -136,11 +137,11 @@ fit-height (inside k c l) h = h .2
 pub fit-shallow : (s : State) → Fit s → deep s ≡ true → ⊥
 unfolding Fit FitW deep
 fit-shallow (want (begin k)) h e = omega (arith, ltb-true branchLimit (height k) e, fit-height k h)
-fit-shallow (want (after k c l)) h e = let z : _≡_ {A = ℕ} 0 1 = cc in absurd (omega arith)
-fit-shallow (inAtom w q) h e = let z : _≡_ {A = ℕ} 0 1 = cc in absurd (omega arith)
-fit-shallow (body k c) h e = let z : _≡_ {A = ℕ} 0 1 = cc in absurd (omega arith)
-fit-shallow (percent k c x) h e = let z : _≡_ {A = ℕ} 0 1 = cc in absurd (omega arith)
-fit-shallow (percent1 k c x d) h e = let z : _≡_ {A = ℕ} 0 1 = cc in absurd (omega arith)
+fit-shallow (want (after k c l)) h e = impossible cc
+fit-shallow (inAtom w q) h e = impossible cc
+fit-shallow (body k c) h e = impossible cc
+fit-shallow (percent k c x) h e = impossible cc
+fit-shallow (percent1 k c x d) h e = impossible cc
 
 pub fit-first : Fit (want (begin top))
 unfolding Fit FitW FitA
@@ -156,19 +157,19 @@ fit-now (branch c l d) h = (tt, h)
 top-fit : (k : Around) (c t : Line) → topmost k c ≡ some t → FitA k × Fits (roomOf k) c → Fits branchLimit t
 unfolding topmost FitA roomOf height
 top-fit top c t e h = let g : c ≡ t = cc in subst (Fits branchLimit) g (h .1)
-top-fit (inside k d l) c t e h = let z : _≡_ {A = ℕ} 0 1 = cc in absurd (omega arith)
+top-fit (inside k d l) c t e h = impossible cc
 
 pub fit-end : (s : State) (t : Line) → ending s ≡ some t → Fit s → Fits branchLimit t
 unfolding ending atomEnd Fit
-fit-end (want w) t e h = let z : _≡_ {A = ℕ} 0 1 = cc in absurd (omega arith)
+fit-end (want w) t e h = impossible cc
 fit-end (inAtom w q) t e h = by (partEnd q) e
   where
     by : (o : Option Atom) → atomEnd w o ≡ some t → Fits branchLimit t
-    by none g = let z : _≡_ {A = ℕ} 0 1 = cc in absurd (omega arith)
+    by none g = impossible cc
     by (some a) g = top-fit (around w) (put w a) t g (put-fit w a h)
 fit-end (body k c) t e h = top-fit k c t e h
-fit-end (percent k c x) t e h = let z : _≡_ {A = ℕ} 0 1 = cc in absurd (omega arith)
-fit-end (percent1 k c x d) t e h = let z : _≡_ {A = ℕ} 0 1 = cc in absurd (omega arith)
+fit-end (percent k c x) t e h = impossible cc
+fit-end (percent1 k c x d) t e h = impossible cc
 
 -- what goes too deep is "("
 pub fit-opens : (s t : State) (b : ℕ) → step s b ≡ some t → deep t ≡ true → Fit s → b ≡ byte "("

@@ -4,9 +4,8 @@ use mathlib.Core.List.{List, [], _∷_, _++_, append-assoc}
 use mathlib.Core.Option.{Option, none, some}
 use mathlib.Core.Bool.{Bool, true, false}
 use Prim.Native.Nat.{ℕ}
-use native.Mathlib.Omega.{arith}
 use Rattle.feature.specs.Text.{byte}
-use Rattle.feature.proofs.Cases.{clash}
+use Rattle.feature.proofs.Cases.{clash, impossible}
 use Rattle.grammar.specs.Names.{has1, has2}
 use Rattle.grammar.specs.Grammar.{known, organics, symbolNames, Symbol, Isotope, at, Class, TH, AL, SP, TB, OH, class1, class2, plus, minus, signS, Atom, elided, bond, dot, symbolS, isotopeS, chiralS, hcountS}
 use Rattle.grammar.proofs.Machine.{leads, digitOf, bondOf, Part, bare, whole, isotope, lead, symbol, chiral1, chiral2, family, class, coded1, coded2, famOf, classOf, hcount, hcountN, signed, doubled, charge1, charge2, colon, map1, map2, map3, signOf, toMap, toCharge, closed, begins, toClose, toHcount, toChiral, toSymbol, partStep, partEnd, top, inside, Where, begin, after, State, want, inAtom, body, percent, percent1, fromPart, bodyStep, wantStep, atomStep, step}
@@ -58,9 +57,9 @@ late (percent1 k c x d) = false
 -- a late state's text ends so
 late-class : (k : Class) (w : List ℕ) → lateClass k ≡ true → Eaten (w ++ ((byte "@") ∷ class1 k ∷ class2 k ∷ []))
 unfolding lateClass class1 class2
-late-class TH w e = let z : _≡_ {A = ℕ} 0 1 = cc in absurd (omega arith)
-late-class AL w e = let z : _≡_ {A = ℕ} 0 1 = cc in absurd (omega arith)
-late-class SP w e = let z : _≡_ {A = ℕ} 0 1 = cc in absurd (omega arith)
+late-class TH w e = impossible cc
+late-class AL w e = impossible cc
+late-class SP w e = impossible cc
 late-class TB w e = afterTB w refl
 late-class OH w e = afterOH w refl
 
@@ -207,8 +206,8 @@ late-two (inAtom w (chiral1 i s)) a OH l v e = let g : inAtom w (class i s OH) �
 late-two (inAtom w (chiral2 i s)) a TH l v e = clash l refl
 late-two (inAtom w (chiral2 i s)) a AL l v e = clash l refl
 late-two (inAtom w (chiral2 i s)) a SP l v e = clash l refl
-late-two (inAtom w (chiral2 i s)) a TB l v e = let z : _≡_ {A = ℕ} 0 1 = cc in absurd (omega arith)
-late-two (inAtom w (chiral2 i s)) a OH l v e = let z : _≡_ {A = ℕ} 0 1 = cc in absurd (omega arith)
+late-two (inAtom w (chiral2 i s)) a TB l v e = impossible cc
+late-two (inAtom w (chiral2 i s)) a OH l v e = impossible cc
 late-two (inAtom w (family i s f)) a k l v e = absurd a
 late-two (inAtom w (class i s f)) a k l v e = absurd a
 late-two (inAtom w (coded1 i s f d p)) a k l v e = absurd a
@@ -233,11 +232,11 @@ unfolding steps chain AtStates
 late-three u k v l e = by (steps zero-state u) (rw steps-app at e)
   where
     past : (o : Option State) → AtStates o → chain o (λ t. steps t (class1 k ∷ class2 k ∷ [])) ≡ some v → late v ≡ true
-    past none a g = let z : _≡_ {A = ℕ} 0 1 = cc in absurd (omega arith)
+    past none a g = impossible cc
     past (some t) a g = late-two t a k l v g
 
     by : (o : Option State) → chain o (λ t. steps t ((byte "@") ∷ class1 k ∷ class2 k ∷ [])) ≡ some v → late v ≡ true
-    by none g = let z : _≡_ {A = ℕ} 0 1 = cc in absurd (omega arith)
+    by none g = impossible cc
     by (some t) g = past (step t (byte "@")) (at-state t) g
 
 pub eaten-late : (p : List ℕ) (v : State) → steps zero-state p ≡ some v → Eaten p → late v ≡ true

@@ -6,7 +6,7 @@ use mathlib.Core.List.{List, [], _∷_, _++_, append-assoc, append-nil}
 use mathlib.Core.Option.{Option, none, some}
 use mathlib.Core.Bool.{Bool, true, false}
 use native.Mathlib.Omega.{arith}
-use native.Mathlib.Nat.{add-zero}
+use native.Mathlib.Nat.{add-zero, pos-of-ne-zero}
 use lib.ListN.{length, length-append}
 use lib.Dec.{eqb, ltb, eqb→eq}
 use borrow.Author.Tests.{eqb-true, eqb-false, ne-eqb, lt-ltb, le-ltb}
@@ -172,10 +172,6 @@ union-found s at x n k (b ∷ bs) q m = by (partStep q b) (partEnd q) (λ r. uni
     by (some r) i f = f r
     by none none f = unfold stopped unionBy foundP in refl
     by none (some a) f = unfold stopped unionBy foundP in refl
-
-one-more : (n : ℕ) → eqb n 0 ≡ false → 1 ≤ n
-one-more zero e = absurd (eqb-false 0 0 e refl)
-one-more (suc n) e = omega arith
 
 -- ---- facts of bytes
 -- what a byte begins, in the machine's order
@@ -523,7 +519,7 @@ module _ (s : List ℕ) where
             ≡ pick (ltb branchLimit (height a + 1)) (toldLine a c ++ (Nest n ∷ [])) (full (want (begin (inside a c elided))) (n + 1) bs)
         by true y = rw (lt-ltb branchLimit (height a + 1) (omega (arith, eqb-true room 0 y)))
         by false y =
-            let some-room : 1 ≤ room = one-more room y in
+            let some-room : 1 ≤ room = pos-of-ne-zero (eqb-false room 0 y) in
             let shallow : ltb branchLimit (height a + 1) ≡ false = le-ltb branchLimit (height a + 1) (omega arith) in
             rw shallow (open-list a c (λ at n. more (room - 1) at n (closeP s (λ at. g at (atoms c)))) m (n + 1) bs shallow (λ d. inner d (omega arith)) (omega arith) (here-next e)
             (further (aroundS a) (spell c) [] (byte "(" ∷ []) n (n + 1) placeB (omega arith)))

@@ -9,6 +9,7 @@ use lib.Dec.{eqb, T}
 use lib.ListN.{length}
 use native.Mathlib.Omega.{arith}
 use Rattle.feature.specs.Text.{byte}
+use Rattle.feature.proofs.Cases.{impossible}
 use Rattle.grammar.specs.Grammar.{Digit, d0, d1, d2, d3, d4, d5, d6, d7, d8, d9, iso0, iso3, at, Isotope, Symbol, class1, class2, valid1, valid2, code1, Head, head, headS, signS, okay1, okay2, Charge, Atom, Link, Line, start, link, digitS, symbolS, chiralS, hcountS, atomS, linkS, spell}
 use Rattle.grammar.proofs.Machine.{Part, isotope, signed, charge1, charge2, map3, class, coded1, coded2, toChiral, grow, toClose, partStep, partEnd, Around, top, inside, Where, begin, after, State, want, inAtom, atomStep, step, done, character, read}
 use Rattle.grammar.proofs.Table.{test-yes, test-not, at-second}
@@ -278,4 +279,4 @@ open-read s u t e r = by (chain-run u top)
     by (inr z) =
         let c : read (chainS u) ≡ character (length (z .before)) = rw (z .is) (read-stuck (z .before) (z .byte) (z .behind) (z .last) (z .gone) (z .halts)) in
         let d : read (chainS u) ≡ done t = rw e r in
-        let o : _≡_ {A = ℕ} 0 1 = cc in absurd (omega arith)
+        impossible cc

@@ -9,6 +9,7 @@ use lib.Dec.{T}
 use lib.ListN.{length}
 use native.Mathlib.Omega.{arith}
 use Rattle.feature.specs.Text.{byte}
+use Rattle.feature.proofs.Cases.{impossible}
 use Rattle.grammar.specs.Names.{has1}
 use Rattle.grammar.specs.Grammar.{known, d0, d1, BondSign, organics, bare1, bare2, symbolNames, Symbol, short, long, organicS, Isotope, Chiral, flat, at, atat, code1, code2, Class, TH, AL, SP, TB, OH, valid1, value, most, class2, Hcount, bald, H, Hn, Head, head, headS, Charge, neutral, sign, twice, num1, num2, chargeS, Map, nomap, m1, m2, m3, mapS, Atom, organic, bracket, Rnum, ring2, Line, ring, branch, digitS, symbolS, chiralS, hcountS, atomS, rnumS, bond?S, spell}
 use Rattle.grammar.specs.Lines.{Spelled, Viable, WrongAt}
@@ -24,7 +25,7 @@ go-steps (x ∷ xs) ys s t n e = by (step s x) (λ r. go-steps xs ys r t (suc n)
   where
     by : (o : Option State) → ((r : State) → steps r xs ≡ some t → go r (suc n) (xs ++ ys) ≡ go t (length xs + suc n) ys)
         → chain o (λ r. steps r xs) ≡ some t → next o n (λ r. go r (suc n) (xs ++ ys)) ≡ go t (suc (length xs) + n) ys
-    by none f g = let z : _≡_ {A = ℕ} 0 1 = cc in absurd (omega arith)
+    by none f g = impossible cc
     by (some r) f g = f r g ∙ ap (λ (m : ℕ). go t m ys) (omega arith)
 
 -- COMPLETE
@@ -38,13 +39,13 @@ unfolding go next finished Told Moved
 sound-go [] s n t e = by (ending s) (ending-ok s) e
   where
     by : (o : Option Line) → Told (sofar s) o → finished o ≡ done t → spell t ≡ sofar s ++ []
-    by none h g = let z : _≡_ {A = ℕ} 0 1 = cc in absurd (omega arith)
+    by none h g = impossible cc
     by (some u) h g = let q : u ≡ t = cc in rw (append-nil, ← q) h
 sound-go (b ∷ bs) s n t e = by (step s b) (step-ok s b) (λ r. sound-go bs r (suc n) t) e
   where
     by : (o : Option State) → Moved (sofar s) b o → ((r : State) → go r (suc n) bs ≡ done t → spell t ≡ sofar r ++ bs)
         → next o n (λ r. go r (suc n) bs) ≡ done t → spell t ≡ sofar s ++ (b ∷ bs)
-    by none h f g = let z : _≡_ {A = ℕ} 0 1 = cc in absurd (omega arith)
+    by none h f g = impossible cc
     by (some r) h f g = simp (h, append-assoc) at (f r g)
 
 pub sound : (s : List ℕ) (t : Line) → read s ≡ done t → spell t ≡ s
@@ -173,7 +174,7 @@ sofar-steps [] s t e = let g : s ≡ t = cc in rw (append-nil, g)
 sofar-steps (b ∷ p) s t e = by (step s b) (step-ok s b) (λ r. sofar-steps p r t) e
   where
     by : (o : Option State) → Moved (sofar s) b o → ((r : State) → steps r p ≡ some t → sofar t ≡ sofar r ++ p) → chain o (λ r. steps r p) ≡ some t → sofar t ≡ sofar s ++ (b ∷ p)
-    by none h f g = let z : _≡_ {A = ℕ} 0 1 = cc in absurd (omega arith)
+    by none h f g = impossible cc
     by (some r) h f g = simp (h, append-assoc) at (f r g)
 
 unfoldable pub zero-state : State
@@ -199,7 +200,7 @@ stuck-dead p x t e f v =
     let u = v .0 in
     let g : read (spell u) ≡ character (length p) = rw (v .2, append-assoc) (read-stuck p x (v .1) t e f) in
     let h : read (spell u) ≡ done u = complete u in
-    let z : _≡_ {A = ℕ} 0 1 = cc in absurd (omega arith)
+    impossible cc
 
 unfoldable pub stuck-refused : (p : List ℕ) (x : ℕ) (r : List ℕ) (t : State) → steps zero-state p ≡ some t → step t x ≡ none → WrongAt (p ++ (x ∷ r)) (length p)
 stuck-refused p x r t e f =
@@ -215,8 +216,8 @@ unfolding finished
 character-refused s n e = by (trace s zero-state)
   where
     ended-by : (o : Option Line) → finished o ≡ character n → ⊥
-    ended-by none g = let z : _≡_ {A = ℕ} 0 1 = cc in absurd (omega arith)
-    ended-by (some u) g = let z : _≡_ {A = ℕ} 0 1 = cc in absurd (omega arith)
+    ended-by none g = impossible cc
+    ended-by (some u) g = impossible cc
 
     by : Trace zero-state s → WrongAt s n
     by (through t g) = absurd (ended-by (ending t) (sym (read-through s t g) ∙ e))
@@ -252,13 +253,13 @@ unfolding Spelled
 end-refused s e = (by (trace s zero-state), no-line)
   where
     no-line : Spelled s → ⊥
-    no-line v = let g : read s ≡ done (v .0) = rw (v .1) at (complete (v .0)) in let z : _≡_ {A = ℕ} 0 1 = cc in absurd (omega arith)
+    no-line v = let g : read s ≡ done (v .0) = rw (v .1) at (complete (v .0)) in impossible cc
 
     by : Trace zero-state s → Viable s
     by (through t g) = through-viable s t g
     by (stuck p x r t h g f) =
         let a : read s ≡ character (length p) = rw h (read-stuck p x r t g f) in
-        let z : _≡_ {A = ℕ} 0 1 = cc in absurd (omega arith)
+        impossible cc
 
 pub refused-end : (s : List ℕ) → Viable s → ¬ Spelled s → read s ≡ endOfLine
 unfolding finished Spelled

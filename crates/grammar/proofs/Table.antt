@@ -5,10 +5,10 @@ use mathlib.Core.Option.{Option, none, some}
 use mathlib.Core.Bool.{Bool, true, false}
 use Prim.Native.Nat.{ℕ}
 use lib.Dec.{eqb, T, T-prop}
-use native.Mathlib.Omega.{arith}
 use borrow.Author.Tests.{eqb-true, eq-eqb}
 use Rattle.feature.specs.Pick.{pick}
 use Rattle.feature.specs.Text.{byte}
+use Rattle.feature.proofs.Cases.{impossible}
 use Rattle.grammar.specs.Names.{Name, one, two, has1, has2}
 use Rattle.grammar.specs.Grammar.{known, Digit, d0, d1, d2, d3, d4, d5, d6, d7, d8, d9, digitS, bondS, BondSign, single, double, triple, quadruple, aromatic, up, down, organics, symbolNames}
 use Rattle.grammar.proofs.Machine.{test, leads, digitOf, bondOf, famOf}
@@ -18,7 +18,7 @@ test-yes true p f y = ap f (T-prop true tt p)
 test-yes false p f y = absurd p
 
 pub test-not : {X : Type 0} (t : Bool) (f : T t → X) (y : X) → t ≡ false → test t f y ≡ y
-test-not true f y e = let z : _≡_ {A = ℕ} 0 1 = cc in absurd (omega arith)
+test-not true f y e = impossible cc
 test-not false f y e = refl
 
 either : (t u v : Bool) → T (pick t true u) → (T u → T v) → T (pick t true v)
@@ -86,7 +86,7 @@ no-second a b (two x y ∷ l) e = by (eqb a x) (eqb b y) e (no-second a b l)
   where
     by : (s t : Bool) → pick t true (seconds b l) ≡ false → (seconds b l ≡ false → has2 a b l ≡ false) → pick s (pick t true (has2 a b l)) (has2 a b l) ≡ false
     by true true g f = g
-    by false true g f = let z : _≡_ {A = ℕ} 0 1 = cc in absurd (omega arith)
+    by false true g f = impossible cc
     by true false g f = f g
     by false false g f = f g
 
@@ -104,7 +104,7 @@ undigits (two x y ∷ l) = pick (blank (digitOf x)) (undigits l) false
 empty : (o : Option Digit) (t : Bool) → pick (blank o) t false ≡ true → (o ≡ none) × (t ≡ true)
 unfolding blank
 empty none t e = (refl, e)
-empty (some d) t e = let z : _≡_ {A = ℕ} 0 1 = cc in absurd (omega arith)
+empty (some d) t e = impossible cc
 
 first-no : (a x : ℕ) (t u : Bool) → pick (blank (digitOf x)) t false ≡ true → T (pick (eqb a x) true u) → (t ≡ true → T u → digitOf a ≡ none) → digitOf a ≡ none
 first-no a x t u h p f = by (eqb a x) refl p
@@ -189,7 +189,7 @@ clash l (one x ∷ m) = pick (clashes x l l) true (clash l m)
 clash l (two x y ∷ m) = clash l m
 
 neither : (t u : Bool) → pick t true u ≡ false → (t ≡ false) × (u ≡ false)
-neither true u e = let z : _≡_ {A = ℕ} 0 1 = cc in absurd (omega arith)
+neither true u e = impossible cc
 neither false u e = (refl, e)
 
 here-or : (a x : ℕ) (u : Bool) (P : ℕ → Type 0) → T (pick (eqb a x) true u) → P x → (T u → P a) → P a

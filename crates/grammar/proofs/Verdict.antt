@@ -10,7 +10,7 @@ use lib.ListN.{length, length-append}
 use lib.Dec.{ltb}
 use borrow.Author.Tests.{ltb-true, lt-ltb}
 use Rattle.feature.specs.Pick.{pick, both}
-use Rattle.feature.proofs.Cases.{both-true, clash}
+use Rattle.feature.proofs.Cases.{both-true, clash, impossible}
 use Rattle.read_token.specs.declared.scanner.Missing.{Missing}
 use Rattle.read_token.specs.declared.scanner.Missing.the-variants.{EndOfLine, Character}
 use Rattle.builder.specs.Limits.{branchLimit}
@@ -32,19 +32,19 @@ use Rattle.grammar.proofs.Depth.{Fit, fit-next, fit-opens, fit-steps, f
 top-told : (k : Around) (c t : Line) → topmost k c ≡ some t → toldLine k c ≡ meaning t
 unfolding topmost toldLine toldAround meaning aroundS entry
 top-told top c t e = let g : c ≡ t = cc in rw g
-top-told (inside k d l) c t e = let z : _≡_ {A = ℕ} 0 1 = cc in absurd (omega arith)
+top-told (inside k d l) c t e = impossible cc
 
 ending-told : (s : State) (t : Line) → ending s ≡ some t → told s ≡ meaning t
 unfolding ending told atomEnd toldAtom
-ending-told (want w) t e = let z : _≡_ {A = ℕ} 0 1 = cc in absurd (omega arith)
+ending-told (want w) t e = impossible cc
 ending-told (inAtom w q) t e = by (partEnd q) e
   where
     by : (o : Option Atom) → atomEnd w o ≡ some t → toldAtom w o ≡ meaning t
-    by none g = let z : _≡_ {A = ℕ} 0 1 = cc in absurd (omega arith)
+    by none g = impossible cc
     by (some a) g = top-told (around w) (put w a) t g
 ending-told (body k c) t e = top-told k c t e
-ending-told (percent k c x) t e = let z : _≡_ {A = ℕ} 0 1 = cc in absurd (omega arith)
-ending-told (percent1 k c x d) t e = let z : _≡_ {A = ℕ} 0 1 = cc in absurd (omega arith)
+ending-told (percent k c x) t e = impossible cc
+ending-told (percent1 k c x d) t e = impossible cc
 
 -- ---- one place further
 steps-on : (p : List ℕ) (b : ℕ) (u t : State) → steps zero-state p ≡ some u → step u b ≡ some t → steps zero-state (p ++ (b ∷ [])) ≡ some t
@@ -170,10 +170,10 @@ read-tree t f = by (verdict (spell t) (spelled-bytes t))
 -- ---- REFUSALS, by the last event
 pub snoc-last : (xs ys : List ReadEvent) (a b : ReadEvent) → xs ++ (a ∷ []) ≡ ys ++ (b ∷ []) → a ≡ b
 snoc-last [] [] a b e = cc
-snoc-last [] (y ∷ []) a b e = let z : _≡_ {A = ℕ} 0 1 = cc in absurd (omega arith)
-snoc-last [] (y ∷ (x ∷ ys)) a b e = let z : _≡_ {A = ℕ} 0 1 = cc in absurd (omega arith)
-snoc-last (x ∷ []) [] a b e = let z : _≡_ {A = ℕ} 0 1 = cc in absurd (omega arith)
-snoc-last (x ∷ (y ∷ xs)) [] a b e = let z : _≡_ {A = ℕ} 0 1 = cc in absurd (omega arith)
+snoc-last [] (y ∷ []) a b e = impossible cc
+snoc-last [] (y ∷ (x ∷ ys)) a b e = impossible cc
+snoc-last (x ∷ []) [] a b e = impossible cc
+snoc-last (x ∷ (y ∷ xs)) [] a b e = impossible cc
 snoc-last (x ∷ xs) (y ∷ ys) a b e = let g : xs ++ (a ∷ []) ≡ ys ++ (b ∷ []) = cc in snoc-last xs ys a b g
 
 -- a text is wrong at one place
@@ -206,11 +206,11 @@ module _ (s : List ℕ) (h : Bytes s) where
     where
       by : Verdict s (parse s) → ((r : WrongAt s n) × ¬ Late r) ⊎ ((m : ℕ) × (r : WrongAt s m) × Late r × (lateMissing m (r .behind) ≡ Character n))
       by (reads t i f m) = absurd (unmissed (e .0) (Character n) (subst Clean (sym m ∙ e .1) (clean-meaning t)))
-      by (ends es i v u) = let g : Miss EndOfLine ≡ Miss (Character n) = snoc-last es (e .0) _ _ (sym i ∙ e .1) in let z : _≡_ {A = ℕ} 0 1 = cc in absurd (omega arith)
+      by (ends es i v u) = let g : Miss EndOfLine ≡ Miss (Character n) = snoc-last es (e .0) _ _ (sym i ∙ e .1) in impossible cc
       by (refuses m es i r u) = let g : Miss (Character m) ≡ Miss (Character n) = snoc-last es (e .0) _ _ (sym i ∙ e .1) in let z : m ≡ n = cc in
           inl (subst (λ (k : ℕ). (r : WrongAt s k) × ¬ Late r) z (r, u))
       by (refusesLate m es r i u) = let g : Miss (lateMissing m (r .behind)) ≡ Miss (Character n) = snoc-last es (e .0) _ _ (sym i ∙ e .1) in inr (m, r, u, cc)
-      by (nests m es i r) = let g : Nest m ≡ Miss (Character n) = snoc-last es (e .0) _ _ (sym i ∙ e .1) in let z : _≡_ {A = ℕ} 0 1 = cc in absurd (omega arith)
+      by (nests m es i r) = let g : Nest m ≡ Miss (Character n) = snoc-last es (e .0) _ _ (sym i ∙ e .1) in impossible cc
 
   pub refused-is : (n : ℕ) (r : WrongAt s n) → ¬ Late r → Ends (parse s) (Miss (Character n)) ⊎ Nests s
   unfolding Ends Nests
@@ -258,9 +258,9 @@ module _ (s : List ℕ) (h : Bytes s) where
       by : Verdict s (parse s) → (Viable s × ¬ Spelled s) ⊎ ((m : ℕ) × (r : WrongAt s m) × Late r × (lateMissing m (r .behind) ≡ EndOfLine))
       by (reads t i f m) = absurd (unmissed (e .0) EndOfLine (subst Clean (sym m ∙ e .1) (clean-meaning t)))
       by (ends es i v u) = inl (v, u)
-      by (refuses m es i r u) = let g : Miss (Character m) ≡ Miss EndOfLine = snoc-last es (e .0) _ _ (sym i ∙ e .1) in let z : _≡_ {A = ℕ} 0 1 = cc in absurd (omega arith)
+      by (refuses m es i r u) = let g : Miss (Character m) ≡ Miss EndOfLine = snoc-last es (e .0) _ _ (sym i ∙ e .1) in impossible cc
       by (refusesLate m es r i u) = let g : Miss (lateMissing m (r .behind)) ≡ Miss EndOfLine = snoc-last es (e .0) _ _ (sym i ∙ e .1) in inr (m, r, u, cc)
-      by (nests m es i r) = let g : Nest m ≡ Miss EndOfLine = snoc-last es (e .0) _ _ (sym i ∙ e .1) in let z : _≡_ {A = ℕ} 0 1 = cc in absurd (omega arith)
+      by (nests m es i r) = let g : Nest m ≡ Miss EndOfLine = snoc-last es (e .0) _ _ (sym i ∙ e .1) in impossible cc
 
   pub ended-is : Viable s → ¬ Spelled s → Ends (parse s) (Miss EndOfLine) ⊎ Nests s
   unfolding Ends Nests
@@ -283,7 +283,7 @@ module _ (s : List ℕ) (h : Bytes s) where
     where
       by : Verdict s (parse s) → TooDeep s n
       by (reads t i f m) = absurd (unnested (e .0) n (subst Clean (sym m ∙ e .1) (clean-meaning t)))
-      by (ends es i v u) = let g : Miss EndOfLine ≡ Nest n = snoc-last es (e .0) _ _ (sym i ∙ e .1) in let z : _≡_ {A = ℕ} 0 1 = cc in absurd (omega arith)
-      by (refuses m es i r u) = let g : Miss (Character m) ≡ Nest n = snoc-last es (e .0) _ _ (sym i ∙ e .1) in let z : _≡_ {A = ℕ} 0 1 = cc in absurd (omega arith)
-      by (refusesLate m es r i u) = let g : Miss (lateMissing m (r .behind)) ≡ Nest n = snoc-last es (e .0) _ _ (sym i ∙ e .1) in let z : _≡_ {A = ℕ} 0 1 = cc in absurd (omega arith)
+      by (ends es i v u) = let g : Miss EndOfLine ≡ Nest n = snoc-last es (e .0) _ _ (sym i ∙ e .1) in impossible cc
+      by (refuses m es i r u) = let g : Miss (Character m) ≡ Nest n = snoc-last es (e .0) _ _ (sym i ∙ e .1) in impossible cc
+      by (refusesLate m es r i u) = let g : Miss (lateMissing m (r .behind)) ≡ Nest n = snoc-last es (e .0) _ _ (sym i ∙ e .1) in impossible cc
       by (nests m es i t) = let g : Nest m ≡ Nest n = snoc-last es (e .0) _ _ (sym i ∙ e .1) in let z : m ≡ n = cc in subst (TooDeep s) z t

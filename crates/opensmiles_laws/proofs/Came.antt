@@ -10,6 +10,7 @@ use lib.Dec.{ltb}
 use lib.ListN.{length}
 use borrow.Author.Tests.{eq-eqb, ne-eqb, lt-ltb, le-ltb, ltb-true, ltb-false}
 use Rattle.feature.specs.Pick.{pick}
+use Rattle.feature.proofs.Cases.{impossible}
 use Rattle.builder.specs.Limits.{textLimit}
 use Rattle.read_token.specs.declared.scanner.Missing.the-variants as missing
 use Rattle.read_line.specs.Events.{ReadEvent, Enter, Join, Pop, Miss, Nest}
@@ -86,7 +87,7 @@ unfolding next moleculeTold numbered moleculeRinged closed
 fails-none _ _ _ _ (fails m e r at x path h w f a) = rw (w, f, a)
 
 some-fails : (o : Option Molecule) (e : ReadEvent) (x y : ℕ) → Fails o e x y → ¬ (o ≡ none)
-some-fails _ _ _ _ (fails m e r at x path h w f a) i = let z : _≡_ {A = ℕ} 0 1 = cc in omega arith
+some-fails _ _ _ _ (fails m e r at x path h w f a) i = impossible cc
 
 none-fails : (e : ReadEvent) (x y : ℕ) → ¬ Fails none e x y
 none-fails e x y f = some-fails none e x y f refl
@@ -112,8 +113,8 @@ disagree-none : (o : Option Molecule) (x y : ℕ) → ¬ Disagree o [] x y
 disagree-none o x y s = by (s .before) (s .is)
   where
     by : (before : List ReadEvent) → [] ≡ before ++ (s .event ∷ s .after) → ⊥
-    by [] i = let z : _≡_ {A = ℕ} 0 1 = cc in omega arith
-    by (b ∷ before) i = let z : _≡_ {A = ℕ} 0 1 = cc in omega arith
+    by [] i = impossible cc
+    by (b ∷ before) i = impossible cc
 
 disagree-one : (es : List ReadEvent) (o : Option Molecule) (x y v w : ℕ) → Disagree o es x y → Disagree o es v w → (x ≡ v) × (y ≡ w)
 disagree-one [] o x y v w s t = absurd (disagree-none o x y s)
@@ -159,7 +160,7 @@ pub data Came (s : List ℕ) (la lb : ℕ) : Said → Type 0 where
   done : (ns : List Node) → DoneAs s la lb ns → Came s la lb (doneSaid la lb ns)
 
 pub clash-some : {P : Type 0} (o : Option Molecule) (m : Molecule) → o ≡ none → o ≡ some m → P
-clash-some o m h g = let z : _≡_ {A = ℕ} 0 1 = cc in absurd (omega arith)
+clash-some o m h g = impossible cc
 
 same-atoms : (o : Option Molecule) (m x : Molecule) → o ≡ some m → o ≡ some x → m .atoms ≡ x .atoms
 same-atoms o m x h g = unfold atomsIn in (ap atomsIn (sym h) ∙ ap atomsIn g)

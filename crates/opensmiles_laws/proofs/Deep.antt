@@ -10,6 +10,7 @@ use native.Mathlib.Omega.{arith}
 use lib.ListN.{length, length-append}
 use Rattle.feature.specs.Pick.{pick}
 use Rattle.feature.specs.Text.{byte}
+use Rattle.feature.proofs.Cases.{impossible}
 use Rattle.read_token.specs.declared.scanner.Missing.{Missing}
 use Rattle.builder.specs.Limits.{branchLimit}
 use Rattle.read_line.specs.Events.{ReadEvent, Enter, Join, Pop, Miss, Nest}
@@ -70,7 +71,7 @@ fit-full (b ∷ q) bs u v n e h = by (step u b) refl e (λ t g f. fit-full q bs 
     by : (o : Option State) → step u b ≡ o → chain o (λ t. steps t q) ≡ some v
         → ((t : State) → steps t q ≡ some v → Fit t → ((told : List ReadEvent) × (m : ℕ) × (full t (n + 1) (q ++ bs) ≡ told ++ (Nest m ∷ [])) × (m < n + 1 + length q)) ⊎ (Fit v × (full t (n + 1) (q ++ bs) ≡ full v (n + 1 + length q) bs)))
         → Rest (onward o (told u ++ (Miss (refusal u n b (q ++ bs)) ∷ [])) (told u ++ (Nest n ∷ [])) (λ t. full t (n + 1) (q ++ bs)))
-    by none i g go = let z : _≡_ {A = ℕ} 0 1 = cc in absurd (omega arith)
+    by none i g go = impossible cc
     by (some t) i g go = unfold onward in deeper (deep t) refl
       where
         deeper : (x : Bool) → deep t ≡ x → Rest (pick x (told u ++ (Nest n ∷ [])) (full t (n + 1) (q ++ bs)))
@@ -180,10 +181,10 @@ module _ (x : Missing) (after : List ReadEvent) where
   tidy-miss (Enter l k at ∷ es) t = tidy-miss es t
   tidy-miss (Join e r at ∷ es) t = tidy-miss es t
   tidy-miss (Pop i ∷ es) t = tidy-miss es t
-  tidy-miss (Miss y ∷ []) t = let z : _≡_ {A = ℕ} 0 1 = cc in absurd (omega arith)
-  tidy-miss (Miss y ∷ (e ∷ es)) t = let z : _≡_ {A = ℕ} 0 1 = cc in absurd (omega arith)
-  tidy-miss (Nest at ∷ []) t = let z : _≡_ {A = ℕ} 0 1 = cc in absurd (omega arith)
-  tidy-miss (Nest at ∷ (e ∷ es)) t = let z : _≡_ {A = ℕ} 0 1 = cc in absurd (omega arith)
+  tidy-miss (Miss y ∷ []) t = impossible cc
+  tidy-miss (Miss y ∷ (e ∷ es)) t = impossible cc
+  tidy-miss (Nest at ∷ []) t = impossible cc
+  tidy-miss (Nest at ∷ (e ∷ es)) t = impossible cc
 
 module _ (n : ℕ) (after : List ReadEvent) where
   pub tidy-nest : (before : List ReadEvent) → Tidy (before ++ (Nest n ∷ after)) → after ≡ []
@@ -192,7 +193,7 @@ module _ (n : ℕ) (after : List ReadEvent) where
   tidy-nest (Enter l k at ∷ es) t = tidy-nest es t
   tidy-nest (Join e r at ∷ es) t = tidy-nest es t
   tidy-nest (Pop i ∷ es) t = tidy-nest es t
-  tidy-nest (Miss y ∷ []) t = let z : _≡_ {A = ℕ} 0 1 = cc in absurd (omega arith)
-  tidy-nest (Miss y ∷ (e ∷ es)) t = let z : _≡_ {A = ℕ} 0 1 = cc in absurd (omega arith)
-  tidy-nest (Nest at ∷ []) t = let z : _≡_ {A = ℕ} 0 1 = cc in absurd (omega arith)
-  tidy-nest (Nest at ∷ (e ∷ es)) t = let z : _≡_ {A = ℕ} 0 1 = cc in absurd (omega arith)
+  tidy-nest (Miss y ∷ []) t = impossible cc
+  tidy-nest (Miss y ∷ (e ∷ es)) t = impossible cc
+  tidy-nest (Nest at ∷ []) t = impossible cc
+  tidy-nest (Nest at ∷ (e ∷ es)) t = impossible cc

@@ -4,11 +4,11 @@ use Prim.Native.Nat.{ℕ, zero, suc}
 use mathlib.Core.Path.{_≡_, refl, sym, ap, _∙_, subst}
 use mathlib.Core.List.{List, [], _∷_, _++_, append-assoc, append-nil}
 use mathlib.Core.Option.{Option, none, some}
-use native.Mathlib.Omega.{arith}
 use lib.ListN.{length}
 use Rattle.feature.specs.declared.atom_kind.AtomKind.{AtomKind}
 use Rattle.feature.specs.declared.atom_kind.AtomKind.the-variants.{Star}
 use Rattle.feature.specs.declared.bond_kind.BondKind.{BondKind}
+use Rattle.feature.proofs.Cases.{impossible}
 use Rattle.read_line.specs.declared.lead.Lead.{Lead}
 use Rattle.read_line.specs.declared.lead.Lead.the-variants.{Dot, Bond}
 use Rattle.read_line.specs.Events.{ReadEvent, Enter, Join, Pop, Miss, Nest}
@@ -212,7 +212,7 @@ atomsIn (some m) = m .atoms
 
 other : (o : Option Molecule) (m : Molecule) → erased o ≡ erased (some m) → (x : Molecule) × (o ≡ some x) × (erase (x .atoms) ≡ erase (m .atoms))
 unfolding erased eraseM
-other none m h = absurd (let z : _≡_ {A = ℕ} 0 1 = cc in omega arith)
+other none m h = impossible cc
 other (some x) m h = (x, refl, unfold atomsIn in ap atomsIn h)
 
 -- held in one way and in another

@@ -6,6 +6,7 @@ use mathlib.Core.Option.{Option}
 use mathlib.Core.Logic.{_⊎_, inl, inr}
 use native.Mathlib.Omega.{arith}
 use lib.ListN.{length}
+use Rattle.feature.proofs.Cases.{impossible}
 use Rattle.builder.specs.Limits.{textLimit}
 use Rattle.read_token.specs.declared.scanner.Missing.{Missing}
 use Rattle.read_token.specs.declared.scanner.Missing.the-variants as missing
@@ -143,10 +144,10 @@ stops-more p l es ys o n a s =
 -- ---- lists that end in one event
 pub snoc-init : (xs ys : List ReadEvent) (a b : ReadEvent) → xs ++ (a ∷ []) ≡ ys ++ (b ∷ []) → xs ≡ ys
 snoc-init [] [] a b e = refl
-snoc-init [] (y ∷ []) a b e = let z : _≡_ {A = ℕ} 0 1 = cc in absurd (omega arith)
-snoc-init [] (y ∷ (x ∷ ys)) a b e = let z : _≡_ {A = ℕ} 0 1 = cc in absurd (omega arith)
-snoc-init (x ∷ []) [] a b e = let z : _≡_ {A = ℕ} 0 1 = cc in absurd (omega arith)
-snoc-init (x ∷ (y ∷ xs)) [] a b e = let z : _≡_ {A = ℕ} 0 1 = cc in absurd (omega arith)
+snoc-init [] (y ∷ []) a b e = impossible cc
+snoc-init [] (y ∷ (x ∷ ys)) a b e = impossible cc
+snoc-init (x ∷ []) [] a b e = impossible cc
+snoc-init (x ∷ (y ∷ xs)) [] a b e = impossible cc
 snoc-init (x ∷ xs) (y ∷ ys) a b e =
     let g : xs ++ (a ∷ []) ≡ ys ++ (b ∷ []) = cc in let h : x ≡ y = cc in ap₂ (λ (i : ReadEvent) (l : List ReadEvent). i ∷ l) h (snoc-init xs ys a b g)
 
@@ -174,7 +175,7 @@ module _ (s : List ℕ) (h : Bytes s) (la lb : ℕ) where
   shallow x before i m d =
       let v = deep-nests s h m d in
       let g : Miss x ≡ Nest (v .0) = snoc-last before (v .1 .0) (Miss x) (Nest (v .0)) (sym i ∙ v .1 .1) in
-      let z : _≡_ {A = ℕ} 0 1 = cc in omega arith
+      impossible cc
 
   pub first-deep : (n : ℕ) (before : List ReadEvent) → parse s ≡ before ++ (Nest n ∷ []) → FirstDeep s n
   unfolding Ends FirstDeep
@@ -347,10 +348,10 @@ module _ (s : List ℕ) (h : Bytes s) (la lb : ℕ) where
   stops-undone b n m e q = subst (Kind (q .event)) e (meets-kind (placesIn la) (bondSlotsIn lb) _ _ (q .event) b (q .meets))
 
   as-said : (x : Said) → Came s la lb x → SaidAs s la lb x
-  as-said _ (long l) = said-not (answer.TextTooLong (length s)) (λ n m g. let z : _≡_ {A = ℕ} 0 1 = cc in omega arith) (came-when s h la lb _ (long l))
+  as-said _ (long l) = said-not (answer.TextTooLong (length s)) (λ n m g. impossible cc) (came-when s h la lb _ (long l))
   as-said _ (halts short b q) = said-not b (λ n m g. stops-undone b n m g q) (came-when s h la lb _ (halts short b q))
-  as-said _ (disagrees x y w) = said-not (answer.Join x y) (λ n m g. let z : _≡_ {A = ℕ} 0 1 = cc in omega arith) (came-when s h la lb _ (disagrees x y w))
-  as-said _ (opens j w) = said-not (answer.Rnum j) (λ n m g. let z : _≡_ {A = ℕ} 0 1 = cc in omega arith) (came-when s h la lb _ (opens j w))
+  as-said _ (disagrees x y w) = said-not (answer.Join x y) (λ n m g. impossible cc) (came-when s h la lb _ (disagrees x y w))
+  as-said _ (opens j w) = said-not (answer.Rnum j) (λ n m g. impossible cc) (came-when s h la lb _ (opens j w))
   as-said _ (done ns w) = said-done ns w
 
   said-by : (x : Said) → SaidAs s la lb x → readText s la lb ≡ x

@@ -12,7 +12,7 @@ use Rattle.feature.specs.declared.atom_kind.AtomKind.the-variants.{Star, Alipha
 use Rattle.feature.specs.declared.atom_kind.Inverted.{Inverted}
 use Rattle.feature.specs.declared.atom_kind.Inverted.the-variants.{Turned, Refused}
 use Rattle.feature.specs.declared.bond_kind.BondKind.{BondKind}
-use Rattle.feature.proofs.Cases.{by-test}
+use Rattle.feature.proofs.Cases.{by-test, impossible}
 use Rattle.read_line.specs.declared.lead.Lead.the-variants.{Dot, Bond}
 use Rattle.read_line.specs.Events.{ReadEvent, Enter, Join, Pop, Miss, Nest}
 use Rattle.builder_meaning.specs.Sketch.{countOf}
@@ -23,16 +23,16 @@ use Rattle.opensmiles_laws.specs.Stops.{Unturnable, unturnable, Meets, n
 
 pub refused-unturnable : (k : AtomKind) → invertOf k ≡ Refused → Unturnable k
 unfolding invertOf invertBracket
-refused-unturnable Star h = let z : _≡_ {A = ℕ} 0 1 = cc in absurd (omega arith)
-refused-unturnable (Aliphatic n) h = let z : _≡_ {A = ℕ} 0 1 = cc in absurd (omega arith)
-refused-unturnable (Aromatic n) h = let z : _≡_ {A = ℕ} 0 1 = cc in absurd (omega arith)
+refused-unturnable Star h = impossible cc
+refused-unturnable (Aliphatic n) h = impossible cc
+refused-unturnable (Aromatic n) h = impossible cc
 refused-unturnable (Bracket b) h =
     let P : Inverted → Type 0 = λ i. i ≡ Refused → Unturnable (Bracket b) in
-    by-test P (eqb (b .configuration) noConfiguration) (λ q h. let z : _≡_ {A = ℕ} 0 1 = cc in absurd (omega arith))
-    (λ q0. by-test P (eqb (b .hydrogens) noHydrogens) (λ q h. let z : _≡_ {A = ℕ} 0 1 = cc in absurd (omega arith))
-    (λ q1. by-test P (eqb (b .hydrogens) 0) (λ q h. let z : _≡_ {A = ℕ} 0 1 = cc in absurd (omega arith))
-    (λ q2. by-test P (eqb (b .configuration) th1) (λ q h. let z : _≡_ {A = ℕ} 0 1 = cc in absurd (omega arith))
-    (λ q3. by-test P (eqb (b .configuration) th2) (λ q h. let z : _≡_ {A = ℕ} 0 1 = cc in absurd (omega arith))
+    by-test P (eqb (b .configuration) noConfiguration) (λ q h. impossible cc)
+    (λ q0. by-test P (eqb (b .hydrogens) noHydrogens) (λ q h. impossible cc)
+    (λ q1. by-test P (eqb (b .hydrogens) 0) (λ q h. impossible cc)
+    (λ q2. by-test P (eqb (b .configuration) th1) (λ q h. impossible cc)
+    (λ q3. by-test P (eqb (b .configuration) th2) (λ q h. impossible cc)
     (λ q4 h. unturnable b (eqb-false _ _ q0) (eqb-false _ _ q3) (eqb-false _ _ q4) (eqb-false _ _ q1) (eqb-false _ _ q2)))))) h
 
 pub unturnable-refused : (k : AtomKind) → Unturnable k → invertOf k ≡ Refused
@@ -40,7 +40,7 @@ unfolding invertOf invertBracket
 unturnable-refused _ (unturnable b c0 c1 c2 h0 h1) = simp (ne-eqb _ _ c0, ne-eqb _ _ h0, ne-eqb _ _ h1, ne-eqb _ _ c1, ne-eqb _ _ c2)
 
 pub turned-turnable : (k j : AtomKind) → invertOf k ≡ Turned j → ¬ Unturnable k
-turned-turnable k j h u = let e = unturnable-refused k u in let z : _≡_ {A = ℕ} 0 1 = cc in absurd (omega arith)
+turned-turnable k j h u = let e = unturnable-refused k u in impossible cc
 
 module _ (p l : ℕ) (m : Molecule) (n : ℕ) where
   pub dot-passes : (k : AtomKind) (at : ℕ) → n < p → Passes p l (some m) n (Enter Dot k at)

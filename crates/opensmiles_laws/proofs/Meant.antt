@@ -9,6 +9,7 @@ use native.Mathlib.Omega.{arith}
 use lib.Dec.{ltb}
 use lib.ListN.{length}
 use borrow.Author.Tests.{ltb-true, ltb-false}
+use Rattle.feature.proofs.Cases.{impossible}
 use Rattle.builder.specs.Limits.{textLimit, branchLimit}
 use Rattle.read_line.specs.Events.{ReadEvent, Nest}
 use Rattle.read_line.specs.Parse.{parse}
@@ -49,8 +50,8 @@ headOf (x ∷ xs) = x
 around-same : (ns ms : List Node) → neighbours ns ≡ neighbours ms → (length ns ≡ length ms) × (countOf ns ≡ countOf ms)
 unfolding neighbours countOf headOf
 around-same [] [] e = (refl, refl)
-around-same [] (m ∷ ms) e = let z : _≡_ {A = ℕ} 0 1 = cc in absurd (omega arith)
-around-same (n ∷ ns) [] e = let z : _≡_ {A = ℕ} 0 1 = cc in absurd (omega arith)
+around-same [] (m ∷ ms) e = impossible cc
+around-same (n ∷ ns) [] e = impossible cc
 around-same (n ∷ ns) (m ∷ ms) e =
     let g : n .edges ≡ m .edges = ap headOf e in
     let h : neighbours ns ≡ neighbours ms = cc in

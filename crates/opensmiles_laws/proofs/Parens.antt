@@ -10,6 +10,7 @@ use native.Mathlib.Omega.{arith}
 use lib.Dec.{T, ltb, ltb→lt}
 use lib.ListN.{length, length-append}
 use Rattle.feature.specs.Text.{byte}
+use Rattle.feature.proofs.Cases.{impossible}
 use Rattle.read_line.specs.Events.{ReadEvent, Pop}
 use Rattle.grammar.specs.Grammar.{Digit, d0, d1, d2, d3, d4, d5, d6, d7, d8, d9, digitS, BondSign, single, double, triple, quadruple, aromatic, up, down, bondS, Organic, bare1, bare2, organics, organicS, Symbol, short, long, symbolNames, known, symbolS, Isotope, iso0, iso1, iso2, iso3, isotopeS, Chiral, flat, at, atat, code1, code2, Class, TH, AL, SP, TB, OH, class1, class2, chiralS, Hcount, bald, H, Hn, hcountS, Head, head, headS, Sign, plus, minus, signS, Charge, neutral, sign, twice, num1, num2, chargeS, Map, nomap, m1, m2, m3, mapS, Atom, organic, bracket, atomS, Rnum, ring1, ring2, rnumS, bond?S, Link, elided, bond, dot, linkS, Line, start, link, ring, branch, spell, enter, joinEvent, atoms, tells, meaning}
 use Rattle.grammar.specs.Lines.{opening}
@@ -28,8 +29,8 @@ plain-append (x ∷ xs) ys h k = (h .0, plain-append xs ys (h .1) k)
 
 plain-none : (xs before behind : List ℕ) → Plain xs → ¬ (xs ≡ before ++ (opening ∷ behind))
 unfolding Plain
-plain-none [] [] behind h e = let z : _≡_ {A = ℕ} 0 1 = cc in omega arith
-plain-none [] (b ∷ before) behind h e = let z : _≡_ {A = ℕ} 0 1 = cc in omega arith
+plain-none [] [] behind h e = impossible cc
+plain-none [] (b ∷ before) behind h e = impossible cc
 plain-none (x ∷ xs) [] behind h e = let g : x ≡ opening = cc in h .0 g
 plain-none (x ∷ xs) (b ∷ before) behind h e = let g : xs ≡ before ++ (opening ∷ behind) = cc in plain-none xs before behind (h .1) g
 

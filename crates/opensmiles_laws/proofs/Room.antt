@@ -16,6 +16,7 @@ use Rattle.read_line.specs.declared.lead.Lead.{Lead}
 use Rattle.read_line.specs.declared.lead.Lead.the-variants.{Dot, Bond}
 use Rattle.read_line.specs.Events.{ReadEvent, Enter, Join, Pop, Miss, Nest}
 use Rattle.feature.specs.Bonds.{reverseOf}
+use Rattle.feature.proofs.Cases.{impossible}
 use Rattle.builder_meaning.specs.Sketch.{To, Held, edge, node, countOf, upd, lookup, addEdge, fill}
 use Rattle.builder_meaning.proofs.Rows.{upd-length, count-append, count-add, count-fill}
 use Rattle.read.specs.declared.Answer.{Answer}
@@ -141,7 +142,7 @@ unfolding tellAll next
 first-some e es m w h = by (moleculeTold asHeld m e) refl h
   where
     by : (o : Option Molecule) → moleculeTold asHeld m e ≡ o → tellAll asHeld o es ≡ some w → (x : Molecule) × (moleculeTold asHeld m e ≡ some x) × (tellAll asHeld (some x) es ≡ some w)
-    by none t g = let f = none-told es in let z : _≡_ {A = ℕ} 0 1 = cc in absurd (omega arith)
+    by none t g = let f = none-told es in impossible cc
     by (some x) t g = (x, t, g)
 
 next-told : (m x : Molecule) (e : ReadEvent) → moleculeTold asHeld m e ≡ some x → next asHeld (some m) e ≡ some x
@@ -172,8 +173,8 @@ module _ (p l : ℕ) where
   fits-passes (Enter (Bond e) k at) es m x t g f c u = bond-passes p l m (length (m .atoms)) e k at (omega (arith, g .number, f)) (omega (arith, g .entries, c)) (u .0)
   fits-passes (Join e r at) es m x t g f c u = join-passes p l m (length (m .atoms)) e r at (λ y h. omega (arith, g .entries, c))
   fits-passes (Pop i) es m x t g f c u = pop-passes p l (some m) (length (m .atoms)) i
-  fits-passes (Miss y) es m x t g f c u = let z : _≡_ {A = ℕ} 0 1 = cc in absurd (omega arith)
-  fits-passes (Nest at) es m x t g f c u = let z : _≡_ {A = ℕ} 0 1 = cc in absurd (omega arith)
+  fits-passes (Miss y) es m x t g f c u = impossible cc
+  fits-passes (Nest at) es m x t g f c u = impossible cc
 
   room-runs : (es : List ReadEvent) (m w : Molecule) → InPath (length (m .atoms)) (m .path) → tellAll asHeld (some m) es ≡ some w → length (w .atoms) ≤ p → countOf (w .atoms) ≤ l → Turns es
       → Runs p l (some m) (length (m .atoms)) es
@@ -196,8 +197,8 @@ module _ (p l : ℕ) where
       (omega (arith, g .number, pass-place p l m (length (m .atoms)) (Bond e) k at q), omega (arith, g .entries, pass-slots p l m (length (m .atoms)) e k at q), λ u. (pass-mark p l m (length (m .atoms)) e k at q, u))
   passes-fits (Join e r at) es m x t g f c q = (omega (arith, g .number, f), omega (arith, g .entries, pass-slot p l m (length (m .atoms)) e r at x (unfold moleculeTold in t) q), λ u. u)
   passes-fits (Pop i) es m x t g f c q = (omega (arith, g .number, f), omega (arith, g .entries, c), λ u. u)
-  passes-fits (Miss y) es m x t g f c q = let z : _≡_ {A = ℕ} 0 1 = cc in absurd (omega arith)
-  passes-fits (Nest at) es m x t g f c q = let z : _≡_ {A = ℕ} 0 1 = cc in absurd (omega arith)
+  passes-fits (Miss y) es m x t g f c q = impossible cc
+  passes-fits (Nest at) es m x t g f c q = impossible cc
 
   runs-room : (es : List ReadEvent) (m w : Molecule) → InPath (length (m .atoms)) (m .path) → length (m .atoms) ≤ p → countOf (m .atoms) ≤ l → Runs p l (some m) (length (m .atoms)) es → tellAll asHeld (some m) es ≡ some w
       → (length (w .atoms) ≤ p) × (countOf (w .atoms) ≤ l) × Turns es
@@ -229,10 +230,10 @@ module _ (p l : ℕ) where
   meets-excess _ es m x w _ _ _ i j t g f c (no-slots y n e k at h s) = let v : y ≡ m = cc in slots at (omega (arith, g .entries, c, s, ap (λ (z : Molecule). countOf (z .atoms)) v))
   meets-excess _ es m x w _ _ _ i j t g f c (not-turned y n e k at h s u) = marks n
   meets-excess _ es m x w _ _ _ i j t g f c (no-slot y z n e r at h s) = let v : y ≡ m = cc in slots at (omega (arith, g .entries, c, s, ap (λ (z : Molecule). countOf (z .atoms)) v))
-  meets-excess _ es m x w _ _ _ i j t g f c (not-turned-after n e k at u) = let z : _≡_ {A = ℕ} 0 1 = cc in absurd (omega arith)
-  meets-excess _ es m x w _ _ _ i j t g f c (ends o n) = let z : _≡_ {A = ℕ} 0 1 = cc in absurd (omega arith)
-  meets-excess _ es m x w _ _ _ i j t g f c (wrong o n at) = let z : _≡_ {A = ℕ} 0 1 = cc in absurd (omega arith)
-  meets-excess _ es m x w _ _ _ i j t g f c (deep o n at) = let z : _≡_ {A = ℕ} 0 1 = cc in absurd (omega arith)
+  meets-excess _ es m x w _ _ _ i j t g f c (not-turned-after n e k at u) = impossible cc
+  meets-excess _ es m x w _ _ _ i j t g f c (ends o n) = impossible cc
+  meets-excess _ es m x w _ _ _ i j t g f c (wrong o n at) = impossible cc
+  meets-excess _ es m x w _ _ _ i j t g f c (deep o n at) = impossible cc
 
   stops-excess : (es : List ReadEvent) (m w : Molecule) (a : Answer) → InPath (length (m .atoms)) (m .path) → tellAll asHeld (some m) es ≡ some w → Stops p l (some m) (length (m .atoms)) es a → Excess w es a
   stops-excess [] m w a h t s = absurd (stops-none p l (some m) (length (m .atoms)) a s)

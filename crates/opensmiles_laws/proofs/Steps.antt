@@ -14,7 +14,7 @@ use Rattle.feature.specs.declared.atom_kind.AtomKind.{AtomKind}
 use Rattle.feature.specs.declared.atom_kind.Inverted.{Inverted}
 use Rattle.feature.specs.declared.atom_kind.Inverted.the-variants.{Turned, Refused}
 use Rattle.feature.specs.declared.bond_kind.BondKind.{BondKind}
-use Rattle.feature.proofs.Cases.{by-test}
+use Rattle.feature.proofs.Cases.{by-test, impossible}
 use Rattle.builder.specs.State.{inversion, atomRoom, bondRoom}
 use Rattle.read_token.specs.declared.scanner.Missing.{Missing}
 use Rattle.read_token.specs.declared.scanner.Missing.the-variants as missing
@@ -142,7 +142,7 @@ module _ (p l : ℕ) (d : Sketch) (n depth : ℕ) (b : Beside p l d n depth) whe
       → Stepped p l (moleculeIn d) n (Join e r at) depth (closedS d r at s h (ends o))
   unfolding closedS closed ends firstOf atomsNamed
   closed-step e r at s path h none w f a t =
-      breaks s (h .atom) (join-passes p l (moleculeIn d) n e r at (λ x g. let z : _≡_ {A = ℕ} 0 1 = cc in absurd (omega arith))) (fails (moleculeIn d) e r at s path h w f a) t
+      breaks s (h .atom) (join-passes p l (moleculeIn d) n e r at (λ x g. impossible cc)) (fails (moleculeIn d) e r at s path h w f a) t
       (record { going = b .going; failed = rw (b .sound); number = unfold nextNumber in omega (arith, b .seen, b .number) })
   closed-step e r at s path h (some k) w f a t =
       slot-step e r at _ t

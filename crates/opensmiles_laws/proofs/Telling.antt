@@ -7,6 +7,7 @@ use mathlib.Core.Logic.{_⊎_, inl, inr}
 use native.Mathlib.Omega.{arith}
 use lib.ListN.{length, length-append}
 use Rattle.feature.specs.Text.{byte}
+use Rattle.feature.proofs.Cases.{impossible}
 use Rattle.read_line.specs.Events.{ReadEvent}
 use Rattle.grammar.specs.Names.{has1, has2}
 use Rattle.grammar.specs.Grammar.{organics, bare1, bare2, Atom, organic, bracket, elided, bond, dot, linkS, Line, start, link, ring, branch, spell, bond?S, digitS, tells}
@@ -260,7 +261,7 @@ far-steps [] u t p e f = let g : u ≡ t = cc in subst (Far p) g f
 far-steps (x ∷ xs) u t p e f = by (step u x) refl e (λ r i g. far-steps xs r t p g (far-next u r x p i f))
   where
     by : (o : Option State) → step u x ≡ o → chain o (λ r. steps r xs) ≡ some t → ((r : State) → step u x ≡ some r → steps r xs ≡ some t → Far p t) → Far p t
-    by none i g k = let z : _≡_ {A = ℕ} 0 1 = cc in absurd (omega arith)
+    by none i g k = impossible cc
     by (some r) i g k = k r i g
 
 -- ---- a line in the making is read

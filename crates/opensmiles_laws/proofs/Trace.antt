@@ -6,9 +6,9 @@ use mathlib.Core.Bool.{Bool}
 use mathlib.Core.List.{List, [], _∷_, _++_}
 use mathlib.Core.Option.{Option, none, some}
 use mathlib.Core.Logic.{_⊎_, inl, inr}
-use native.Mathlib.Omega.{arith}
 use borrow.Author.Tests.{eq-eqb, ne-eqb}
 use Rattle.feature.specs.Pick.{pick}
+use Rattle.feature.proofs.Cases.{impossible}
 use Rattle.read_line.specs.declared.lead.Lead.the-variants.{Dot, Bond}
 use Rattle.read_line.specs.Events.{ReadEvent, Enter, Join, Pop, Miss, Nest}
 use Rattle.read_line.specs.Parse.{parse}
@@ -58,8 +58,8 @@ pub stops-none : (p l : ℕ) (o : Option Molecule) (n : ℕ) (a : Answer) → ¬
 stops-none p l o n a s = by (s .before) (s .is)
   where
     by : (before : List ReadEvent) → [] ≡ before ++ (s .event ∷ s .after) → ⊥
-    by [] i = let z : _≡_ {A = ℕ} 0 1 = cc in omega arith
-    by (b ∷ before) i = let z : _≡_ {A = ℕ} 0 1 = cc in omega arith
+    by [] i = impossible cc
+    by (b ∷ before) i = impossible cc
 
 -- events that run don't stop, and they stop in one way
 pub runs-stops : (p l : ℕ) (es : List ReadEvent) (o : Option Molecule) (n : ℕ) (a : Answer) → Runs p l o n es → ¬ Stops p l o n es a
@@ -178,13 +178,13 @@ module _ (p l : ℕ) where
     where
       by : Stepped p l (moleculeIn d) n (Miss x) depth (stepS d (Miss x)) → Ran p l (some (moleculeIn d)) n (Miss x ∷ es) (runS d (Miss x ∷ es))
       by (halts a m t) = over d n depth (Miss x) es a m t (b .going)
-      by (passes q h c) = let z : _≡_ {A = ℕ} 0 1 = cc in absurd (omega arith)
+      by (passes q h c) = impossible cc
       by (breaks u v q g h c) = absurd (fails-join (some (moleculeIn d)) (Miss x) u v g)
   all-run (Nest at ∷ es) d n depth b f = by (nest-step p l d n depth b at)
     where
       by : Stepped p l (moleculeIn d) n (Nest at) depth (stepS d (Nest at)) → Ran p l (some (moleculeIn d)) n (Nest at ∷ es) (runS d (Nest at ∷ es))
       by (halts a m t) = over d n depth (Nest at) es a m t (b .going)
-      by (passes q h c) = let z : _≡_ {A = ℕ} 0 1 = cc in absurd (omega arith)
+      by (passes q h c) = impossible cc
       by (breaks u v q g h c) = absurd (fails-join (some (moleculeIn d)) (Nest at) u v g)
 
 -- THE READING OF A TEXT, event by event

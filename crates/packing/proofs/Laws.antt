@@ -24,6 +24,7 @@ use Rattle.feature.specs.declared.bond_kind.Coded.{Coded}
 use Rattle.feature.specs.declared.bond_kind.Coded.the-variants as coded
 use Rattle.feature.proofs.Ranges.{good, ranged}
 use Rattle.feature.proofs.Bonds.{kind-back}
+use Rattle.feature.proofs.Cases.{impossible}
 use Rattle.packing.specs.declared.Loaded.{Loaded}
 use Rattle.packing.specs.declared.Loaded.the-variants.{Held, Bad}
 use Rattle.packing.specs.declared.Entry.the-variants as entry
@@ -112,13 +113,13 @@ load-words k e = rw (words-in k e) (pair-loads k (good k e))
 
 -- a test that refuses was not taken
 refused : (b : Bool) {x : Loaded} {k : AtomKind} → pick b Bad x ≡ Held k → (b ≡ false) × (x ≡ Held k)
-refused true e = absurd (let z : _≡_ {A = ℕ} 0 1 = cc in omega arith)
+refused true e = impossible cc
 refused false e = (refl, e)
 
 -- a test that grants was
 granted : (b : Bool) {x : Loaded} {k : AtomKind} → pick b x Bad ≡ Held k → (b ≡ true) × (x ≡ Held k)
 granted true e = (refl, e)
-granted false e = absurd (let z : _≡_ {A = ℕ} 0 1 = cc in omega arith)
+granted false e = impossible cc
 
 same-held : {j k : AtomKind} → Held j ≡ Held k → j ≡ k
 same-held e = cc
@@ -197,13 +198,13 @@ code-only n k e =
     bond-step n bonds.Aromatic k e λ e.
     bond-step n bonds.Up k e λ e.
     bond-step n bonds.Down k e λ e.
-    absurd (let z : _≡_ {A = ℕ} 0 1 = cc in omega arith)
+    impossible cc
 
 -- an entry holds the kind and the target that it was made of
 entry-only : (c : Coded) (k : BondKind) (target u : ℕ) → entryCoded c target ≡ entry.Bond k u → (c ≡ coded.Kind k) × (target ≡ u)
 unfolding entryCoded
 entry-only (coded.Kind j) k target u e = (cc, cc)
-entry-only coded.Bad k target u e = absurd (let z : _≡_ {A = ℕ} 0 1 = cc in omega arith)
+entry-only coded.Bad k target u e = impossible cc
 
 -- numbers stand for a bond only where they are its own: all others are refused
 pub bond-only : (n target : ℕ) (k : BondKind) (u : ℕ) → entryOfWords n target ≡ entry.Bond k u → (n ≡ codeOf k) × (target ≡ u)

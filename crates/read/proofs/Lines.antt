@@ -6,7 +6,7 @@ use native.Mathlib.Omega.{arith}
 use lib.ListN.{length, getD, replicate, length-replicate}
 use lib.Dec.{ltb, eqb}
 use Rattle.feature.specs.Pick.{pick}
-use Rattle.feature.proofs.Cases.{by-either}
+use Rattle.feature.proofs.Cases.{by-either, impossible}
 use Rattle.builder.specs.Limits.{textLimit, atomLimit, bondLimit, fewAtoms, lesserOf}
 use Rattle.packing.specs.Words.{atomWords, bondWords}
 use Rattle.builder.specs.Rings.{ringNumberCount}
@@ -68,27 +68,24 @@ pub both-held : (s : List ℕ) (la lb : ℕ) → BothEnds (sketchOf s la lb .nod
 both-held s la lb =
     reads-ends s la lb (replicate (bondLimit * entryWords) 0) (replicate atomLimit 0) (replicate ringNumberCount 0) (omega (arith, room-of (bondLimit * entryWords), lesser-most bondLimit (lb / bondWords))) (omega (arith, room-of atomLimit, lesser-most atomLimit (la / atomWords))) (room-of ringNumberCount) (λ n h. zero-at ringNumberCount n)
 
-clash : _≡_ {A = ℕ} 0 1 → ⊥
-clash e = omega arith
-
 -- no refusal is called 0
 not-done : (r c n m : ℕ) → readRefusal r c ≡ Done n m → ⊥
 unfolding readRefusal
 not-done r c n m =
     let Not : Answer → Type 0 = λ x. x ≡ Done n m → ⊥ in
-    by-either Not (eqb r endOfLine) (λ e. clash cc)
-    (by-either Not (eqb r character) (λ e. clash cc)
-    (by-either Not (eqb r inversion) (λ e. clash cc)
-    (by-either Not (eqb r atomRoom) (λ e. clash cc)
-    (by-either Not (eqb r bondRoom) (λ e. clash cc)
-    (by-either Not (eqb r nesting) (λ e. clash cc)
-    (λ e. clash cc))))))
+    by-either Not (eqb r endOfLine) (λ e. impossible cc)
+    (by-either Not (eqb r character) (λ e. impossible cc)
+    (by-either Not (eqb r inversion) (λ e. impossible cc)
+    (by-either Not (eqb r atomRoom) (λ e. impossible cc)
+    (by-either Not (eqb r bondRoom) (λ e. impossible cc)
+    (by-either Not (eqb r nesting) (λ e. impossible cc)
+    (λ e. impossible cc))))))
 
 whole-done : (w : Built) (x y n m la lb : ℕ) (a b : List ℕ) → builtAnswer w x y ≡ Done n m → said (builtAnswer w x y) (leftS w la a) (leftS w lb b) ≡ said (Done n m) (padded la a) (padded lb b)
 unfolding builtAnswer leftS
 whole-done built.Done x y n m la lb a b e = ap (λ (r : Answer). said r (padded la a) (padded lb b)) e
-whole-done (built.Join v w) x y n m la lb a b e = absurd (clash cc)
-whole-done (built.Rnum j) x y n m la lb a b e = absurd (clash cc)
+whole-done (built.Join v w) x y n m la lb a b e = impossible cc
+whole-done (built.Rnum j) x y n m la lb a b e = impossible cc
 
 -- a line that is answered 0 leaves the tables of its atoms, zeros after them, and each bond is held at both ends
 pub done-holds : (s : List ℕ) (la lb n m : ℕ) → readText s la lb .answer ≡ Done n m → (readText s la lb ≡ said (Done n m) (padded la (atomTable (sketchOf s la lb .nodes))) (padded lb (bondTable (sketchOf s la lb .nodes)))) × BothEnds (sketchOf s la lb .nodes)
@@ -96,7 +93,7 @@ unfolding readText wholeOrRefused wholeOf
 done-holds s la lb n m e =
     let d = sketchOf s la lb in
     let Holds : Said → Type 0 = λ x. x .answer ≡ Done n m → x ≡ said (Done n m) (padded la (atomTable (d .nodes))) (padded lb (bondTable (d .nodes))) in (
-      by-either Holds (ltb textLimit (length s)) (λ h. absurd (clash cc))
+      by-either Holds (ltb textLimit (length s)) (λ h. impossible cc)
           (by-either Holds (eqb (d .refusal) 0) (whole-done (finishS d) _ _ n m la lb _ _) (λ h. absurd (not-done _ _ n m h))) e,
       both-held s la lb,
     )

@@ -17,7 +17,7 @@ use Rattle.feature.specs.declared.atom_kind.Inverted.the-variants.{Turned, Refu
 use Rattle.feature.specs.declared.bond_kind.BondKind.{BondKind}
 use Rattle.feature.specs.declared.bond_kind.Reconciled.{Reconciled}
 use Rattle.feature.specs.declared.bond_kind.Reconciled.the-variants.{Both, Fails}
-use Rattle.feature.proofs.Cases.{by-either, by-test}
+use Rattle.feature.proofs.Cases.{by-either, by-test, impossible}
 use Rattle.read_token.specs.Scan.{peekAt, atomAt, rnumAt}
 use Rattle.read_token.specs.declared.scanner.Found.{Found}
 use Rattle.read_token.specs.declared.scanner.Found.the-variants.{Atom, Nothing, Lacks}
@@ -294,19 +294,19 @@ passed false h e = (refl, e)
 refusal-said : (r c : ℕ) → known r ≡ true → (r ≡ 0 → ⊥) → readRefusal r c ≡ NoAtom → ⊥
 unfolding readRefusal
 refusal-said r c k nz e =
-    let r1 = passed (eqb r endOfLine) (λ h. let z : _≡_ {A = ℕ} 0 1 = cc in omega arith) e in
-    let r2 = passed (eqb r character) (λ h. let z : _≡_ {A = ℕ} 0 1 = cc in omega arith) (r1 .1) in
-    let r3 = passed (eqb r inversion) (λ h. let z : _≡_ {A = ℕ} 0 1 = cc in omega arith) (r2 .1) in
-    let r4 = passed (eqb r atomRoom) (λ h. let z : _≡_ {A = ℕ} 0 1 = cc in omega arith) (r3 .1) in
-    let r5 = passed (eqb r bondRoom) (λ h. let z : _≡_ {A = ℕ} 0 1 = cc in omega arith) (r4 .1) in
-    let r6 = passed (eqb r nesting) (λ h. let z : _≡_ {A = ℕ} 0 1 = cc in omega arith) (r5 .1) in
+    let r1 = passed (eqb r endOfLine) (λ h. impossible cc) e in
+    let r2 = passed (eqb r character) (λ h. impossible cc) (r1 .1) in
+    let r3 = passed (eqb r inversion) (λ h. impossible cc) (r2 .1) in
+    let r4 = passed (eqb r atomRoom) (λ h. impossible cc) (r3 .1) in
+    let r5 = passed (eqb r bondRoom) (λ h. impossible cc) (r4 .1) in
+    let r6 = passed (eqb r nesting) (λ h. impossible cc) (r5 .1) in
     true≢false (sym k ∙ simp (ne-eqb r 0 nz, r1 .0, r2 .0, r3 .0, r4 .0, r5 .0, r6 .0))
 
 built-said : (r : Built) (n m : ℕ) → builtAnswer r n m ≡ NoAtom → ⊥
 unfolding builtAnswer
-built-said built.Done n m e = let z : _≡_ {A = ℕ} 0 1 = cc in omega arith
-built-said (built.Join x y) n m e = let z : _≡_ {A = ℕ} 0 1 = cc in omega arith
-built-said (built.Rnum j) n m e = let z : _≡_ {A = ℕ} 0 1 = cc in omega arith
+built-said built.Done n m e = impossible cc
+built-said (built.Join x y) n m e = impossible cc
+built-said (built.Rnum j) n m e = impossible cc
 
 state-known : (s a : List ℕ) (lb : ℕ) (e p r : List ℕ) → known (stateOf s a lb e p r .st .refusal) ≡ true
 unfolding stateOf Never
@@ -324,5 +324,5 @@ pub never-18 : (s : List ℕ) (la lb : ℕ) → readText s la lb .answer ≡ NoA
 unfolding readOf within
 never-18 s la lb e =
     by-either (λ (x : Said). x .answer ≡ NoAtom → ⊥) (ltb textLimit (length s))
-    (λ h. let z : _≡_ {A = ℕ} 0 1 = cc in omega arith) (said-never lb _ (state-known s _ lb _ _ _))
+    (λ h. impossible cc) (said-never lb _ (state-known s _ lb _ _ _))
     (ap (λ (x : Said). x .answer) (read-line s la lb) ∙ e)

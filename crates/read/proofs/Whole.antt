@@ -19,14 +19,10 @@ use Rattle.read_line.specs.declared.lead.Lead.the-variants.{Dot}
 use Rattle.read_line.specs.Events.{Miss, on, character, missingSt, run}
 use Rattle.read_line.specs.Parse.{parse, endP}
 use Rattle.read_line.specs.Steps.{reachedAt, LineRead, ReadReady}
-use Rattle.read_line.proofs.Turn.{run-stuck, run-miss}
+use Rattle.read_line.proofs.Turn.{run-stuck, run-miss, run-end}
 use Rattle.read.specs.declared.Answer.{Answer}
 use Rattle.read.specs.Read.{said, readRefusal, builtAnswer}
 use Rattle.read.specs.Steps.{endedSt, builtSaid, stateOf, stateSaid, within}
-
-run-none : (b : Bld) → run b [] ≡ b
-unfolding run
-run-none b = refl
 
 -- the last event of a text, if any
 end-split : (s : List ℕ) (b : Bld) (at n : ℕ) (q : Bool) → eqb (b .st .refusal) 0 ≡ q → run b (endP s at n) ≡ on b (pick q (pick (ltb at (length s)) (refusedSt (b .st) character at) (b .st)) (b .st))
@@ -34,8 +30,8 @@ unfolding endP missingSt
 end-split s b at n false e = run-stuck b _ (eqb-false _ _ e)
 end-split s b at n true e = by-end (ltb at (length s)) where
   by-end : (p : Bool) → run b (pick p (Miss (Character at) ∷ []) []) ≡ on b (pick p (refusedSt (b .st) character at) (b .st))
-  by-end true = run-miss b (Character at) [] (eqb-true _ _ e) ∙ run-none _
-  by-end false = run-none b
+  by-end true = run-miss b (Character at) [] (eqb-true _ _ e) ∙ run-end _
+  by-end false = run-end b
 
 module _ (s : List ℕ) (b₀ b : Bld) (at n : ℕ) (line : LineRead s 0 Dot branchLimit b₀ b at n) where
   ended : run b₀ (parse s) ≡ on b (endedSt s (reachedAt at n (b .st)))

@@ -39,7 +39,7 @@ pub run-cons : (b : Bld) (e : ReadEvent) (es : List ReadEvent) → b .st .refusa
 unfolding run
 run-cons b e es h = simp (eq-eqb _ _ h)
 
-run-end : (b : Bld) → run b [] ≡ b
+pub run-end : (b : Bld) → run b [] ≡ b
 unfolding run
 run-end b = refl
 

@@ -7,6 +7,7 @@ use mathlib.Core.Bool.{true}
 use native.Mathlib.Omega.{arith}
 use lib.ListN.{length, take}
 use borrow.Author.Tests.{le-ltb, ltb-true, ne-eqb}
+use Rattle.feature.proofs.Cases.{impossible}
 use Rattle.packing.specs.Words.{atomWords, bondWords}
 use Rattle.builder.specs.Limits.{textLimit, atomLimit, bondLimit, branchLimit, lesserOf}
 use Rattle.read_line.specs.Events as reader
@@ -30,9 +31,6 @@ use Rattle.round_trip.proofs.Law.{walk-told, walk-spelled, walk-accepte
 use Rattle.read_line.specs.Steps.{unplaced, placeless}
 use Rattle.read_line.specs.Events.{hasNest}
 
-clash : {X : Type 0} → _≡_ {A = ℕ} 0 1 → X
-clash e = absurd (omega arith)
-
 -- ---- events that end with a branch too many
 record Ends (x A : List reader.ReadEvent) : Type 0 where
   front : List reader.ReadEvent
@@ -48,24 +46,24 @@ cons-tail e = cc
 
 nest-of : (y : reader.ReadEvent) → placeless y ≡ reader.Nest 0 → (p : ℕ) × (y ≡ reader.Nest p)
 unfolding placeless
-nest-of (reader.Enter l k p) e = clash cc
-nest-of (reader.Join b n p) e = clash cc
-nest-of (reader.Pop n) e = clash cc
-nest-of (reader.Miss m) e = clash cc
+nest-of (reader.Enter l k p) e = impossible cc
+nest-of (reader.Join b n p) e = impossible cc
+nest-of (reader.Pop n) e = impossible cc
+nest-of (reader.Miss m) e = impossible cc
 nest-of (reader.Nest p) e = (p, refl)
 
 nil-of : (x : List reader.ReadEvent) → unplaced x ≡ [] → x ≡ []
 unfolding unplaced
 nil-of [] e = refl
-nil-of (y ∷ x) e = clash cc
+nil-of (y ∷ x) e = impossible cc
 
 ends-at : (A x : List reader.ReadEvent) → unplaced x ≡ A ++ (reader.Nest 0 ∷ []) → Ends x A
 unfolding unplaced
-ends-at [] [] e = clash cc
+ends-at [] [] e = impossible cc
 ends-at [] (y ∷ x) e =
     let n = nest-of y (cons-head e) in
     record { front = []; place = n .0; is = ap₂ (λ (a : reader.ReadEvent) (b : List reader.ReadEvent). a ∷ b) (n .1) (nil-of x (cons-tail e)); same = refl }
-ends-at (a ∷ A) [] e = clash cc
+ends-at (a ∷ A) [] e = impossible cc
 ends-at (a ∷ A) (y ∷ x) e =
     let r = ends-at A x (cons-tail e) in
     record {

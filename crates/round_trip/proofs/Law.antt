@@ -2,11 +2,12 @@
 -- whole. Assumes nothing.
 use Prim.Native.Nat.{ℕ, _*_, _/_, _≤_, _<_}
 use mathlib.Core.Path.{_≡_, refl, sym, ap, ap₂, _∙_, subst}
-use mathlib.Core.List.{List, [], _∷_, _++_}
+use mathlib.Core.List.{List, []}
 use mathlib.Core.Bool.{false}
 use native.Mathlib.Omega.{arith}
 use lib.ListN.{length, take}
 use lib.Dec.{ltb}
+use lib.Seq.{take-append-seam}
 use borrow.Author.Tests.{le-ltb, ltb-false, eq-eqb}
 use Rattle.packing.specs.Words.{atomWords, bondWords}
 use Rattle.builder.specs.Limits.{textLimit, atomLimit, bondLimit, branchLimit, lesserOf}
@@ -34,11 +35,6 @@ use Rattle.round_trip.proofs.Ordered.{told-walk, some-said}
 use Rattle.round_trip.proofs.Spelling.{kept-spelled, kept-turns}
 use Rattle.read_line.specs.Steps.{unplaced}
 use Rattle.read_line.specs.Events.{hasNest}
-
--- ---- the line in an output
-take-line : (l z : List ℕ) → take (length l) (l ++ z) ≡ l
-take-line [] z = refl
-take-line (x ∷ l) z = ap (λ (y : List ℕ). x ∷ y) (take-line l z)
 
 -- ---- what a line says of the walk
 module _ (room : ℕ) (atoms : List ℕ) (n : ℕ) (bonds : List ℕ) (m len : ℕ) (out : List ℕ) (P : Plain (graphOf n atoms bonds))
@@ -94,7 +90,7 @@ pub line-is : (room : ℕ) (atoms : List ℕ) (n : ℕ) (bonds : List ℕ) (m le
     → take len out ≡ lineSaid (walkEvents atoms n bonds m)
 line-is room atoms n bonds m len out e =
     let d = was-done room atoms n bonds m len out e in
-    ap₂ (λ (i : ℕ) (o : List ℕ). take i o) (d .length-is) (d .line) ∙ take-line (lineSaid (walkEvents atoms n bonds m)) _
+    ap₂ (λ (i : ℕ) (o : List ℕ). take i o) (d .length-is) (d .line) ∙ take-append-seam (lineSaid (walkEvents atoms n bonds m)) _
 
 -- what the builder makes of it, where no branch is too many: the graph renumbered
 line-comes-back : (room : ℕ) (atoms : List ℕ) (n : ℕ) (bonds : List ℕ) (m len : ℕ) (out : List ℕ) → Plain (graphOf n atoms bonds)

@@ -35,6 +35,7 @@ use Rattle.write.proofs.Plain.{write-plain}
 use Rattle.trip_graph.specs.Renumber.{Backed, Simple}
 use Rattle.trip_graph.specs.Renumbered.{othersOf, parentEntry, doneOf, edgeOf, nodeOf, firstAtoms, renumbered}
 use Rattle.trip_graph.specs.Marks.{Tetrahedral, bearsHydrogen, otherMark, toggled, oddIndex, backKind}
+use Rattle.trip_graph.proofs.Bench.{below-three, below-two}
 use Rattle.round_trip.specs.RoundTrip.{Plain, Readable, readAs}
 use Rattle.round_trip.specs.Steps.{backByTurns}
 use Rattle.round_trip.specs.ByOrder.{ReadByOrder}
@@ -64,17 +65,6 @@ unfolding words.listOf words.wordsOf words.pairOf words.bracketPair words.loadAt
 written = refl
 
 -- ---- what is asked
-below-three : (P : ℕ → Type 0) → P 0 → P 1 → P 2 → (a : ℕ) → a < 3 → P a
-below-three P x y z zero h = x
-below-three P x y z (suc zero) h = y
-below-three P x y z (suc (suc zero)) h = z
-below-three P x y z (suc (suc (suc a))) h = absurd (omega arith)
-
-below-two : (P : ℕ → Type 0) → P 0 → P 1 → (a : ℕ) → a < 2 → P a
-below-two P x y zero h = x
-below-two P x y (suc zero) h = y
-below-two P x y (suc (suc a)) h = absurd (omega arith)
-
 below-one : (P : ℕ → Type 0) → P 0 → (a : ℕ) → a < 1 → P a
 below-one P x zero h = x
 below-one P x (suc a) h = absurd (omega arith)

@@ -18,12 +18,12 @@ use Rattle.feature.specs.declared.atom_kind.AtomKind.the-variants.{Star, Alipha
 use Rattle.feature.specs.declared.bond_kind.BondKind.{BondKind}
 use Rattle.feature.specs.declared.bond_kind.BondKind.the-variants as bond
 use Rattle.feature.proofs.Ranges.{good}
+use Rattle.feature.proofs.Cases.{by-either}
 use Rattle.spell.specs.Spell.{digits, numberText, nameText, symbolText, templateText, markedText, configurationText, hydrogensText, chargeText, mapText, bracketText, organicSymbols, kindText, atomText, bondText, rnumText}
 
 -- a choice is no longer than either
 pub either-short : (n : ℕ) (b : Bool) (x y : List ℕ) → length x ≤ n → length y ≤ n → length (pick b x y) ≤ n
-either-short n true x y p q = p
-either-short n false x y p q = q
+either-short n b x y p q = by-either (λ (z : List ℕ). length z ≤ n) b p q
 
 digits-short : (n : ℕ) → length (digits n) ≤ 3
 unfolding digits

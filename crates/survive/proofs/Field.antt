@@ -11,6 +11,7 @@ use lib.Dec.{T, eqb, eqb→eq}
 use borrow.Author.Tests.{eq-eqb}
 use Rattle.feature.specs.Pick.{neither}
 use Rattle.feature.proofs.Table.{everyEntry, both-left, both-right}
+use Rattle.feature.proofs.Cases.{impossible}
 use Rattle.read_token.specs.declared.scanner.Part.{Part}
 use Rattle.read_token.specs.declared.scanner.Step.{Step}
 use Rattle.read_token.specs.declared.scanner.Step.the-variants.{Got, Stop}
@@ -90,7 +91,7 @@ agrees-only true (Stop i) n v k j t e = absurd t
 agrees-only false (Got w i) n v k j t e =
     let d : w ≡ v = cc in
     absurd (subst (λ (b : Bool). T (neither b)) (eq-eqb w v d) t)
-agrees-only false (Stop i) n v k j t e = absurd (let z : _≡_ {A = ℕ} 0 1 = cc in omega arith)
+agrees-only false (Stop i) n v k j t e = impossible cc
 
 -- a value that survives is read back
 pub back : {F : Field} {s : List ℕ} {n v : ℕ} → Here F s n v → F .stays v ≡ true → F .read s n ≡ Got v (n + length (F .text v))

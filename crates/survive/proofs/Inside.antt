@@ -3,7 +3,6 @@ use Prim.Native.Nat.{ℕ, _+_}
 use mathlib.Core.Path.{_≡_, refl}
 use mathlib.Core.List.{List}
 use mathlib.Core.Bool.{Bool, true, false}
-use native.Mathlib.Omega.{arith}
 use lib.Dec.{eqb}
 use borrow.Author.Tests.{eqb-true}
 use Rattle.feature.specs.Pick.{pick}
@@ -12,6 +11,7 @@ use Rattle.feature.specs.Kinds.{bracketOfSix}
 use Rattle.feature.specs.declared.atom_kind.BracketAtom.{BracketAtom}
 use Rattle.feature.specs.declared.atom_kind.AtomKind.{AtomKind}
 use Rattle.feature.specs.declared.atom_kind.AtomKind.the-variants.{Bracket}
+use Rattle.feature.proofs.Cases.{impossible}
 use Rattle.read_token.specs.declared.scanner.Missing.{Missing}
 use Rattle.read_token.specs.declared.scanner.Step.{Step}
 use Rattle.read_token.specs.declared.scanner.Step.the-variants.{Got, Stop}
@@ -46,7 +46,7 @@ record Gets (st : Step) : Type 0 where
 -- an atom comes of a step that got something
 gets : (f : Step → Found) (m : ℕ → Missing) (st : Step) (k : AtomKind) (n : ℕ) → ((p : ℕ) → f (Stop p) ≡ Lacks (m p)) → f st ≡ Atom k n → Gets st
 gets f m (Got v j) k n h e = record { value = v; next = j; is = refl }
-gets f m (Stop p) k n h e = absurd (let z : _≡_ {A = ℕ} 0 1 = cc (h p) in omega arith)
+gets f m (Stop p) k n h e = impossible (cc (h p))
 
 -- a bracket that was closed
 record Closed (s : List ℕ) (b : BracketAtom) (at : ℕ) (k : AtomKind) (n : ℕ) : Type 0 where
@@ -60,7 +60,7 @@ unfolding closeAt
 closed s b at k n = split (eqb (peekAt s at) (byte "]")) refl where
   split : (q : Bool) → eqb (peekAt s at) (byte "]") ≡ q → pick q (Atom (Bracket b) (at + 1)) (Lacks (missingAt s at)) ≡ Atom k n → Closed s b at k n
   split true p e = record { is = cc; close = eqb-true (peekAt s at) (byte "]") p; end = cc }
-  split false p e = absurd (let z : _≡_ {A = ℕ} 0 1 = cc in omega arith)
+  split false p e = impossible cc
 
 -- an atom that is a bracket's
 pub record Read (s : List ℕ) (at : ℕ) (k : AtomKind) (n : ℕ) : Type 0 where

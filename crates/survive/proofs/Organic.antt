@@ -14,6 +14,7 @@ use Rattle.feature.specs.Names.{names}
 use Rattle.feature.specs.Kinds.{aliphaticCount, aromaticCount}
 use Rattle.feature.specs.declared.atom_kind.AtomKind.{AtomKind}
 use Rattle.feature.specs.declared.atom_kind.AtomKind.the-variants.{Aliphatic, Aromatic}
+use Rattle.feature.proofs.Cases.{impossible}
 use Rattle.read_token.specs.declared.scanner.Missing.{Missing}
 use Rattle.read_token.specs.declared.scanner.Missing.the-variants.{EndOfLine, Character}
 use Rattle.read_token.specs.declared.scanner.Found.{Found}
@@ -81,8 +82,8 @@ unfolding canFollow peekAt
 follows [] e = (refl, refl)
 follows (x ∷ rest) e = split (eqb x (byte "l")) (eqb x (byte "r")) e where
   split : (a b : Bool) → neither (either a b) ≡ true → (a ≡ false) × (b ≡ false)
-  split true b e = absurd (let z : _≡_ {A = ℕ} 0 1 = cc in omega arith)
-  split false true e = absurd (let z : _≡_ {A = ℕ} 0 1 = cc in omega arith)
+  split true b e = impossible cc
+  split false true e = impossible cc
   split false false e = (refl, refl)
 
 module _ (rest : List ℕ) where

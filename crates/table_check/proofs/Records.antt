@@ -1,5 +1,5 @@
 -- Records judged one at a time. Assumes nothing.
-use Prim.Native.Nat.{ℕ, suc, _+_, _-_, _<_, _≤_}
+use Prim.Native.Nat.{ℕ, suc, _+_, _-_, _<_, _≤_, zero}
 use mathlib.Core.Path.{_≡_, refl, _∙_, sym}
 use mathlib.Core.List.{List}
 use mathlib.Core.Bool.{Bool, true, false}
@@ -7,9 +7,11 @@ use native.Mathlib.Omega.{arith}
 use lib.Dec.{ltb, leb}
 use borrow.Author.Tests.{lt-ltb, le-ltb, le-leb, lt-leb}
 use Rattle.feature.specs.Pick.{pick}
+use Rattle.feature.proofs.Cases.{by-test}
 use Rattle.table_check.specs.declared.Judged.the-variants.{Bad, Holds}
 use Rattle.packing.specs.Words.{isAtom}
-use Rattle.table_check.specs.Judge.{degreeOf, bondStands, atomsFrom, firstBadBond}
+use Rattle.table_check.specs.Judge.{degreeOf, bondStands, atomsFrom, firstBadBond, afterAtoms, badRecord}
+use Rattle.table_check.specs.declared.Judged.{Judged}
 
 -- ---- atoms
 atom-step : (t : List ℕ) (m a held k j : ℕ) (over stands : Bool) → k ≡ suc j → ltb (m - held) (degreeOf t a) ≡ over → isAtom t a ≡ stands → atomsFrom t m k a held ≡ pick over (Bad a) (pick stands (atomsFrom t m j (a + 1) (held + degreeOf t a)) (Bad a))
@@ -61,3 +63,34 @@ atoms-start t n m = let z : n - 0 ≡ n = omega arith in rw z refl
 
 pub bonds-start : (t : List ℕ) (m held : ℕ) → firstBadBond t held (m - 0) 0 ≡ firstBadBond t held m 0
 bonds-start t m held = let z : m - 0 ≡ m = omega arith in rw z refl
+
+-- ---- the first bad record is one of them, or the one after
+bonds-most : (bonds : List ℕ) (held k e : ℕ) → firstBadBond bonds held k e ≤ e + k
+unfolding firstBadBond
+bonds-most bonds held zero e = omega arith
+bonds-most bonds held (suc k) e =
+    by-test (λ (x : ℕ). x ≤ e + suc k) (leb held e) (λ q. omega arith)
+    (λ q. by-test (λ (x : ℕ). x ≤ e + suc k) (bondStands bonds e) (λ y. omega (arith, bonds-most bonds held k (e + 1))) (λ y. omega arith))
+
+abbrev Within : ℕ → Judged → Type 0
+Within n (Bad a) = a < n
+Within n (Holds held) = Unit {0}
+
+atoms-most : (atoms : List ℕ) (m k a held : ℕ) → Within (a + k) (atomsFrom atoms m k a held)
+unfolding atomsFrom
+atoms-most atoms m zero a held = tt
+atoms-most atoms m (suc k) a held =
+    let z : a + 1 + k ≡ a + suc k = omega arith in
+    by-test (Within (a + suc k)) (ltb (m - held) (degreeOf atoms a)) (λ q. omega arith)
+    (λ q. by-test (Within (a + suc k)) (isAtom atoms a) (λ y. rw z at (atoms-most atoms m k (a + 1) (held + degreeOf atoms a))) (λ y. omega arith))
+
+after-most : (x : Judged) (bonds : List ℕ) (n m : ℕ) → Within n x → afterAtoms x bonds n m ≤ n + m
+unfolding afterAtoms
+after-most (Bad a) bonds n m h = omega (arith, h)
+after-most (Holds held) bonds n m h = omega (arith, bonds-most bonds held m 0)
+
+pub bad-most : (atoms bonds : List ℕ) (n m : ℕ) → badRecord atoms n bonds m ≤ n + m
+unfolding badRecord
+bad-most atoms bonds n m =
+    let z : 0 + n ≡ n = omega arith in
+    after-most (atomsFrom atoms m n 0 0) bonds n m (rw z at (atoms-most atoms m n 0 0))

@@ -50,13 +50,13 @@ unfolding words.listOf words.wordsOf words.pairOf words.bracketPair words.loadAt
 ring-renumbered = refl
 
 -- ---- the hypotheses
-below-three : (P : ℕ → Type 0) → P 0 → P 1 → P 2 → (a : ℕ) → a < 3 → P a
+pub below-three : (P : ℕ → Type 0) → P 0 → P 1 → P 2 → (a : ℕ) → a < 3 → P a
 below-three P x y z zero h = x
 below-three P x y z (suc zero) h = y
 below-three P x y z (suc (suc zero)) h = z
 below-three P x y z (suc (suc (suc a))) h = absurd (omega arith)
 
-below-two : (P : ℕ → Type 0) → P 0 → P 1 → (a : ℕ) → a < 2 → P a
+pub below-two : (P : ℕ → Type 0) → P 0 → P 1 → (a : ℕ) → a < 2 → P a
 below-two P x y zero h = x
 below-two P x y (suc zero) h = y
 below-two P x y (suc (suc a)) h = absurd (omega arith)

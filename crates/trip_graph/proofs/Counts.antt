@@ -1,52 +1,22 @@
 -- How many entries the builder holds: no more than the graph has.
 use mathlib.Core.Path.{_≡_, refl, sym, ap, ap₂, _∙_}
 use mathlib.Core.Logic.{_≢_}
-use mathlib.Core.List.{List, [], _∷_, _++_, map}
+use mathlib.Core.List.{List, [], _∷_, map}
 use mathlib.Core.Bool.{true, false}
 use Prim.Native.Nat.{ℕ, zero, suc, _+_, _≤_, _<_}
 use native.Mathlib.Omega.{arith}
-use lib.ListN.{length, length-append, length-map}
+use lib.ListN.{length, length-map}
 use lib.Dec.{eqb}
 use borrow.Author.Tests.{eq-eqb, ne-eqb}
 use Rattle.feature.specs.Pick.{pick}
 use Rattle.feature.specs.declared.atom_kind.AtomKind.{AtomKind}
-use Rattle.feature.specs.declared.bond_kind.BondKind.{BondKind}
 use Rattle.feature.proofs.Cases.{by-eq, clash}
 use Rattle.walk_entry.specs.Graph.{BondEntry, Graph, degreeAt}
 use Rattle.walk_laws.specs.Trek.{degrees}
-use Rattle.builder_meaning.specs.Sketch.{Edge, Node, countOf, upd, addEdge, waits, fillEdges, fill}
+use Rattle.builder_meaning.specs.Sketch.{countOf}
 use Rattle.trip_graph.specs.Opened.{Pair}
-use Rattle.trip_graph.proofs.Lists.{memb, Nodup, nil, cons, same-eq, same-ne, by-bool, or-true-left, memb-here, memb-there}
+use Rattle.trip_graph.proofs.Lists.{memb, Nodup, nil, cons, same-eq, same-ne, or-true-left, memb-here, memb-there}
 use Rattle.trip_graph.proofs.View.{view}
-
--- ---- what the builder's changes do to the count
-pub count-app : (a b : List Node) → countOf (a ++ b) ≡ countOf a + countOf b
-unfolding countOf
-count-app [] b = omega arith
-count-app (n ∷ a) b = omega (arith, count-app a b)
-
-pub count-add : (i : ℕ) (e : Edge) (ns : List Node) → i < length ns → countOf (upd i (addEdge e) ns) ≡ countOf ns + 1
-unfolding countOf upd addEdge
-count-add i e [] h = absurd (omega arith)
-count-add zero e (n ∷ ns) h = rw (length-append (n .edges) (e ∷ [])) (omega arith)
-count-add (suc i) e (n ∷ ns) h = omega (arith, count-add i e ns (omega arith))
-
-fill-length : (j : ℕ) (k : BondKind) (t : ℕ) (es : List Edge) → length (fillEdges j k t es) ≡ length es
-unfolding fillEdges
-fill-length j k t [] = refl
-fill-length j k t (e ∷ es) = by-bool (waits j (e .target)) (λ q. rw q) (λ q. rw q (ap suc (fill-length j k t es)))
-
-pub count-fill : (i j : ℕ) (k : BondKind) (t : ℕ) (ns : List Node) → countOf (upd i (fill j k t) ns) ≡ countOf ns
-unfolding countOf upd fill
-count-fill i j k t [] = refl
-count-fill zero j k t (n ∷ ns) = ap (λ (x : ℕ). x + countOf ns) (fill-length j k t (n .edges))
-count-fill (suc i) j k t (n ∷ ns) = ap (λ (x : ℕ). length (n .edges) + x) (count-fill i j k t ns)
-
-pub upd-length : (i : ℕ) (f : Node → Node) (ns : List Node) → length (upd i f ns) ≡ length ns
-unfolding upd
-upd-length i f [] = refl
-upd-length zero f (n ∷ ns) = refl
-upd-length (suc i) f (n ∷ ns) = ap suc (upd-length i f ns)
 
 -- ---- sums over a list with no atom twice
 sumOver : (ℕ → ℕ) → List ℕ → ℕ

@@ -1,7 +1,7 @@
 -- The builder follows the walk: what each event makes of a sketch that is the view of the walk's state.
 use mathlib.Core.Path.{_≡_, refl, sym, ap, ap₂, _∙_, subst}
 use mathlib.Core.Logic.{_≢_}
-use mathlib.Core.List.{List, [], _∷_, _++_, map, nil≢cons}
+use mathlib.Core.List.{List, [], _∷_, _++_, map, nil≢cons, map-append}
 use mathlib.Core.Option.{none, some}
 use mathlib.Core.Bool.{Bool, true, false}
 use Prim.Native.Nat.{ℕ, zero, suc, _+_, _≤_, _<_}
@@ -23,14 +23,14 @@ use Rattle.read_line.specs.Events.{ReadEvent, Enter, Join, Pop}
 use Rattle.writer.specs.Line as writer
 use Rattle.builder.specs.State.{atomRoom, bondRoom}
 use Rattle.builder_meaning.specs.Sketch.{To, Open, Node, Held, None, Sketch, edge, node, held, refused, atomAdded, joined, nextNumber, countOf, upd, edgesAt, addEdge, openKind, fill, lookup, ringFreed, rootS, bondedS, extendS, openedS, closedS, ringS, joinS, enterS, numberS, stepS, runS}
+use Rattle.builder_meaning.proofs.Rows.{count-append, count-add, count-fill, upd-length}
 use Rattle.walk_entry.specs.Graph.{BondEntry, Graph, entryTo}
 use Rattle.walk.specs.Walk.{popsOf}
 use Rattle.walk_laws.specs.Trek.{degrees}
 use Rattle.trip_graph.specs.Opened.{sameNumber, Pair, ringPair, look, del, numIn, joinIn, Distinct}
-use Rattle.trip_graph.proofs.Lists.{memb, idx, Nodup, same-refl, eq-of-same, by-bool, or-true, or-true-left, or-elim, idx-app, idx-new, idx-lt, map-app}
+use Rattle.trip_graph.proofs.Lists.{memb, idx, Nodup, same-refl, eq-of-same, by-bool, or-true, or-true-left, or-elim, idx-app, idx-new, idx-lt}
 use Rattle.trip_graph.proofs.View.{hasT, kindT, NodupB, view, push, view-open, view-extend, view-close, close-kind, view-root}
 use Rattle.trip_graph.proofs.Opens.{heldOf, look-in, look-one, lookup-none, lookup-some, without-map, join-del-true, Froms, held-snoc}
-use Rattle.trip_graph.proofs.Counts.{count-app, count-add, count-fill, upd-length}
 use Rattle.trip_text.specs.Steps.{retoldOne, retold}
 
 unfoldable pub idxs : List ℕ → List ℕ → List ℕ
@@ -65,7 +65,7 @@ run-app d (e ∷ es) fs =
 
 pub told-app : (es fs : List writer.Event) → retold (es ++ fs) ≡ retold es ++ retold fs
 unfolding retold
-told-app es fs = map-app retoldOne es fs
+told-app es fs = map-append retoldOne es fs
 
 pub run-one : (d : Sketch) (e : ReadEvent) → d .refusal ≡ 0 → runS d (e ∷ []) ≡ stepS d e
 unfolding runS
@@ -74,7 +74,7 @@ run-one d e h = rw (eq-eqb (d .refusal) 0 h)
 -- pops, then an event
 pub run-pops : (d : Sketch) (n : ℕ) (e : writer.Event) → runS d (retold (popsOf n ++ (e ∷ []))) ≡ runS (runS d (retold (popsOf n))) (retoldOne e ∷ [])
 unfolding retold
-run-pops d n e = ap (runS d) (map-app retoldOne (popsOf n) (e ∷ [])) ∙ run-app d (retold (popsOf n)) (retoldOne e ∷ [])
+run-pops d n e = ap (runS d) (map-append retoldOne (popsOf n) (e ∷ [])) ∙ run-app d (retold (popsOf n)) (retoldOne e ∷ [])
 
 -- ---- small laws
 pick-no : {A : Type 0} (q : Bool) (x y : A) → q ≡ false → pick q x y ≡ y
@@ -216,7 +216,7 @@ module _ (g : Graph) (κ : ℕ → AtomKind) (o : List ℕ) (d : ℕ → List Bo
         ap (λ (l : List Node). upd (idx s o) (addEdge (edge (e .kind) (To (length o)))) l ++ (node (κ′ t) (edge (reverseOf (e .kind)) (To (idx s o)) ∷ []) ∷ [])) (B .gr)
         ∙ sym (view-extend κ o P d s e nod (E .ms) seen (E .fresh) κ′ kq mt u l1 l2) in
         let two : countOf new ≡ countOf (b .nodes) + 2 =
-        count-app (upd (idx s o) (addEdge (edge (e .kind) (To (length o)))) (b .nodes)) _
+        count-append (upd (idx s o) (addEdge (edge (e .kind) (To (length o)))) (b .nodes)) _
         ∙ unfold countOf in omega (arith, count-add (idx s o) (edge (e .kind) (To (length o))) (b .nodes) place-in) in
         let fits : countOf (b .nodes) + 2 ≤ b .slots = omega (arith, ap countOf grows) in
         let is : enterS b (Bonded (e .kind)) k 0 (b .failure) ≡ atomAdded b new (nextNumber b) =

@@ -2,7 +2,7 @@
 use mathlib.Core.Path.{_≡_, refl, sym, ap, ap₂, _∙_}
 use mathlib.Core.Logic.{_≢_}
 use mathlib.Core.List.{List, [], _∷_, _++_, map}
-use mathlib.Core.Bool.{Bool, true, false, _&&_, _||_, or-false}
+use mathlib.Core.Bool.{Bool, true, false, _&&_, _||_, or-false, or-assoc}
 use Prim.Native.Nat.{ℕ, zero, suc, _<_}
 use native.Mathlib.Omega.{arith}
 use lib.Dec.{eqb, eqb-refl, eqb→eq}
@@ -58,11 +58,7 @@ idx-new v (x ∷ l) h =
 pub memb-app : (v : ℕ) (l m : List ℕ) → memb v (l ++ m) ≡ memb v l || memb v m
 unfolding memb
 memb-app v [] m = refl
-memb-app v (x ∷ l) m = rw (memb-app v l m) (or-assoc (sameNumber v x) (memb v l) (memb v m))
-  where
-    or-assoc : (a b c : Bool) → a || (b || c) ≡ a || b || c
-    or-assoc true b c = refl
-    or-assoc false b c = refl
+memb-app v (x ∷ l) m = rw (memb-app v l m) (sym (or-assoc (sameNumber v x) (memb v l) (memb v m)))
 
 pub nodup-snoc : {l : List ℕ} (v : ℕ) → Nodup l → memb v l ≡ false → Nodup (l ++ (v ∷ []))
 unfolding memb
@@ -145,7 +141,3 @@ idx-lt v [] h = clash h refl
 idx-lt v (x ∷ l) h =
     by-eq v x (λ e. rw (same-eq e) (omega arith))
     (λ n. let k : memb v l ≡ true = rw (same-ne v x n) at h in rw (same-ne v x n) (omega (arith, idx-lt v l k)))
-
-pub map-app : {A B : Type 0} (f : A → B) (l m : List A) → map f (l ++ m) ≡ map f l ++ map f m
-map-app f [] m = refl
-map-app f (x ∷ l) m = ap (λ r. f x ∷ r) (map-app f l m)

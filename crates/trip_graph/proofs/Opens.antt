@@ -4,7 +4,7 @@ use mathlib.Core.Path.{_≡_, refl, sym, ap, ap₂, _∙_, subst}
 use mathlib.Core.Logic.{_≢_}
 use mathlib.Core.List.{List, [], _∷_, _++_, map}
 use mathlib.Core.Option.{Option, none, some}
-use mathlib.Core.Bool.{Bool, true, false, not, _&&_, _||_, or-false, and-false}
+use mathlib.Core.Bool.{Bool, true, false, not, _&&_, _||_, or-false, and-false, or-assoc}
 use Prim.Native.Nat.{ℕ}
 use borrow.Author.Tests.{eq-eqb, ne-eqb}
 use Rattle.feature.proofs.Cases.{by-eq, clash}
@@ -252,11 +252,7 @@ both-ahead {d = d} K a b h l =
 pub hasT-app : (x : ℕ) (l m : List BondEntry) → hasT x (l ++ m) ≡ hasT x l || hasT x m
 unfolding hasT
 hasT-app x [] m = refl
-hasT-app x (e ∷ l) m = rw (hasT-app x l m) (or-assoc (sameNumber x (e .to)) (hasT x l) (hasT x m))
-  where
-    or-assoc : (a b c : Bool) → a || (b || c) ≡ a || b || c
-    or-assoc true b c = refl
-    or-assoc false b c = refl
+hasT-app x (e ∷ l) m = rw (hasT-app x l m) (sym (or-assoc (sameNumber x (e .to)) (hasT x l) (hasT x m)))
 
 pub hasT-push : (s : ℕ) (e : BondEntry) (d : ℕ → List BondEntry) (x : ℕ) → hasT x (push s e d s) ≡ hasT x (d s) || sameNumber x (e .to)
 unfolding hasT

@@ -6,8 +6,9 @@ use mathlib.Core.Option.{Option, none}
 use mathlib.Core.Bool.{Bool, true, false, not, _&&_}
 use Prim.Native.Nat.{ℕ, zero, suc, _-_, _≤_, _<_}
 use native.Mathlib.Omega.{arith}
-use lib.ListN.{length, getD, replicate, length-append, length-map, length-replicate}
-use borrow.Author.Tests.{eq-eqb, ne-eqb}
+use lib.ListN.{length, getD, replicate, length-append, length-map, length-replicate, List·getD-append}
+use lib.Seq.{getD-append-seam}
+use borrow.Author.Tests.{eq-eqb}
 use Rattle.feature.proofs.Cases.{by-eq, clash}
 use Rattle.join_pool.specs.declared.Pool.{Pool}
 use Rattle.writer.specs.Line.{Event, Root, Extend, Join, Pop}
@@ -20,6 +21,7 @@ use Rattle.walk_laws.proofs.Moves.{turn-moves}
 use Rattle.walk_laws.proofs.Sums.{zeros-at}
 use Rattle.walk_laws.proofs.Sound.{Sound, sound-start, step-sound}
 use Rattle.walk_laws.proofs.Ended as walk-laws
+use Rattle.walk.proofs.Going.{walk-off}
 use Rattle.trip_graph.specs.Opened.{Pair, look, joinIn, Serves, dnil, RingsHaveText}
 use Rattle.trip_graph.specs.Renumber.{Simple, Known, Backed, Numbering}
 use Rattle.trip_graph.specs.Steps.{Built}
@@ -37,11 +39,6 @@ use Rattle.trip_graph.proofs.Pool.{Holds, pool-serves}
 use Rattle.trip_text.specs.Steps.{retold}
 
 -- ---- turns
-refused-stays : (g : Graph) (t : ℕ) (w : Walk) → w .at .refusal ≢ 0 → walkTo g t w ≡ w
-unfolding walkTo stepOf
-refused-stays g zero w h = refl
-refused-stays g (suc t) w h = rw (ne-eqb (w .at .refusal) 0 h) (refused-stays g t w h)
-
 numbered-app : (xs ys : List Event) → RingsHaveText xs → RingsHaveText ys → RingsHaveText (xs ++ ys)
 numbered-app [] ys h k = k
 numbered-app (Root a ∷ xs) ys h k = numbered-app xs ys h k
@@ -71,7 +68,7 @@ module _ (H : Pool → List ℕ → List Pair → Type 0) (Q : Serves H) (g : Gr
   stop-walked : (t : ℕ) (w : Walk) (b : Sketch) (x : Turn) → stepOf g w ≡ x → x .after .at .refusal ≢ 0 → Walked H g b (suc t) w
   unfolding walkTo
   stop-walked t w b x e r =
-      stopped (subst (λ (y : Turn). walkTo g t (y .after) .at .refusal ≢ 0) (sym e) (λ z. r (ap (λ (v : Walk). v .at .refusal) (sym (refused-stays g t (x .after) r)) ∙ z)))
+      stopped (subst (λ (y : Turn). walkTo g t (y .after) .at .refusal ≢ 0) (sym e) (λ z. r (ap (λ (v : Walk). v .at .refusal) (sym (walk-off g t (x .after) r)) ∙ z)))
 
   next-walked : (t : ℕ) (w : Walk) (b : Sketch) (n : ℕ) → Sound g (turnOf g w .after) n → stepOf g w ≡ turnOf g w
       → ((v : Walk) (c : Sketch) (m : ℕ) → Sound g v m → Inv H g v c → Walked H g c t v) → Result H g b (turnOf g w) → Walked H g b (suc t) w
@@ -166,22 +163,13 @@ unfolding firstAtoms
 atoms-length atom zero = refl
 atoms-length atom (suc n) = length-append (firstAtoms atom n) (atom n ∷ []) ∙ omega (arith, atoms-length atom n)
 
-at-last : (o : List ℕ) (x : ℕ) → getD (o ++ (x ∷ [])) (length o) 0 ≡ x
-at-last [] x = refl
-at-last (y ∷ o) x = at-last o x
-
-at-left : (o m : List ℕ) (v : ℕ) → v < length o → getD (o ++ m) v 0 ≡ getD o v 0
-at-left [] m v h = absurd (omega arith)
-at-left (y ∷ o) m zero h = refl
-at-left (y ∷ o) m (suc v) h = at-left o m v (omega arith)
-
 pub atoms-at : (atom : ℕ → ℕ) (n v : ℕ) → v < n → getD (firstAtoms atom n) v 0 ≡ atom v
 unfolding firstAtoms
 atoms-at atom zero v h = absurd (omega arith)
 atoms-at atom (suc n) v h =
     by-eq v n
-    (λ e. rw e (ap (λ (i : ℕ). getD (firstAtoms atom n ++ (atom n ∷ [])) i 0) (sym (atoms-length atom n)) ∙ at-last (firstAtoms atom n) (atom n)))
-    (λ e. at-left (firstAtoms atom n) (atom n ∷ []) v (omega (arith, atoms-length atom n)) ∙ atoms-at atom n v (omega arith))
+    (λ e. rw e (ap (λ (i : ℕ). getD (firstAtoms atom n ++ (atom n ∷ [])) i 0) (sym (atoms-length atom n)) ∙ getD-append-seam (firstAtoms atom n) (atom n) [] 0))
+    (λ e. List·getD-append (firstAtoms atom n) (atom n ∷ []) 0 v (omega (arith, atoms-length atom n)) ∙ atoms-at atom n v (omega arith))
 
 not-lone : (p q : Bool) → p && not q ≡ true → (p ≡ true → q ≡ true) → ⊥
 not-lone true true h f = clash h refl

@@ -1,22 +1,21 @@
 -- What the builder holds, as a view of the walk's state, and the changes of the one as changes of the other.
 use mathlib.Core.Path.{_≡_, refl, sym, ap, ap₂, _∙_}
 use mathlib.Core.Logic.{_≢_}
-use mathlib.Core.List.{List, [], _∷_, _++_, map}
+use mathlib.Core.List.{List, [], _∷_, _++_, map, map-append}
 use mathlib.Core.Option.{Option, none, some}
 use mathlib.Core.Bool.{Bool, true, false, _||_, and-false}
 use Prim.Native.Nat.{ℕ}
-use native.Mathlib.Omega.{arith}
 use lib.ListN.{length}
 use Rattle.feature.specs.Pick.{pick}
 use Rattle.feature.specs.Bonds.{reverseOf}
 use Rattle.feature.specs.declared.atom_kind.AtomKind.{AtomKind}
 use Rattle.feature.specs.declared.bond_kind.BondKind.{BondKind}
 use Rattle.feature.specs.declared.bond_kind.BondKind.the-variants.{Elided}
-use Rattle.feature.proofs.Cases.{by-eq, clash}
+use Rattle.feature.proofs.Cases.{by-eq, clash, impossible}
 use Rattle.builder_meaning.specs.Sketch.{Target, To, Open, Edge, Node, edge, node, upd, edgesAt, addEdge, waits, openKind, fillEdges, fill}
 use Rattle.walk_entry.specs.Graph.{BondEntry, entryTo}
 use Rattle.trip_graph.specs.Opened.{sameNumber, Pair, ringPair, pairIs, look, del}
-use Rattle.trip_graph.proofs.Lists.{memb, idx, Nodup, same-refl, same-eq, same-ne, eq-of-same, by-bool, and-left, and-right, idx-app, idx-new, map-same, map-upd, map-app, or-true}
+use Rattle.trip_graph.proofs.Lists.{memb, idx, Nodup, same-refl, same-eq, same-ne, eq-of-same, by-bool, and-left, and-right, idx-app, idx-new, map-same, map-upd, or-true}
 
 unfoldable pub hasT : ℕ → List BondEntry → Bool
 hasT x [] = false
@@ -68,7 +67,7 @@ view-add : (κ κ′ : ℕ → AtomKind) (o o′ : List ℕ) (P P′ : List Pair
     → view κ′ o′ P′ d′ v ≡ addEdge (edge (e .kind) g) (view κ o P d v)
 unfolding view addEdge encT
 view-add κ κ′ o o′ P P′ d d′ v e g kq q h k =
-    rw (q, map-app, kq) (ap₂ (λ (l : List Edge) (t : Target). node (κ v) (l ++ (edge (e .kind) t ∷ []))) (enc-same (aim o′ P′ v) (aim o P v) (d v) h) k)
+    rw (q, map-append, kq) (ap₂ (λ (l : List Edge) (t : Target). node (κ v) (l ++ (edge (e .kind) t ∷ []))) (enc-same (aim o′ P′ v) (aim o P v) (d v) h) k)
 
 pub pair-from : (a b : ℕ) (x : Pair) → a ≢ x .from → pairIs a b x ≡ false
 unfolding pairIs
@@ -199,7 +198,7 @@ module _ (κ : ℕ → AtomKind) (o : List ℕ) (P : List Pair) (d : ℕ → Lis
       λ v h m. let vt : v ≢ t = λ q. clash (rw q at m) mt in view-same κ κ′ o o′ P P d d2 v (kq v vt) (push-other t back d1 v vt ∙ push-other s e d v h) (old v) in
       let last : view κ′ o′ P d2 t ≡ node (κ′ t) (edge (reverseOf (e .kind)) (To (idx s o)) ∷ []) =
       view-one κ′ o′ P d2 t back (To (idx s o)) (push-same t back d1 ∙ ap (λ (l : List BondEntry). l ++ (back ∷ [])) (push-other s e d t (λ q. s≢t (sym q)) ∙ ut)) (rw (l2, idx-app s o (t ∷ []) ms)) in
-      map-app (view κ′ o′ P d2) o (t ∷ []) ∙ ap₂ (λ (a : List Node) (b : Node). a ++ (b ∷ [])) (map-upd (view κ o P d) (view κ′ o′ P d2) _ s o nod ms here others) last
+      map-append (view κ′ o′ P d2) o (t ∷ []) ∙ ap₂ (λ (a : List Node) (b : Node). a ++ (b ∷ [])) (map-upd (view κ o P d) (view κ′ o′ P d2) _ s o nod ms here others) last
 
 edges-map : (t : ℕ) (F : ℕ → Node) (o : List ℕ) → memb t o ≡ true → edgesAt (idx t o) (map F o) ≡ F t .edges
 unfolding edgesAt idx memb
@@ -207,7 +206,7 @@ edges-map t F [] m = clash m refl
 edges-map t F (x ∷ o) m = by-eq t x (λ p. rw (same-eq p) (rw p refl)) (λ p. rw (same-ne t x p) (edges-map t F o (rw (same-ne t x p) at m)))
 
 pub none≢some : {a : Pair} → _≡_ {A = Option Pair} none (some a) → ⊥
-none≢some h = let z : _≡_ {A = ℕ} 0 1 = cc in omega arith
+none≢some h = impossible cc
 
 pub some-inj : {a b : Pair} → some a ≡ some b → a ≡ b
 some-inj h = cc
@@ -274,7 +273,7 @@ pub view-root : (κ κ′ : ℕ → AtomKind) (o : List ℕ) (P : List Pair) (d 
 unfolding view
 view-root κ κ′ o P d i kq mi seen u =
     let o′ : List ℕ = o ++ (i ∷ []) in
-    map-app (view κ′ o′ P d) o (i ∷ [])
+    map-append (view κ′ o′ P d) o (i ∷ [])
     ∙ ap₂ (λ (a : List Node) (b : Node). a ++ (b ∷ []))
     (map-same (view κ o P d) (view κ′ o′ P d) o (λ v m. view-same κ κ′ o o′ P P d d v (kq v (λ q. clash (rw q at m) mi)) refl (λ x k. aim-eq o o′ P P v x refl (idx-app x o (i ∷ []) (seen v x k)))))
     (rw u)

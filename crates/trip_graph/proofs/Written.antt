@@ -3,12 +3,12 @@
 use mathlib.Core.Path.{_≡_, sym, ap, _∙_, subst}
 use mathlib.Core.List.{List, _++_}
 use mathlib.Core.Bool.{false}
-use Prim.Native.Nat.{ℕ, zero, suc, _+_, _-_, _/_, _≤_, _<_}
+use Prim.Native.Nat.{ℕ, _+_, _-_, _/_, _≤_, _<_}
 use native.Mathlib.Omega.{arith}
 use lib.ListN.{length}
-use lib.Dec.{ltb, leb, eqb}
+use lib.Dec.{ltb, eqb}
 use borrow.Author.Tests.{ltb-true, ltb-false, eqb-true}
-use Rattle.packing.specs.Words.{atomWords, bondWords, isAtom}
+use Rattle.packing.specs.Words.{atomWords, bondWords}
 use Rattle.builder.specs.Limits.{atomLimit, bondLimit, lesserOf}
 use Rattle.read_line.specs.Events as reader
 use Rattle.builder_meaning.specs.Sketch.{Sketch, countOf, startS, runS}
@@ -16,14 +16,13 @@ use Rattle.walk_entry.specs.Graph.{kindAt}
 use Rattle.walk_entry.specs.Ways.{halfBond, duplicateBond, incompatibleBond, inversion}
 use Rattle.walk.specs.declared.walker.Walker.{Walker}
 use Rattle.walk.specs.Walk.{unknownTarget, loop}
-use Rattle.table_check.specs.declared.Judged.{Judged}
-use Rattle.table_check.specs.declared.Judged.the-variants.{Bad, Holds}
-use Rattle.table_check.specs.Judge.{degreeOf, bondStands, atomsFrom, firstBadBond, afterAtoms, badRecord}
+use Rattle.table_check.specs.Judge.{badRecord}
+use Rattle.table_check.proofs.Records.{bad-most}
 use Rattle.write.specs.declared.answer.Written.{Written}
 use Rattle.write.specs.declared.answer.Written.the-variants.{Done, AtomRoom, BondRoom, OutRoom, BadTable}
 use Rattle.write.specs.Write.{zeros, graphOf, walkIn, saidIn, walkOf, walkEvents, lineSaid, writeRefusal, atomPlaces, bondSlots, WriteLeft, writeLeaves, lineRefusing, putLine, lineConcluded, graphWritten, writeOf}
 use Rattle.walk_laws.specs.Trek.{Room, degrees}
-use Rattle.feature.proofs.Cases.{by-test}
+use Rattle.feature.proofs.Cases.{by-test, impossible}
 use Rattle.walk_laws.proofs.Judged.{judged-degrees}
 use Rattle.trip_graph.specs.Renumber.{Simple, Known, Numbering}
 use Rattle.trip_graph.specs.Steps.{Built}
@@ -78,36 +77,6 @@ module _ (atoms bonds : List ℕ) (n m : ℕ) (few : n ≤ atomLimit) (good : ba
       subst (λ (d : Sketch). Built d (renumbered (graphOf n atoms bonds) (byWalk (walkOf atoms n bonds m)))) (sym (same ∙ ap (runS (startS places slots)) e)) b
 
 -- ---- what a write that is done says
-bonds-most : (bonds : List ℕ) (held k e : ℕ) → firstBadBond bonds held k e ≤ e + k
-unfolding firstBadBond
-bonds-most bonds held zero e = omega arith
-bonds-most bonds held (suc k) e =
-    by-test (λ (x : ℕ). x ≤ e + suc k) (leb held e) (λ q. omega arith)
-    (λ q. by-test (λ (x : ℕ). x ≤ e + suc k) (bondStands bonds e) (λ y. omega (arith, bonds-most bonds held k (e + 1))) (λ y. omega arith))
-
-Below : ℕ → Judged → Type 0
-Below n (Bad a) = a < n
-Below n (Holds held) = 0 ≤ held
-
-atoms-most : (atoms : List ℕ) (m k a held : ℕ) → Below (a + k) (atomsFrom atoms m k a held)
-unfolding atomsFrom Below
-atoms-most atoms m zero a held = omega arith
-atoms-most atoms m (suc k) a held =
-    let z : a + 1 + k ≡ a + suc k = omega arith in
-    by-test (Below (a + suc k)) (ltb (m - held) (degreeOf atoms a)) (λ q. omega arith)
-    (λ q. by-test (Below (a + suc k)) (isAtom atoms a) (λ y. rw z at (atoms-most atoms m k (a + 1) (held + degreeOf atoms a))) (λ y. omega arith))
-
-after-most : (x : Judged) (bonds : List ℕ) (n m : ℕ) → Below n x → afterAtoms x bonds n m ≤ n + m
-unfolding afterAtoms Below
-after-most (Bad a) bonds n m h = omega (arith, h)
-after-most (Holds held) bonds n m h = omega (arith, bonds-most bonds held m 0)
-
-bad-most : (atoms bonds : List ℕ) (n m : ℕ) → badRecord atoms n bonds m ≤ n + m
-unfolding badRecord
-bad-most atoms bonds n m =
-    let z : 0 + n ≡ n = omega arith in
-    after-most (atomsFrom atoms m n 0 0) bonds n m (rw z at (atoms-most atoms m n 0 0))
-
 few-atoms : (atoms : List ℕ) (n : ℕ) → ltb (atomPlaces atoms) n ≡ false → n ≤ atomLimit
 unfolding atomPlaces lesserOf
 few-atoms atoms n =
@@ -126,13 +95,13 @@ few-bonds bonds m =
 never-done : (z : Walker) (len : ℕ) → writeRefusal z ≡ Done len → ⊥
 unfolding writeRefusal
 never-done z len =
-    by-test N (eqb (z .refusal) unknownTarget) (λ q e. let y : _≡_ {A = ℕ} 0 1 = cc in omega arith)
-    (λ q. by-test N (eqb (z .refusal) loop) (λ q e. let y : _≡_ {A = ℕ} 0 1 = cc in omega arith)
-    (λ q. by-test N (eqb (z .refusal) halfBond) (λ q e. let y : _≡_ {A = ℕ} 0 1 = cc in omega arith)
-    (λ q. by-test N (eqb (z .refusal) duplicateBond) (λ q e. let y : _≡_ {A = ℕ} 0 1 = cc in omega arith)
-    (λ q. by-test N (eqb (z .refusal) incompatibleBond) (λ q e. let y : _≡_ {A = ℕ} 0 1 = cc in omega arith)
-    (λ q. by-test N (eqb (z .refusal) inversion) (λ q e. let y : _≡_ {A = ℕ} 0 1 = cc in omega arith)
-    (λ q e. let y : _≡_ {A = ℕ} 0 1 = cc in omega arith))))))
+    by-test N (eqb (z .refusal) unknownTarget) (λ q e. impossible cc)
+    (λ q. by-test N (eqb (z .refusal) loop) (λ q e. impossible cc)
+    (λ q. by-test N (eqb (z .refusal) halfBond) (λ q e. impossible cc)
+    (λ q. by-test N (eqb (z .refusal) duplicateBond) (λ q e. impossible cc)
+    (λ q. by-test N (eqb (z .refusal) incompatibleBond) (λ q e. impossible cc)
+    (λ q. by-test N (eqb (z .refusal) inversion) (λ q e. impossible cc)
+    (λ q e. impossible cc))))))
   where
     N : Written → Type 0
     N x = x ≡ Done len → ⊥
@@ -153,12 +122,12 @@ unfolding writeOf graphWritten lineConcluded putLine
 was-done room atoms n bonds m len out =
     let D : Type 0 = WasDone room atoms n bonds m len out in
     let L : List ℕ = lineSaid (walkEvents atoms n bonds m) in
-    by-test (λ (x : WriteLeft). x ≡ writeLeaves (Done len) out → D) (ltb (atomPlaces atoms) n) (λ q e. absurd (refusal-no (AtomRoom n) (λ z. let y : _≡_ {A = ℕ} 0 1 = cc in omega arith) e))
-    (λ q1. by-test (λ (x : WriteLeft). x ≡ writeLeaves (Done len) out → D) (ltb (bondSlots bonds) m) (λ q e. absurd (refusal-no (BondRoom m) (λ z. let y : _≡_ {A = ℕ} 0 1 = cc in omega arith) e))
+    by-test (λ (x : WriteLeft). x ≡ writeLeaves (Done len) out → D) (ltb (atomPlaces atoms) n) (λ q e. absurd (refusal-no (AtomRoom n) (λ z. impossible cc) e))
+    (λ q1. by-test (λ (x : WriteLeft). x ≡ writeLeaves (Done len) out → D) (ltb (bondSlots bonds) m) (λ q e. absurd (refusal-no (BondRoom m) (λ z. impossible cc) e))
     (λ q2. by-test (λ (x : WriteLeft). x ≡ writeLeaves (Done len) out → D) (ltb (badRecord atoms n bonds m) (n + m))
-    (λ q e. absurd (refusal-no (BadTable (badRecord atoms n bonds m)) (λ z. let y : _≡_ {A = ℕ} 0 1 = cc in omega arith) e))
+    (λ q e. absurd (refusal-no (BadTable (badRecord atoms n bonds m)) (λ z. impossible cc) e))
     (λ q3. by-test (λ (x : WriteLeft). x ≡ writeLeaves (Done len) out → D) (eqb (walkOf atoms n bonds m .at .refusal) 0)
-    (λ q4. by-test (λ (x : WriteLeft). x ≡ writeLeaves (Done len) out → D) (ltb room (length L)) (λ q e. absurd (refusal-no (OutRoom (length L)) (λ z. let y : _≡_ {A = ℕ} 0 1 = cc in omega arith) e))
+    (λ q4. by-test (λ (x : WriteLeft). x ≡ writeLeaves (Done len) out → D) (ltb room (length L)) (λ q e. absurd (refusal-no (OutRoom (length L)) (λ z. impossible cc) e))
     (λ q5 e. record {
       few = few-atoms atoms n q1;
       most = few-bonds bonds m q2;

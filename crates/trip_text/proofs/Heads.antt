@@ -16,7 +16,7 @@ use Rattle.feature.specs.declared.atom_kind.AtomKind.{AtomKind}
 use Rattle.feature.specs.declared.atom_kind.AtomKind.the-variants.{Star, Aliphatic, Aromatic, Bracket}
 use Rattle.feature.specs.declared.bond_kind.BondKind.{BondKind}
 use Rattle.feature.specs.declared.bond_kind.BondKind.the-variants as kind
-use Rattle.feature.proofs.Cases.{both-true, true-of}
+use Rattle.feature.proofs.Cases.{both-true, true-of, impossible}
 use Rattle.spell.specs.Spell.{nameText, organicSymbols, bracketText, kindText, atomText, bondText, digits, rnumText}
 use Rattle.read_token.specs.Scan.{signKind, markWidth}
 use Rattle.survive.specs.Survive.{survives, canFollow}
@@ -84,7 +84,7 @@ no-width kind.Up e = absurd (omega arith)
 no-width kind.Down e = absurd (omega arith)
 
 not-true : (b : Bool) → neither b ≡ true → b ≡ false
-not-true true e = absurd (let z : _≡_ {A = ℕ} 0 1 = cc in omega arith)
+not-true true e = impossible cc
 not-true false e = refl
 
 pub record Facts (x : ℕ) : Type 0 where

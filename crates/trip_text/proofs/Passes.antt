@@ -4,10 +4,10 @@ use Prim.Native.Nat.{ℕ}
 use mathlib.Core.Path.{_≡_, refl, subst}
 use mathlib.Core.List.{List, []}
 use mathlib.Core.Bool.{Bool, true, false}
-use native.Mathlib.Omega.{arith}
 use lib.ListN.{length}
 use Rattle.feature.specs.Kinds.{inRange}
 use Rattle.feature.specs.declared.atom_kind.AtomKind.{AtomKind}
+use Rattle.feature.proofs.Cases.{impossible}
 use Rattle.spell.specs.Spell.{atomText}
 use Rattle.read_token.specs.declared.scanner.Found.the-variants.{Atom}
 use Rattle.read_token.specs.Scan.{peekAt, bracketAt, aromaticOf, aliphaticOf, organicAt, starAt, orElse, otherAt, atomAt}
@@ -17,7 +17,7 @@ use Rattle.survive.proofs.Exactly.{exactly}
 -- nothing is read of no text
 none-read : (k : AtomKind) → atomAt [] 0 ≡ Atom k 0 → ⊥
 unfolding peekAt bracketAt aromaticOf aliphaticOf organicAt starAt orElse otherAt atomAt
-none-read k e = let z : _≡_ {A = ℕ} 0 1 = cc in omega arith
+none-read k e = impossible cc
 
 in-range : (k : AtomKind) → Survives k → inRange k ≡ true
 unfolding atomText

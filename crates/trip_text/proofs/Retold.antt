@@ -8,6 +8,7 @@ use lib.ListN.{length}
 use lib.Dec.{ltb}
 use borrow.Author.Tests.{lt-ltb, le-ltb}
 use Rattle.feature.specs.declared.atom_kind.AtomKind.{AtomKind}
+use Rattle.feature.proofs.Cases.{impossible}
 use Rattle.spell.specs.Spell.{atomText}
 use Rattle.survive.specs.Survive.{canFollow}
 use Rattle.builder.specs.Limits.{branchLimit}
@@ -91,7 +92,7 @@ nests-retold (Pop d ∷ es) = nests-retold es
 says-flat : {w room : ℕ} (D x : List reader.ReadEvent) → SaysWithin w room D x → hasNest x ≡ false → unplaced x ≡ D
 says-flat D x (all g e) h = e
 says-flat D x (cut A B g d e) h =
-    absurd (let y : hasNest x ≡ true = sym (nests-placeless x) ∙ ap hasNest e ∙ nests-last A in let z : _≡_ {A = ℕ} 0 1 = cc in omega arith)
+    absurd (let y : hasNest x ≡ true = sym (nests-placeless x) ∙ ap hasNest e ∙ nests-last A in impossible cc)
 
 -- The same in one equation: where no branch too many is met, what is read is what was told.
 pub retold-flat : (most : ℕ) (k : AtomKind) (es : List Event) → Sayable 0 (Root k ∷ es) → Spellable (Root k ∷ es) → AllAccepted most (Root k ∷ es) []

@@ -4,7 +4,7 @@ use mathlib.Core.Path.{_≡_, refl, _∙_, ap, sym, subst}
 use mathlib.Core.List.{List, [], _∷_, _++_, append-assoc}
 use mathlib.Core.Bool.{Bool, true, false}
 use native.Mathlib.Omega.{arith}
-use native.Mathlib.Nat.{add-zero, zero-add}
+use native.Mathlib.Nat.{add-zero, zero-add, pos-of-ne-zero}
 use lib.ListN.{length, length-append}
 use lib.Dec.{eqb}
 use borrow.Author.Tests.{eqb-true, eqb-false}
@@ -195,10 +195,6 @@ sense-join b i small =
         (omega (arith, length-append (bondText b) (rnumText i))) (omega arith) (omega (arith, plain-long (rnum-plain i small)))
 
 -- ---- a branch
-positive : (n : ℕ) → (n ≡ 0 → ⊥) → 0 < n
-positive zero h = absurd (h refl)
-positive (suc n) h = omega arith
-
 -- one too many says so
 then-nest : (w at : ℕ) (E x y : List ReadEvent) → x ≡ Nest at ∷ [] → Then (w + 1) 0 E x y
 unfolding unplaced placeless
@@ -230,7 +226,7 @@ sense-branch {c} {w} {p} {E} a = record { reads = go; follows = λ q k. refl }
         subst (λ (y : ℕ). Then (w + 1) y (E ++ (Pop c ∷ [])) (bodies (suc f) s room at n K) (bodies f s room (at + 1 + length p + 1) n K)) (sym z)
         (then-nest w at _ _ _ (branch-read f s room at n K _ h ∙ rw e))
     by-room false f s room at n K r e h g =
-        let z : 0 < room = positive room (eqb-false room 0 e) in
+        let z : 0 < room = pos-of-ne-zero (eqb-false room 0 e) in
         rw (branch-read f s room at n K _ h, e) (then-inner w room z (inner f s room at n K r (next h) g))
 
     go : (f : ℕ) (s : List ℕ) (room at n : ℕ) (K : Rest) (r : List ℕ) → Stands s at (wrapped p ++ r) → canFollow r ≡ true → Fuelled s at f

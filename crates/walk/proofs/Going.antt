@@ -38,7 +38,7 @@ quiet-off : (g : Graph) (w : Walk) → w .at .refusal ≢ 0 → stepOf g w .said
 unfolding stepOf
 quiet-off g w e = simp (ne-eqb _ _ e)
 
-walk-off : (g : Graph) (n : ℕ) (w : Walk) → w .at .refusal ≢ 0 → walkTo g n w ≡ w
+pub walk-off : (g : Graph) (n : ℕ) (w : Walk) → w .at .refusal ≢ 0 → walkTo g n w ≡ w
 unfolding walkTo
 walk-off g zero w e = refl
 walk-off g (suc n) w e = ap (λ (v : Walk). walkTo g n v) (step-off g w e) ∙ walk-off g n w e

@@ -7,6 +7,7 @@ use native.Mathlib.Omega.{arith}
 use lib.ListN.{getD}
 use borrow.Author.Tests.{eq-eqb, ne-eqb}
 use Rattle.feature.specs.declared.bond_kind.BondKind.{BondKind}
+use Rattle.feature.proofs.Cases.{impossible}
 use Rattle.join_pool.specs.declared.Pool.{Pool}
 use Rattle.join_pool.specs.declared.Given.{Given}
 use Rattle.join_pool.specs.declared.Given.the-variants.{Number, Full}
@@ -114,13 +115,13 @@ left-back bonds first back z r a b t e d f h =
 -- ---- a bond to an atom met before
 told-full : (p : Pool) (g : Given) → answerApart p g .told ≡ told.Full → g ≡ Full
 unfolding answerApart
-told-full p (Number q n) e = absurd (let y : told.Number n ≡ told.Full = e in let z : _≡_ {A = ℕ} 0 1 = cc in omega arith)
+told-full p (Number q n) e = absurd (let y : told.Number n ≡ told.Full = e in impossible cc)
 told-full p Full e = refl
 
 told-number : (p : Pool) (g : Given) (n : ℕ) → answerApart p g .told ≡ told.Number n → g ≡ Number (answerApart p g .pool) n
 unfolding answerApart
 told-number p (Number q m) n e = let y : told.Number m ≡ told.Number n = e in let z : m ≡ n = cc in ap (λ (x : ℕ). Number q x) z
-told-number p Full n e = absurd (let y : told.Full ≡ told.Number n = e in let z : _≡_ {A = ℕ} 0 1 = cc in omega arith)
+told-number p Full n e = absurd (let y : told.Full ≡ told.Number n = e in impossible cc)
 
 pub ringed-as : (z r : Walker) (g : Numbered) (k : PoolAnswer) → g ≡ numberedIn z k → r ≡ ringSaid (g .walker) (g .walker .pool) → r ≡ ringSaid z (k .pool)
 ringed-as z r g k e f = f ∙ ap (λ (x : Numbered). ringSaid (x .walker) (x .walker .pool)) e

@@ -1,19 +1,18 @@
 -- What holds of every write: a line that is written, or for which there was no room, has at most 24 bytes for each atom and 4
 -- for each entry; the writer takes every event of a walk; and a graph that is written was walked to its end. Assumes nothing.
-use Prim.Native.Nat.{ℕ, zero, suc, _+_, _-_, _/_, _≤_, _<_}
+use Prim.Native.Nat.{ℕ, _+_, _/_, _≤_}
 use mathlib.Core.Path.{_≡_, refl}
 use mathlib.Core.List.{List, []}
 use mathlib.Core.Bool.{false}
 use native.Mathlib.Omega.{arith}
 use lib.ListN.{length}
-use lib.Dec.{ltb, leb, eqb}
+use lib.Dec.{ltb, eqb}
 use borrow.Author.Tests.{ltb-true, ltb-false}
-use Rattle.packing.specs.Words.{atomWords, isAtom}
+use Rattle.packing.specs.Words.{atomWords}
 use Rattle.builder.specs.Limits.{atomLimit, lesserOf}
 use Rattle.builder.specs.Build.{entryStarts}
-use Rattle.table_check.specs.declared.Judged.{Judged}
-use Rattle.table_check.specs.declared.Judged.the-variants.{Bad, Holds}
-use Rattle.table_check.specs.Judge.{degreeOf, bondStands, atomsFrom, firstBadBond, afterAtoms, badRecord}
+use Rattle.table_check.specs.Judge.{badRecord}
+use Rattle.table_check.proofs.Records.{bad-most}
 use Rattle.walk.specs.declared.walker.Walker.{Walker}
 use Rattle.walk_entry.specs.Ways.{halfBond, duplicateBond, incompatibleBond, inversion}
 use Rattle.walk.specs.Walk.{turnsOf, unknownTarget, loop}
@@ -27,37 +26,6 @@ use Rattle.write.specs.declared.answer.Written.{Written}
 use Rattle.write.specs.declared.answer.Written.the-variants.{UnknownTarget, Loop, HalfBond, DuplicateBond, IncompatibleBond, Inversion, RingNumbers, AtomRoom, BondRoom, BadTable}
 use Rattle.write.specs.Bound.{lineBound, bytesOf, Short}
 use Rattle.write.specs.Write.{zeros, pairWords, graphOf, walkIn, walkOf, saidIn, walkEvents, lineSaid, writeRefusal, atomPlaces, bondSlots, WriteLeft, lineRefusing, putLine, lineConcluded, graphWritten, writeOf}
-
--- ---- the first bad record is one of them, or the one after
-bonds-most : (bonds : List ℕ) (held k e : ℕ) → firstBadBond bonds held k e ≤ e + k
-unfolding firstBadBond
-bonds-most bonds held zero e = omega arith
-bonds-most bonds held (suc k) e =
-    by-test (λ (x : ℕ). x ≤ e + suc k) (leb held e) (λ q. omega arith)
-    (λ q. by-test (λ (x : ℕ). x ≤ e + suc k) (bondStands bonds e) (λ y. omega (arith, bonds-most bonds held k (e + 1))) (λ y. omega arith))
-
-Within : ℕ → Judged → Type 0
-Within n (Bad a) = a < n
-Within n (Holds held) = 0 ≤ held
-
-atoms-most : (atoms : List ℕ) (m k a held : ℕ) → Within (a + k) (atomsFrom atoms m k a held)
-unfolding atomsFrom Within
-atoms-most atoms m zero a held = omega arith
-atoms-most atoms m (suc k) a held =
-    let z : a + 1 + k ≡ a + suc k = omega arith in
-    by-test (Within (a + suc k)) (ltb (m - held) (degreeOf atoms a)) (λ q. omega arith)
-    (λ q. by-test (Within (a + suc k)) (isAtom atoms a) (λ y. rw z at (atoms-most atoms m k (a + 1) (held + degreeOf atoms a))) (λ y. omega arith))
-
-after-most : (x : Judged) (bonds : List ℕ) (n m : ℕ) → Within n x → afterAtoms x bonds n m ≤ n + m
-unfolding afterAtoms Within
-after-most (Bad a) bonds n m h = omega (arith, h)
-after-most (Holds held) bonds n m h = omega (arith, bonds-most bonds held m 0)
-
-bad-most : (atoms bonds : List ℕ) (n m : ℕ) → badRecord atoms n bonds m ≤ n + m
-unfolding badRecord
-bad-most atoms bonds n m =
-    let z : 0 + n ≡ n = omega arith in
-    after-most (atomsFrom atoms m n 0 0) bonds n m (rw z at (atoms-most atoms m n 0 0))
 
 -- ---- a graph that was admitted
 few-atoms : (atoms : List ℕ) (n : ℕ) → ltb (atomPlaces atoms) n ≡ false → n ≤ atomLimit

@@ -3,12 +3,14 @@ use Prim.Native.Nat.{ℕ, suc, _+_, _-_, _≤_, _<_}
 use mathlib.Core.Path.{_≡_, refl, sym, ap, _∙_}
 use mathlib.Core.Bool.{Bool, true, false}
 use mathlib.Core.List.{List, [], _∷_, _++_, append-nil}
+use mathlib.Core.Logic.{inr}
 use native.Mathlib.Omega.{arith}
 use lib.ListN.{length, take, drop, getD, set, length-append, length-drop, drop-of-length-le}
 use lib.Seq.{sets, length-sets, length-take-le, take-all, take-take, take-suc, getD-drop, set-out}
 use lib.Dec.{ltb, leb}
 use borrow.Author.Tests.{lt-ltb, le-ltb, lt-leb, le-leb, eq-eqb, ne-eqb, ltb-true, ltb-false}
 use borrow.Rule.Slice.PartMut.{midOf, putMid}
+use Rattle.packing.proofs.Laws.{sets-out, sets-beside}
 use Rattle.feature.specs.Pick.{pick}
 use Rattle.feature.specs.Text.{byte, bytes}
 use Rattle.feature.specs.declared.atom_kind.AtomKind.{AtomKind}
@@ -20,7 +22,7 @@ use Rattle.writer.specs.declared.Writer.{Writer}
 use Rattle.writer.specs.declared.Wrote.the-variants.{Held, AtomRoom, OutRoom}
 use Rattle.writer.specs.Line.{Root, Extend, Join, Pop, dotText, wrapped}
 use Rattle.writer.specs.Tables.{Spoken, spoken, writer, pieceRoom, added, pieceT, lengthened, joinT, lastStart, bytesFrom, wrapT, popT, EventTold, toldWith, eventRefusing, fitting, sayT, eventOf}
-use Rattle.writer.proofs.Stores.{sets-same, sets-out, sets-parts, getD-sets}
+use Rattle.writer.proofs.Stores.{sets-same, sets-parts}
 
 -- ---- a text in a lent part
 -- the lesser of two numbers is one of them
@@ -93,7 +95,7 @@ module _ (out₀ : List ℕ) (at b : ℕ) where
         let n : i + 1 - at ≡ suc (i - at) = omega arith in
         let k : i ≡ at + (i - at) = omega arith in
         ap (λ (l : List ℕ). getD l i 0) e
-        ∙ getD-sets out₀ at (take (i - at) moved) i 0 (omega (arith, so-many))
+        ∙ sets-beside out₀ (take (i - at) moved) at i (inr (omega (arith, so-many)))
         ∙ ap (λ (j : ℕ). getD out₀ j 0) k
         ∙ sym (getD-drop at out₀ (i - at) 0)
         ∙ ap (λ (j : ℕ). getD moved j 0) (sym n)
@@ -127,9 +129,9 @@ wrap-both out mid last at end r n h e a =
     let k : length mid ≡ length out = ap length e ∙ length-sets out at (byte "(" ∷ bytesFrom at (end - at) out) in
     let m : length (bytesFrom at (end - at) out) ≡ length out - at =
     ap length (take-all (end - at) (drop at out) (simp length-drop (omega arith))) ∙ length-drop at out in
-    sets-out mid (end + 1) (bytes ")") (omega arith)
+    sets-out mid (bytes ")") (end + 1) (omega arith)
     ∙ e
-    ∙ sym (sets-out (sets out at (byte "(" ∷ bytesFrom at (end - at) out)) (at + suc (length (bytesFrom at (end - at) out))) (bytes ")") (simp length-sets (omega arith))))
+    ∙ sym (sets-out (sets out at (byte "(" ∷ bytesFrom at (end - at) out)) (bytes ")") (at + suc (length (bytesFrom at (end - at) out))) (simp length-sets (omega arith))))
     ∙ sym (sets-append out at (byte "(" ∷ bytesFrom at (end - at) out) (bytes ")"))
 
 -- ---- the words of a writer

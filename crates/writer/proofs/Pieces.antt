@@ -11,14 +11,14 @@ use lib.Dec.{leb, eqb}
 use borrow.Author.Tests.{eq-eqb, ne-eqb, leb-false}
 use Rattle.feature.specs.Pick.{pick}
 use Rattle.feature.specs.Text.{byte, bytes}
-use Rattle.feature.proofs.Lists.{sets-append}
+use Rattle.feature.proofs.Lists.{sets-append, sets-nil, sets-cons}
 use Rattle.feature.proofs.Cases.{by-either}
 use Rattle.builder.specs.Limits.{atomLimit, lesserOf}
 use Rattle.spell.specs.Spell.{atomText, bondText, rnumText}
 use Rattle.writer.specs.Line.{Event, Root, Extend, Join, Pop, lineOf, dotText, addPiece, onLast, wrapped, popPieces, writeEvent, writeEvents}
 use Rattle.writer.specs.Tables.{Spoken, spoken, writer, pieceRoom, added, pieceT, lengthened, joinT, lastStart, bytesFrom, wrapT, popT, sayT, sayAll}
 use Rattle.writer.specs.Pieces.{pieceStarts, Holds}
-use Rattle.writer.proofs.Stores.{sets-nil, sets-cons, sets-same, sets-over}
+use Rattle.writer.proofs.Stores.{sets-same, sets-over}
 use Rattle.writer.proofs.Laws.{lesser-cases}
 
 -- ---- the line of pieces
@@ -118,7 +118,7 @@ wrap-line o L M at n e f =
 
 -- ---- one event
 -- there is no room for more pieces than starts
-room-held : (starts : List ℕ) → pieceRoom starts ≤ length starts
+pub room-held : (starts : List ℕ) → pieceRoom starts ≤ length starts
 unfolding pieceRoom
 room-held starts =
     lesser-cases atomLimit (length starts) (lesserOf atomLimit (length starts)) refl (λ h e. omega arith) (λ h e. omega arith)

@@ -1,21 +1,13 @@
 -- Runs of stores in a list that may be too short for them: what finds no room is not stored. Assumes nothing.
-use Prim.Native.Nat.{ℕ, zero, suc, _+_, _-_, _≤_}
+use Prim.Native.Nat.{ℕ, zero, suc, _-_, _≤_}
 use mathlib.Core.Path.{_≡_, refl, sym, ap, _∙_}
 use mathlib.Core.List.{List, [], _∷_, _++_}
 use native.Mathlib.Nat.{not-suc-le-zero, le-of-suc-le-suc, sub-zero, suc-sub-suc}
-use native.Mathlib.Omega.{arith}
-use lib.ListN.{length, take, drop, getD, set, length-set}
-use lib.Seq.{sets, take-nil, getD-set-other, set-out}
+use lib.ListN.{length, take, drop}
+use lib.Seq.{sets, take-nil}
+use Rattle.feature.proofs.Lists.{sets-nil, sets-cons}
 
 -- ---- the first value apart
-pub sets-nil : (i : ℕ) (vs : List ℕ) → sets [] i vs ≡ []
-sets-nil i [] = refl
-sets-nil i (v ∷ vs) = sets-nil (suc i) vs
-
-pub sets-cons : (x : ℕ) (l : List ℕ) (i : ℕ) (vs : List ℕ) → sets (x ∷ l) (suc i) vs ≡ x ∷ sets l i vs
-sets-cons x l i [] = refl
-sets-cons x l i (v ∷ vs) = sets-cons x (set l i v) (suc i) vs
-
 -- ---- only so many values are seen as there is room for
 pub sets-take : (l : List ℕ) (i : ℕ) (vs : List ℕ) → sets l i vs ≡ sets l i (take (length l - i) vs)
 sets-take [] i vs = sets-nil i vs ∙ sym (sets-nil i (take (0 - i) vs))
@@ -33,16 +25,6 @@ sets-take (x ∷ l) (suc i) vs =
 
 pub sets-same : (l : List ℕ) (i : ℕ) (xs ys : List ℕ) → take (length l - i) xs ≡ take (length l - i) ys → sets l i xs ≡ sets l i ys
 sets-same l i xs ys e = sets-take l i xs ∙ ap (λ (z : List ℕ). sets l i z) e ∙ sym (sets-take l i ys)
-
--- past the end nothing is stored
-pub sets-out : (l : List ℕ) (i : ℕ) (vs : List ℕ) → length l ≤ i → sets l i vs ≡ l
-sets-out l i [] h = refl
-sets-out l i (v ∷ vs) h = sets-out (set l i v) (suc i) vs (simp length-set (omega arith)) ∙ set-out l i v h
-
-pub getD-sets : (l : List ℕ) (i : ℕ) (vs : List ℕ) (k d : ℕ) → i + length vs ≤ k → getD (sets l i vs) k d ≡ getD l k d
-getD-sets l i [] k d h = refl
-getD-sets l i (v ∷ vs) k d h =
-    getD-sets (set l i v) (suc i) vs k d (omega arith) ∙ getD-set-other l i k v d (λ e. omega arith)
 
 -- a run laid over a run that is no longer
 pub sets-over : (l : List ℕ) (i : ℕ) (xs ys : List ℕ) → length xs ≤ length ys → sets (sets l i xs) i ys ≡ sets l i ys

@@ -4,10 +4,9 @@ use mathlib.Core.Path.{_≡_}
 use mathlib.Core.List.{List}
 use lib.ListN.{set, length-set}
 use lib.Seq.{sets}
-use native.Mathlib.Numerals.{add-one}
+use native.Mathlib.Numerals.{add-one, add-two}
 use native.Mathlib.Omega.{arith}
 use Rattle.builder.specs.State.{entryList}
-use Rattle.builder.proofs.Sums.{add-two}
 use borrow.Author.Needs.{needs}
 use Rattle.builder.proofs.builder.put_bond.Statement.{statement}
 use Rattle.builder.proofs.builder.put_bond.Tie as tie

@@ -1,6 +1,5 @@
 -- Three stores, one after the other.
-use native.Mathlib.Numerals.{add-one}
-use Rattle.builder.proofs.Sums.{add-two}
+use native.Mathlib.Numerals.{add-one, add-two}
 use borrow.Author.Needs.{needs}
 use Rattle.desk_report.proofs.answer.put_row.Statement.{statement}
 use Rattle.desk_report.proofs.answer.put_row.Tie as tie
