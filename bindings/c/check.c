@@ -1,14 +1,15 @@
-/* Checks what mavisdrok.h says beside its calls: the names, the fields of atoms and bonds, and that a slice of no cells may be
- * lent as a null pointer. From the project's root:
+/* Checks what mavisdrok.h says beside its calls: the names, the fields of atoms and bonds, that a slice of no cells may be lent
+ * as a null pointer, and the stack that a call takes. From the project's root:
  *
  *     tools/archive
- *     cc -g -Ibindings/c bindings/c/check.c target/native/libmavisdrok.a -o target/native/check
+ *     cc -g -pthread -Ibindings/c bindings/c/check.c target/native/libmavisdrok.a -o target/native/check
  *     valgrind --error-exitcode=1 target/native/check crates/replay/data/lines.txt
  *
  * The arguments are lists of purr's stored answers: each line that is read there is read here, and its graph is put into the
  * list's form out of the unpacked fields. It ends with 1 at the first thing that is wrong. */
 #include "mavisdrok.h"
 
+#include <pthread.h>
 #include <stdarg.h>
 #include <stdio.h>
 #include <stdlib.h>
@@ -326,6 +327,49 @@ static void nulls(void)
             same(c, empty);
 }
 
+/* ---- The line that takes most of the stack, in a thread that has no more than the header asks for. */
+
+#define STACK (256 * 1024)
+#define BRANCHES 128
+
+static void *deepest(void *unused)
+{
+    static uint8_t text[3 * BRANCHES + 1], out[24 * (BRANCHES + 1) + 8 * BRANCHES];
+    static uint32_t atoms[(BRANCHES + 1) * MAVISDROK_ATOM_WORDS], bonds[2 * BRANCHES * MAVISDROK_BOND_WORDS];
+    static uint32_t order[3][BRANCHES + 1];
+    uint64_t report[MAVISDROK_REPORT_WORDS];
+    size_t n, m;
+
+    (void)unused;
+    for (size_t i = 0; i < BRANCHES; i++) {
+        text[2 * i] = 'C';
+        text[2 * i + 1] = '(';
+        text[2 * BRANCHES + 1 + i] = ')';
+    }
+    text[2 * BRANCHES] = 'C';
+    mavisdrok_read(text, sizeof text, atoms, LEN(atoms), bonds, LEN(bonds), report, LEN(report));
+    n = report[1], m = report[2];
+    if (report[0] != MAVISDROK_DONE || n != BRANCHES + 1 || m != 2 * BRANCHES)
+        fail("the deepest line is answered %s", mavisdrok_name(report[0]));
+    mavisdrok_write(atoms, LEN(atoms), n, bonds, LEN(bonds), m, out, sizeof out, report, LEN(report));
+    if (report[0] != MAVISDROK_DONE || report[1] != n)
+        fail("the deepest graph is answered %s", mavisdrok_name(report[0]));
+    mavisdrok_order(atoms, LEN(atoms), n, bonds, LEN(bonds), m, order[0], n, order[1], n, order[2], n, report, LEN(report));
+    if (report[0] != MAVISDROK_DONE)
+        fail("its order is answered %s", mavisdrok_name(report[0]));
+    return NULL;
+}
+
+static void stack(void)
+{
+    pthread_attr_t small;
+    pthread_t thread;
+
+    if (pthread_attr_init(&small) || pthread_attr_setstacksize(&small, STACK) || pthread_create(&thread, &small, deepest, NULL))
+        fail("no thread with %d bytes of stack", STACK);
+    pthread_join(thread, NULL);
+}
+
 int main(int argc, char **argv)
 {
     size_t compared = 0;
@@ -336,6 +380,7 @@ int main(int argc, char **argv)
         fail("the library is of version %s, the header of %s", mavisdrok_version(), MAVISDROK_VERSION);
     kinds();
     nulls();
+    stack();
     for (int i = 1; i < argc; i++)
         compared += list(argv[i]);
     printf("%zu calls take no pointer where there are no cells, %zu lines compared\n", LEN(calls), compared);
