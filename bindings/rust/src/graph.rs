@@ -45,10 +45,10 @@ pub struct Order {
     pub back: Vec<u32>,
 }
 
-/// Reads a line.
+/// Reads a line. As much room is lent as the text can need: an atom takes a byte, and so do two bond entries.
 pub fn read(text: &[u8]) -> Result<Graph, Error> {
-    let mut atoms = vec![0; ATOMS * ATOM_WORDS];
-    let mut bonds = vec![0; BONDS * BOND_WORDS];
+    let mut atoms = vec![0; text.len().min(ATOMS) * ATOM_WORDS];
+    let mut bonds = vec![0; (2 * text.len()).min(BONDS) * BOND_WORDS];
     let mut report = [0; 3];
     // The slices are lent for the call alone, and it writes within them alone.
     unsafe {
