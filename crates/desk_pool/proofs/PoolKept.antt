@@ -4,19 +4,18 @@ use Prim.{⊥}
 use Prim.Native.Nat.{ℕ, zero, suc, _+_, _*_, _≤_, _<_}
 use mathlib.Core.Path.{_≡_, refl, sym, ap, _∙_}
 use mathlib.Core.Bool.{Bool, true, false, false≢true}
-use mathlib.Core.List.{List, [], _∷_}
-use mathlib.Core.Logic.{inl, inr}
+use mathlib.Core.List.{List}
 use native.Mathlib.Omega.{arith}
+use native.Mathlib.Numerals.{lt-of-le-of-ne}
 use lib.ListN.{length, getD, replicate, length-replicate}
-use lib.Seq.{sets, length-sets}
 use lib.Dec.{ltb, leb, eqb}
 use borrow.Author.Tests.{lt-ltb, le-ltb, le-leb, lt-leb, eq-eqb, ne-eqb, ltb-true, ltb-false, leb-true, leb-false, eqb-true, eqb-false}
 use Rattle.feature.specs.Pick.{pick, either}
-use Rattle.packing.proofs.Laws.{sets-beside, sets-in, sets-first}
 use Rattle.join_pool.specs.declared.Pool.{Pool}
 use Rattle.join_pool.specs.declared.Given.{Given}
 use Rattle.join_pool.specs.declared.Given.the-variants.{Number, Full}
 use Rattle.join_pool.specs.Pairs.{highest, slotWords, pool, emptyOf, opens, openNumber, slot, counterNext, counterOf, nextOf, Hits, hits, openOf, closeOf, openOrClose, hitPair, hitOf}
+use Rattle.join_pool.proofs.Slots.{slot-length, slot-beside, slot-open, slot-lower, slot-higher}
 use Rattle.desk_pool.specs.Slots.{top, isFree, isOpen, keptFree, isSlot, isFound, isPool}
 use Rattle.feature.specs.Every.{every}
 use Rattle.feature.proofs.Every.{every-at, every-all}
@@ -25,10 +24,7 @@ use Rattle.feature.proofs.Cases.{by-test, both-first, both-second, both-pass}
 -- ---- the search for a pair
 -- no less and not the same
 differ : {n m : ℕ} → (n ≡ m → ⊥) → m ≤ n → m < n
-differ {n} {m} e h = go (ltb m n) refl where
-  go : (q : Bool) → ltb m n ≡ q → m < n
-  go true q = ltb-true m n q
-  go false q = absurd (let l = ltb-false m n q in e (omega arith))
+differ e h = lt-of-le-of-ne h (λ s. e (sym s))
 
 -- the number that it finds is open for the pair
 found : (pairs : List ℕ) (lo hi n : ℕ) → (openNumber pairs lo hi n ≡ 0 → ⊥) → (openNumber pairs lo hi n ≤ n) × (opens pairs (openNumber pairs lo hi n) lo hi ≡ true)
@@ -150,54 +146,30 @@ one-number p pairs h n m lo hi l k o q = facts p pairs h .one n m lo hi (omega a
 
 -- ---- a slot beside the one that changes, and that one
 module _ (pairs : List ℕ) (m x lo hi : ℕ) where
-  beside : (n k : ℕ) → (n ≡ m → ⊥) → n * slotWords ≤ k → k < n * slotWords + 3 → getD (slot pairs m x lo hi) k 0 ≡ getD pairs k 0
-  unfolding slot
-  beside n k e h l = go (ltb n m) refl where
-    go : (q : Bool) → ltb n m ≡ q → getD (sets pairs (m * slotWords) (x ∷ lo ∷ hi ∷ [])) k 0 ≡ getD pairs k 0
-    go true q =
-        let less = ltb-true n m q in
-        sets-beside pairs (x ∷ lo ∷ hi ∷ []) (m * slotWords) k (inl (omega arith))
-    go false q =
-        let more = differ e (ltb-false n m q) in
-        sets-beside pairs (x ∷ lo ∷ hi ∷ []) (m * slotWords) k (inr (omega arith))
-
   free-beside : (n : ℕ) → (n ≡ m → ⊥) → isFree (slot pairs m x lo hi) n ≡ isFree pairs n
   unfolding isFree
   free-beside n e =
-      rw (beside n (n * slotWords) e (omega arith) (omega arith), beside n (n * slotWords + 1) e (omega arith) (omega arith), beside n (n * slotWords + 2) e (omega arith) (omega arith))
+      rw (slot-beside pairs m x lo hi n (n * slotWords) e (omega arith) (omega arith), slot-beside pairs m x lo hi n (n * slotWords + 1) e (omega arith) (omega arith), slot-beside pairs m x lo hi n (n * slotWords + 2) e (omega arith) (omega arith))
 
   opens-beside : (n : ℕ) → (n ≡ m → ⊥) → (lo′ hi′ : ℕ) → opens (slot pairs m x lo hi) n lo′ hi′ ≡ opens pairs n lo′ hi′
   unfolding opens
   opens-beside n e lo′ hi′ =
-      rw (beside n (n * slotWords) e (omega arith) (omega arith), beside n (n * slotWords + 1) e (omega arith) (omega arith), beside n (n * slotWords + 2) e (omega arith) (omega arith))
+      rw (slot-beside pairs m x lo hi n (n * slotWords) e (omega arith) (omega arith), slot-beside pairs m x lo hi n (n * slotWords + 1) e (omega arith) (omega arith), slot-beside pairs m x lo hi n (n * slotWords + 2) e (omega arith) (omega arith))
 
   open-beside : (n : ℕ) → (n ≡ m → ⊥) → isOpen (slot pairs m x lo hi) n ≡ isOpen pairs n
   unfolding isOpen
   open-beside n e =
-      rw (beside n (n * slotWords) e (omega arith) (omega arith), beside n (n * slotWords + 1) e (omega arith) (omega arith), beside n (n * slotWords + 2) e (omega arith) (omega arith))
-
-  module _ (room : m * slotWords + 3 ≤ length pairs) where
-    word-0 : getD (slot pairs m x lo hi) (m * slotWords) 0 ≡ x
-    unfolding slot
-    word-0 = sets-first pairs (x ∷ lo ∷ hi ∷ []) (m * slotWords) room (omega arith)
-
-    word-1 : getD (slot pairs m x lo hi) (m * slotWords + 1) 0 ≡ lo
-    unfolding slot
-    word-1 = sets-in pairs (x ∷ lo ∷ hi ∷ []) (m * slotWords) 1 room (omega arith)
-
-    word-2 : getD (slot pairs m x lo hi) (m * slotWords + 2) 0 ≡ hi
-    unfolding slot
-    word-2 = sets-in pairs (x ∷ lo ∷ hi ∷ []) (m * slotWords) 2 room (omega arith)
+      rw (slot-beside pairs m x lo hi n (n * slotWords) e (omega arith) (omega arith), slot-beside pairs m x lo hi n (n * slotWords + 1) e (omega arith) (omega arith), slot-beside pairs m x lo hi n (n * slotWords + 2) e (omega arith) (omega arith))
 
 -- a number that was freed is open for no pair
 shut : (pairs : List ℕ) (m lo hi : ℕ) → m * slotWords + 3 ≤ length pairs → opens (slot pairs m 0 0 0) m lo hi ≡ true → ⊥
-shut pairs m lo hi room o = let w = words-of (slot pairs m 0 0 0) m lo hi o in omega (arith, w .0, word-0 pairs m 0 0 0 room)
+shut pairs m lo hi room o = let w = words-of (slot pairs m 0 0 0) m lo hi o in omega (arith, w .0, slot-open pairs m 0 0 0 room)
 
 -- one that was opened is open for that pair alone
 open-for : (pairs : List ℕ) (m lo hi lo′ hi′ : ℕ) → m * slotWords + 3 ≤ length pairs → opens (slot pairs m 1 lo hi) m lo′ hi′ ≡ true → (lo′ ≡ lo) × (hi′ ≡ hi)
 open-for pairs m lo hi lo′ hi′ room o =
     let w = words-of (slot pairs m 1 lo hi) m lo′ hi′ o in
-    (sym (w .1) ∙ word-1 pairs m 1 lo hi room, sym (w .2) ∙ word-2 pairs m 1 lo hi room)
+    (sym (w .1) ∙ slot-lower pairs m 1 lo hi room, sym (w .2) ∙ slot-higher pairs m 1 lo hi room)
 
 -- ---- what a slot may be
 still : (f k k′ o : Bool) → (k′ ≡ true → k ≡ true) → either f (pick k false o) ≡ true → either f (pick k′ false o) ≡ true
@@ -207,15 +179,15 @@ still false true false o h e = absurd (false≢true e)
 still false false false o h e = e
 
 -- a slot that does not change still stands if no other number has to be free
-slot-beside : (p p′ : Pool) (pairs : List ℕ) (m x lo hi n : ℕ) → (n ≡ m → ⊥) → (keptFree p′ n ≡ true → keptFree p n ≡ true) → isSlot p pairs n ≡ true → isSlot p′ (slot pairs m x lo hi) n ≡ true
+slot-kept : (p p′ : Pool) (pairs : List ℕ) (m x lo hi n : ℕ) → (n ≡ m → ⊥) → (keptFree p′ n ≡ true → keptFree p n ≡ true) → isSlot p pairs n ≡ true → isSlot p′ (slot pairs m x lo hi) n ≡ true
 unfolding isSlot
-slot-beside p p′ pairs m x lo hi n e k h =
+slot-kept p p′ pairs m x lo hi n e k h =
     rw (free-beside pairs m x lo hi n e, open-beside pairs m x lo hi n e) (still (isFree pairs n) (keptFree p n) (keptFree p′ n) (isOpen pairs n) k h)
 
 -- a slot that was freed
 slot-freed : (p : Pool) (pairs : List ℕ) (m : ℕ) → m * slotWords + 3 ≤ length pairs → isSlot p (slot pairs m 0 0 0) m ≡ true
 unfolding isSlot isFree
-slot-freed p pairs m room = rw (word-0 pairs m 0 0 0 room, word-1 pairs m 0 0 0 room, word-2 pairs m 0 0 0 room) refl
+slot-freed p pairs m room = rw (slot-open pairs m 0 0 0 room, slot-lower pairs m 0 0 0 room, slot-higher pairs m 0 0 0 room) refl
 
 opened : (f : Bool) (k o : Bool) → k ≡ false → o ≡ true → either f (pick k false o) ≡ true
 opened true k o e h = refl
@@ -226,7 +198,7 @@ slot-opened : (p : Pool) (pairs : List ℕ) (m lo hi : ℕ) → m * slotWords + 
 unfolding isSlot isOpen
 slot-opened p pairs m lo hi room h k =
     opened (isFree (slot pairs m 1 lo hi) m) (keptFree p m) _ k
-    (rw (word-0 pairs m 1 lo hi room, word-1 pairs m 1 lo hi room, word-2 pairs m 1 lo hi room) (le-leb lo hi h))
+    (rw (slot-open pairs m 1 lo hi room, slot-lower pairs m 1 lo hi room, slot-higher pairs m 1 lo hi room) (le-leb lo hi h))
 
 -- ---- the numbers that no pair can have
 kept-false : (p : Pool) (n : ℕ) → (n ≡ 0 → ⊥) → (n ≡ p .spare → ⊥) → n < p .counter → keptFree p n ≡ false
@@ -274,10 +246,6 @@ KeepsBy pairs left Full = left ≡ pairs
 
 abbrev pub Keeps : List ℕ → Hits → Type 0
 Keeps pairs h = KeepsBy pairs (h .left) (h .answer)
-
-slot-length : (pairs : List ℕ) (m x lo hi : ℕ) → length (slot pairs m x lo hi) ≡ length pairs
-unfolding slot
-slot-length pairs m x lo hi = length-sets pairs (m * slotWords) (x ∷ lo ∷ hi ∷ [])
 
 -- the counter goes no further than 100
 counter-on : (p : Pool) → p .counter ≤ top → (p .counter ≤ counterOf p) × (counterOf p ≤ top)
@@ -344,7 +312,7 @@ module _ (p : Pool) (pairs : List ℕ) (h : Pooled p pairs) where
               (slot-opened (pool (counterOf p) 0) pairs (nextOf p) lo hi (omega (arith, h .room)) l
               (kept-false (pool (counterOf p) 0) (nextOf p) (λ z. omega arith) (λ z. omega arith) less))
           each n k false q on pos less =
-              slot-beside p (pool (counterOf p) 0) pairs (nextOf p) 1 lo hi n (eqb-false n (nextOf p) q) (fewer p (counterOf p) 0 n on (λ z. nought z)) (h .each n k)
+              slot-kept p (pool (counterOf p) 0) pairs (nextOf p) 1 lo hi n (eqb-false n (nextOf p) q) (fewer p (counterOf p) 0 n on (λ z. nought z)) (h .each n k)
 
   close-kept : (r lo hi : ℕ) → (r ≡ 0 → ⊥) → r < p .counter → Keeps pairs (closeOf p pairs r)
   unfolding closeOf
@@ -370,7 +338,7 @@ module _ (p : Pool) (pairs : List ℕ) (h : Pooled p pairs) where
       each : (n : ℕ) → n < top + 1 → (q : Bool) → eqb n r ≡ q → p .counter ≤ counterOf p → isSlot (pool (counterOf p) r) (slot pairs r 0 0 0) n ≡ true
       each n k true q on = rw (eqb-true n r q) (slot-freed (pool (counterOf p) r) pairs r (omega (arith, h .room, h .counter)))
       each n k false q on =
-          slot-beside p (pool (counterOf p) r) pairs r 0 0 0 n (eqb-false n r q) (fewer p (counterOf p) r n on (λ e. absurd (eqb-false n r q e))) (h .each n k)
+          slot-kept p (pool (counterOf p) r) pairs r 0 0 0 n (eqb-false n r q) (fewer p (counterOf p) r n on (λ e. absurd (eqb-false n r q e))) (h .each n k)
 
 pair-kept : (p : Pool) (pairs : List ℕ) (lo hi : ℕ) → Pooled p pairs → lo ≤ hi → Keeps pairs (hitPair p pairs lo hi)
 unfolding hitPair openOrClose

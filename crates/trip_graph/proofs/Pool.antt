@@ -7,8 +7,7 @@ use mathlib.Core.Option.{none, some}
 use mathlib.Core.Bool.{true, false}
 use Prim.Native.Nat.{ℕ, zero, suc, _+_, _*_, _≤_, _<_}
 use native.Mathlib.Omega.{arith}
-use lib.ListN.{length, getD, set, length-set, length-replicate}
-use lib.Seq.{getD-set-same, getD-set-other}
+use lib.ListN.{length, getD, length-replicate}
 use lib.Dec.{ltb, eqb}
 use borrow.Author.Tests.{eq-eqb, ne-eqb, eqb-true, lt-ltb, le-ltb, ltb-true, ltb-false}
 use Rattle.feature.specs.Pick.{pick}
@@ -16,6 +15,7 @@ use Rattle.feature.proofs.Cases.{both-first, both-second, by-eq, clash}
 use Rattle.join_pool.specs.declared.Pool.{Pool}
 use Rattle.join_pool.specs.declared.Given.the-variants.{Number}
 use Rattle.join_pool.specs.Pairs.{highest, slotWords, pool, opens, openNumber, slot, counterNext, counterOf, nextOf, hits, openOf, closeOf, openOrClose, hitPair, hitOf}
+use Rattle.join_pool.proofs.Slots.{slot-length, slot-beside, slot-open, slot-lower, slot-higher}
 use Rattle.walk_laws.proofs.Sums.{zeros-at}
 use Rattle.trip_graph.specs.Opened.{sameNumber, Pair, ringPair, pairIs, look, del, numIn, Distinct, Opens, full, number, Serves}
 use Rattle.trip_graph.proofs.Lists.{same-eq, same-ne, eq-of-same, by-bool, or-true-left, or-elim}
@@ -49,52 +49,6 @@ one-pair a b c d l h f k =
     (λ q. by-bool (ltb c d) (λ z. f (rw (q, z) at l) (rw (q, z) at h)) (λ z. k (rw (q, z) at l) (rw (q, z) at h)))
     (λ q. by-bool (ltb c d) (λ z. k (rw (q, z) at h) (rw (q, z) at l)) (λ z. f (rw (q, z) at h) (rw (q, z) at l)))
 
--- ---- the words of a number
-module _ (pairs : List ℕ) (n x lo hi : ℕ) where
-  slot-length : length (slot pairs n x lo hi) ≡ length pairs
-  unfolding slot
-  slot-length = simp length-set
-
-  abbrev one : List ℕ
-  one = set pairs (n * slotWords) x
-
-  abbrev two : List ℕ
-  two = set one (suc (n * slotWords)) lo
-
-  slot-is : slot pairs n x lo hi ≡ set two (suc (suc (n * slotWords))) hi
-  unfolding slot
-  slot-is = refl
-
-  slot-away : (i : ℕ) → i ≢ n * slotWords → i ≢ suc (n * slotWords) → i ≢ suc (suc (n * slotWords)) → getD (slot pairs n x lo hi) i 0 ≡ getD pairs i 0
-  slot-away i a b c =
-      ap (λ (l : List ℕ). getD l i 0) slot-is
-      ∙ getD-set-other two (suc (suc (n * slotWords))) i hi 0 c
-      ∙ getD-set-other one (suc (n * slotWords)) i lo 0 b
-      ∙ getD-set-other pairs (n * slotWords) i x 0 a
-
-  module _ (room : n * slotWords + 2 < length pairs) where
-    slot-open : getD (slot pairs n x lo hi) (n * slotWords) 0 ≡ x
-    slot-open =
-        ap (λ (l : List ℕ). getD l (n * slotWords) 0) slot-is
-        ∙ getD-set-other two (suc (suc (n * slotWords))) (n * slotWords) hi 0 (λ z. omega arith)
-        ∙ getD-set-other one (suc (n * slotWords)) (n * slotWords) lo 0 (λ z. omega arith)
-        ∙ getD-set-same pairs (n * slotWords) x 0 (omega arith)
-
-    slot-lo : getD (slot pairs n x lo hi) (n * slotWords + 1) 0 ≡ lo
-    slot-lo =
-        let e : n * slotWords + 1 ≡ suc (n * slotWords) = omega arith in
-        let r : suc (n * slotWords) < length one = simp length-set (omega arith) in
-        ap₂ (λ (l : List ℕ) (i : ℕ). getD l i 0) slot-is e
-        ∙ getD-set-other two (suc (suc (n * slotWords))) (suc (n * slotWords)) hi 0 (λ z. omega arith)
-        ∙ getD-set-same one (suc (n * slotWords)) lo 0 r
-
-    slot-hi : getD (slot pairs n x lo hi) (n * slotWords + 2) 0 ≡ hi
-    slot-hi =
-        let e : n * slotWords + 2 ≡ suc (suc (n * slotWords)) = omega arith in
-        let r : suc (suc (n * slotWords)) < length two = simp length-set (omega arith) in
-        ap₂ (λ (l : List ℕ) (i : ℕ). getD l i 0) slot-is e
-        ∙ getD-set-same two (suc (suc (n * slotWords))) hi 0 r
-
 -- ---- what the words hold
 record Slot (pairs : List ℕ) (x : Pair) : Type 0 where
   open1 : getD pairs (x .num * slotWords) 0 ≡ 1
@@ -118,9 +72,9 @@ slot-opens pairs x lo hi s l h = rw (eq-eqb _ 1 (s .open1), eq-eqb _ lo (s .lowe
 slot-kept : (pairs : List ℕ) (n v lo hi : ℕ) (x : Pair) → x .num ≢ n → Slot pairs x → Slot (slot pairs n v lo hi) x
 slot-kept pairs n v lo hi x ne s =
     record {
-      open1 = slot-away pairs n v lo hi (x .num * slotWords) (λ z. ne (omega arith)) (λ z. omega arith) (λ z. omega arith) ∙ s .open1;
-      lower = slot-away pairs n v lo hi (x .num * slotWords + 1) (λ z. omega arith) (λ z. ne (omega arith)) (λ z. omega arith) ∙ s .lower;
-      higher = slot-away pairs n v lo hi (x .num * slotWords + 2) (λ z. omega arith) (λ z. omega arith) (λ z. ne (omega arith)) ∙ s .higher;
+      open1 = slot-beside pairs n v lo hi (x .num) (x .num * slotWords) ne (omega arith) (omega arith) ∙ s .open1;
+      lower = slot-beside pairs n v lo hi (x .num) (x .num * slotWords + 1) ne (omega arith) (omega arith) ∙ s .lower;
+      higher = slot-beside pairs n v lo hi (x .num) (x .num * slotWords + 2) ne (omega arith) (omega arith) ∙ s .higher;
     }
 
 -- ---- the search
@@ -233,7 +187,7 @@ module _ (p : Pool) (pairs : List ℕ) (P : List Pair) (H : Holds p pairs P) (g 
             slots = λ y i. slot-kept pairs (x .num) 0 0 0 y (λ z. clash (in-num y (del t s P) i) (rw z gone)) (H .slots y (in-del P t s y i));
             free = λ n h. by-eq n (x .num)
                 (λ e. rw e (slot-open pairs (x .num) 0 0 0 (omega arith)))
-                (λ e. slot-away pairs (x .num) 0 0 0 (n * slotWords) (λ z. e (omega arith)) (λ z. omega arith) (λ z. omega arith)
+                (λ e. slot-beside pairs (x .num) 0 0 0 n (n * slotWords) e (omega arith) (omega arith)
                 ∙ H .free n (by-bool (numIn n P)
                 (λ q. let k = num-find P n q in
                 by-bool (pairIs t s (k .0))
@@ -263,7 +217,7 @@ module _ (p : Pool) (pairs : List ℕ) (P : List Pair) (H : Holds p pairs P) (g 
           let hr : length pairs ≡ 300 = H .room in
           let hl : 1 ≤ p .counter = H .low in
           let nc : nextOf p < counterOf p = nf .0 h in
-          let rm : nextOf p * slotWords + 2 < length pairs = omega arith in
+          let rm : nextOf p * slotWords + slotWords ≤ length pairs = omega arith in
           record {
             room = slot-length pairs n 1 (loOf s t) (hiOf s t) ∙ H .room;
             low = omega arith;
@@ -271,13 +225,13 @@ module _ (p : Pool) (pairs : List ℕ) (P : List Pair) (H : Holds p pairs P) (g 
             slots = λ y i. in-case i
                 (λ e. subst (λ (z : Pair). Slot (slot pairs n 1 (loOf s t) (hiOf s t)) z) (sym e) (record {
                   open1 = slot-open pairs n 1 (loOf s t) (hiOf s t) rm;
-                  lower = slot-lo pairs n 1 (loOf s t) (hiOf s t) rm;
-                  higher = slot-hi pairs n 1 (loOf s t) (hiOf s t) rm;
+                  lower = slot-lower pairs n 1 (loOf s t) (hiOf s t) rm;
+                  higher = slot-higher pairs n 1 (loOf s t) (hiOf s t) rm;
                 }))
                 (λ k. slot-kept pairs n 1 (loOf s t) (hiOf s t) y (λ z. clash (in-num y P k) (rw z (nf .2))) (H .slots y k));
             free = λ m k. by-eq m (nextOf p)
                 (λ e. clash (or-true-left _ (same-eq e)) k)
-                (λ e. slot-away pairs n 1 (loOf s t) (hiOf s t) (m * slotWords) (λ z. e (omega arith)) (λ z. omega arith) (λ z. omega arith)
+                (λ e. slot-beside pairs n 1 (loOf s t) (hiOf s t) m (m * slotWords) e (omega arith) (omega arith)
                 ∙ H .free m (rw (same-ne m (nextOf p) e) at k));
             below = λ m k. or-elim (sameNumber m (nextOf p)) (numIn m P) k
                 (λ q. let e : m ≡ nextOf p = eq-of-same m (nextOf p) q in (omega (arith, nf .1), omega arith))

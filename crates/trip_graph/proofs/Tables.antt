@@ -6,14 +6,13 @@ use mathlib.Core.Bool.{true}
 use Prim.Native.Nat.{ℕ, zero, suc, _+_, _-_, _*_, _^_, _%_, _≤_, _<_}
 use native.Mathlib.Omega.{arith}
 use lib.ListN.{length, getD, replicate, length-map, length-replicate}
-use lib.Seq.{getD-append-add, getD-set-same, getD-set-other}
+use lib.Seq.{getD-append-add}
 use Rattle.feature.specs.Kinds.{inRange}
 use Rattle.feature.specs.Bonds.{codeOf, kindOf, sureKind}
 use Rattle.feature.specs.declared.atom_kind.AtomKind.{AtomKind}
 use Rattle.feature.specs.declared.atom_kind.AtomKind.the-variants.{Star}
 use Rattle.feature.specs.declared.bond_kind.BondKind.{BondKind}
 use Rattle.feature.specs.declared.bond_kind.BondKind.the-variants.{Elided}
-use Rattle.feature.proofs.Cases.{by-eq}
 use Rattle.feature.proofs.Bonds.{sure-code}
 use Rattle.packing.specs.declared.Loaded.{Loaded}
 use Rattle.packing.specs.declared.Loaded.the-variants as loaded
@@ -21,7 +20,7 @@ use Rattle.packing.specs.Words as words
 use Rattle.packing.proofs.Laws.{load-words, only}
 use Rattle.builder.specs.Limits.{atomLimit}
 use Rattle.builder.specs.Build as build
-use Rattle.builder.proofs.Degrees.{entry-starts-length}
+use Rattle.builder.proofs.Degrees.{entry-starts-at}
 use Rattle.builder_meaning.specs.Sketch.{To, Edge, Node, edge, node, countOf, atomTable, targetOf, edgeTable, bondTable, padded}
 use Rattle.walk_entry.specs.Graph.{BondEntry, Graph, kindAt, degreeAt, bondOf, entryTo, entryAt, kindOr, kindIn, degreeIn, bondIn}
 use Rattle.write.specs.Write.{zeros, graphOf}
@@ -107,15 +106,6 @@ bond-table (n ∷ ns) z (suc v) i h k =
     let b : (length (n .edges) + before ns v + i) * 2 + 1 ≡ length (edgeTable (n .edges)) + ((before ns v + i) * 2 + 1) = omega (arith, edge-length (n .edges)) in
     (ap₂ (λ (l : List ℕ) (j : ℕ). getD l j 0) s a ∙ getD-append-add (edgeTable (n .edges)) (bondTable ns ++ z) ((before ns v + i) * 2) 0 ∙ r .0, ap₂ (λ (l : List ℕ) (j : ℕ). getD l j 0) s b ∙ getD-append-add (edgeTable (n .edges)) (bondTable ns ++ z) ((before ns v + i) * 2 + 1) 0 ∙ r .1)
 
--- where the entries of an atom start
-starts-are : (n : ℕ) (t c : List ℕ) (v : ℕ) → n ≤ length c → v < n → getD (build.entryStarts n t c) v 0 ≡ build.sumOf v t
-unfolding build.entryStarts
-starts-are zero t c v h k = absurd (omega arith)
-starts-are (suc n) t c v h k =
-    by-eq v n
-    (λ e. rw e (getD-set-same (build.entryStarts n t c) n (build.sumOf n t) 0 (omega (arith, entry-starts-length n t c))))
-    (λ e. getD-set-other (build.entryStarts n t c) n v (build.sumOf n t) 0 e ∙ starts-are n t c v (omega arith) (omega arith))
-
 sum-is : (ns : List Node) (z : List ℕ) (v : ℕ) → v ≤ length ns → countOf ns < 2 ^ 32 → build.sumOf v (atomTable ns ++ z) ≡ before ns v
 unfolding build.sumOf
 sum-is ns z zero h k = go ns
@@ -198,7 +188,7 @@ module _ (g : Graph) (p : Numbers) (N : Numbering g p) (T : (a : ℕ) → a < g 
       let e : getD (getD (renumbered g p) v noNode .edges) i noEdge ≡ edgeOf (p .number) x =
       ap (λ (y : List Edge). getD y i noEdge) (edges-at v q) ∙ at-map (edgeOf (p .number)) es i (entryTo Elided 0) noEdge le in
       let s : getD (h .first) v 0 ≡ before (renumbered g p) v =
-      starts-are (g .size) (padded la (atomTable (renumbered g p))) (zeros atomLimit) v (rw (length-replicate {A = ℕ} atomLimit 0) limit) q
+      entry-starts-at (g .size) v (padded la (atomTable (renumbered g p))) (zeros atomLimit) q (rw (length-replicate {A = ℕ} atomLimit 0) (omega (arith, limit, q)))
       ∙ sum-is (renumbered g p) (replicate (la - length (atomTable (renumbered g p))) 0) v (omega (arith, in-nodes v q)) (omega arith) in
       ap (λ (y : ℕ). entryAt (padded lb (bondTable (renumbered g p))) ((y + i) * 2)) s
       ∙ ap₂ (λ (y z : ℕ). entryTo (sureKind (kindOf y)) z) (r .0 ∙ ap (λ (y : Edge). codeOf (y .kind)) e) (r .1 ∙ ap (λ (y : Edge). targetOf (y .target)) e)

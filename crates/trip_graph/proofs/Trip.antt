@@ -8,7 +8,6 @@ use Prim.Native.Nat.{ℕ, zero, suc, _-_, _≤_, _<_}
 use native.Mathlib.Omega.{arith}
 use lib.ListN.{length, getD, replicate, length-append, length-map, length-replicate, List·getD-append}
 use lib.Seq.{getD-append-seam}
-use borrow.Author.Tests.{eq-eqb}
 use Rattle.feature.proofs.Cases.{by-eq, clash}
 use Rattle.join_pool.specs.declared.Pool.{Pool}
 use Rattle.writer.specs.Line.{Event, Root, Extend, Join, Pop}
@@ -21,7 +20,7 @@ use Rattle.walk_laws.proofs.Moves.{turn-moves}
 use Rattle.walk_laws.proofs.Sums.{zeros-at}
 use Rattle.walk_laws.proofs.Sound.{Sound, sound-start, step-sound}
 use Rattle.walk_laws.proofs.Ended as walk-laws
-use Rattle.walk.proofs.Going.{walk-off}
+use Rattle.walk.proofs.Going.{walk-off, step-on}
 use Rattle.trip_graph.specs.Opened.{Pair, look, joinIn, Serves, dnil, RingsHaveText}
 use Rattle.trip_graph.specs.Renumber.{Simple, Known, Backed, Numbering}
 use Rattle.trip_graph.specs.Steps.{Built}
@@ -52,10 +51,6 @@ pub data Walked (H : Pool → List ℕ → List Pair → Type 0) (g : Graph) (b 
   stopped : walkTo g t w .at .refusal ≢ 0 → Walked H g b t w
 
 module _ (H : Pool → List ℕ → List Pair → Type 0) (Q : Serves H) (g : Graph) (W : Simple g) (T : (a : ℕ) → a < g .size → Tetrahedral (kindAt g a)) where
-  step-is : (w : Walk) → w .at .refusal ≡ 0 → stepOf g w ≡ turnOf g w
-  unfolding stepOf
-  step-is w h = rw (eq-eqb (w .at .refusal) 0 h)
-
   -- one turn, then the others
   then-walked : (t : ℕ) (w : Walk) (b : Sketch) (x : Turn) → stepOf g w ≡ x → RingsHaveText (x .said) → Walked H g (runS b (retold (x .said))) t (x .after) → Walked H g b (suc t) w
   unfolding walkTo eventsOf
@@ -80,7 +75,7 @@ module _ (H : Pool → List ℕ → List Pair → Type 0) (Q : Serves H) (g : Gr
   turns-walked zero w b dep s I = follows I tt
   turns-walked (suc t) w b dep s I =
       let m = turn-moves g w dep in
-      next-walked t w b (m .0) (step-sound s (m .1)) (step-is w (I .fine)) (turns-walked t) (one-turn H Q g W T w b dep s I)
+      next-walked t w b (m .0) (step-sound s (m .1)) (step-on g w (I .fine)) (turns-walked t) (one-turn H Q g W T w b dep s I)
 
 -- ---- the beginning
 module _ (H : Pool → List ℕ → List Pair → Type 0) (Q : Serves H) (g : Graph) (lm lw lb lt : ℕ) (wide : g .size ≤ lw) where

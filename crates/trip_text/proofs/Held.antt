@@ -1,5 +1,5 @@
 -- The pieces that a writer holds, with the events that each is read as: kept by every event that the writer takes. Assumes nothing.
-use Prim.Native.Nat.{ℕ, zero, suc, _+_, _-_, _≤_, _<_, max}
+use Prim.Native.Nat.{ℕ, zero, suc, _+_, _-_, _≤_, max}
 use mathlib.Core.Path.{_≡_, refl, _∙_, ap}
 use mathlib.Core.List.{List, [], _∷_, _++_, append-assoc, append-nil}
 use mathlib.Core.Bool.{true}
@@ -13,7 +13,8 @@ use Rattle.spell.specs.Spell.{atomText, bondText, rnumText}
 use Rattle.survive.specs.Survive.{survives}
 use Rattle.read_line.specs.declared.lead.Lead.the-variants.{Dot}
 use Rattle.read_line.specs.Events as reader
-use Rattle.writer.specs.Line.{Event, Root, Extend, Join, Pop, lineOf, dotText, addPiece, onLast, wrapped, popPieces, writeEvent, writeEvents}
+use Rattle.writer.specs.Line.{Event, Root, Extend, Join, Pop, lineOf, dotText, onLast, wrapped, popPieces, writeEvent, writeEvents}
+use Rattle.writer.proofs.Pieces.{piece-added}
 use Rattle.walk_laws.specs.Trek.{AllAccepted}
 use Rattle.trip_text.specs.Steps.{retoldOne, retold, greatest, deepened, depthsOne, depths, Sayable, Spellable}
 use Rattle.trip_text.proofs.Passes.{passes}
@@ -87,11 +88,6 @@ part zero {d = d} c (more {d = x} h a b) g =
 part (suc e) {d = d} c (more {d = x} h a b) g = part-more (part e {d = d} (suc x) h (omega arith)) a
 
 -- ---- one event
--- a piece more, where there is room
-pub added : (most : ℕ) (text : List ℕ) (ps : List (List ℕ)) → length ps < most → addPiece most text ps ≡ text ∷ ps
-unfolding addPiece
-added most text ps g = rw (lt-leb most (length ps) g)
-
 root-dot : (n : ℕ) → dotText (suc n) ≡ bytes "."
 unfolding dotText
 root-dot n = rw (ne-eqb (suc n) 0 (λ e. omega arith))
@@ -125,11 +121,11 @@ pub held-all : (most : ℕ) (es : List Event) {ps : List (List ℕ)} {D : List r
 unfolding writeEvents writeEvent retold retoldOne depths depthsOne
 held-all most [] d h t s a = record { since = d; held = rw append-nil h }
 held-all most (Root k ∷ es) {ps} d h t s a =
-    let e = added most (dotText (length ps) ++ atomText k) ps (a .0) in
+    let e = piece-added most (dotText (length ps) ++ atomText k) ps (a .0) in
     rw e (rw append-assoc at (held-all most es 1 (held-root k (passes k (s .0)) h) t (s .1) (rw e at (a .1))))
 held-all most (Extend b k ∷ es) {ps} zero h t s a = absurd (omega arith)
 held-all most (Extend b k ∷ es) {ps} (suc d) h t s a =
-    let e = added most (bondText b ++ atomText k) ps (a .0) in
+    let e = piece-added most (bondText b ++ atomText k) ps (a .0) in
     let n : suc d + 1 ≡ suc (suc d) = omega arith in
     rw e
     (rw append-assoc at

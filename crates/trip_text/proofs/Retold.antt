@@ -15,13 +15,14 @@ use Rattle.builder.specs.Limits.{branchLimit}
 use Rattle.read_line.specs.Events as reader
 use Rattle.read_line.specs.Parse.{bodies, endP, parse}
 use Rattle.writer.specs.Line.{Event, Root, Extend, Join, Pop, lineOf, dotText, addPiece, writeEvent, writeEvents}
+use Rattle.writer.proofs.Pieces.{piece-added}
 use Rattle.walk_laws.specs.Trek.{AllAccepted}
 use Rattle.trip_text.specs.Steps.{SaysWithin, all, cut, retoldOne, retold, depthsOne, depths, depth, Sayable, Spellable}
 use Rattle.trip_text.proofs.Passes.{passes}
 use Rattle.trip_text.proofs.Stands.{Stands, whole, after}
 use Rattle.trip_text.proofs.Bodies.{end-read}
 use Rattle.trip_text.proofs.Sense.{Then, goes, stops, then-same, then-app, start, Sense, sense-start, met, base, Fuelled}
-use Rattle.trip_text.proofs.Held.{begun, added, held-all, held-line}
+use Rattle.trip_text.proofs.Held.{begun, held-all, held-line}
 use Rattle.read_line.specs.Steps.{unplaced, placeless}
 use Rattle.read_line.specs.Events.{hasNest}
 
@@ -52,7 +53,7 @@ pub retold-line : (most : ℕ) (es : List Event) → 0 < length es → Sayable 0
 unfolding writeEvents writeEvent retold retoldOne dotText depth depths depthsOne
 retold-line most [] l t s a = absurd (omega arith)
 retold-line most (Root k ∷ es) l t s a =
-    let e : addPiece most (atomText k) [] ≡ atomText k ∷ [] = added most (atomText k) [] (a .0) in
+    let e : addPiece most (atomText k) [] ≡ atomText k ∷ [] = piece-added most (atomText k) [] (a .0) in
     let h = held-all most es 1 (begun (sense-start k (passes k (s .0)))) t (s .1) (rw e at (a .1)) in
     rw e (said _ _ (held-line (h .held) .sense))
 retold-line most (Extend b k ∷ es) l t s a = absurd (omega arith)

@@ -10,7 +10,7 @@ use Rattle.writer.specs.Tables.{Spoken, spoken, writer, sayAll}
 use Rattle.walk_entry.specs.Graph.{Graph}
 use Rattle.walk.specs.declared.walker.Walker.{Walker}
 use Rattle.join_pool.specs.declared.Pool.{Pool}
-use Rattle.walk.specs.Walk.{Walk, walk, freshWalker, Turn, turnOf, stepOf, walkTo, eventsOf, turnsOf}
+use Rattle.walk.specs.Walk.{Walk, walk, freshWalker, Turn, turnOf, stepOf, walkTo, eventsOf, turnsOf, quiet}
 use Rattle.walk.specs.Steps.{Did, TurnNear, TurnGrows}
 use Rattle.walk.proofs.Moves.{say-append}
 
@@ -26,30 +26,24 @@ pub record Going (g : Graph) (t : ℕ) (w₀ : Walk) (s₀ : Spoken) (n : ℕ) (
   pub len : s .at .len + 50 * n ≤ 50 * t
 
 -- ---- one step of a walk that was not refused, and of one that was
-step-on : (g : Graph) (w : Walk) → w .at .refusal ≡ 0 → stepOf g w ≡ turnOf g w
+pub step-on : (g : Graph) (w : Walk) → w .at .refusal ≡ 0 → stepOf g w ≡ turnOf g w
 unfolding stepOf
 step-on g w e = simp (eq-eqb _ _ e)
 
-step-off : (g : Graph) (w : Walk) → w .at .refusal ≢ 0 → stepOf g w .after ≡ w
+step-off : (g : Graph) (w : Walk) → w .at .refusal ≢ 0 → stepOf g w ≡ quiet w
 unfolding stepOf
 step-off g w e = simp (ne-eqb _ _ e)
 
-quiet-off : (g : Graph) (w : Walk) → w .at .refusal ≢ 0 → stepOf g w .said ≡ []
-unfolding stepOf
-quiet-off g w e = simp (ne-eqb _ _ e)
-
+-- which stays as it is and says nothing
 pub walk-off : (g : Graph) (n : ℕ) (w : Walk) → w .at .refusal ≢ 0 → walkTo g n w ≡ w
 unfolding walkTo
 walk-off g zero w e = refl
-walk-off g (suc n) w e = ap (λ (v : Walk). walkTo g n v) (step-off g w e) ∙ walk-off g n w e
+walk-off g (suc n) w e = ap (λ (x : Turn). walkTo g n (x .after)) (step-off g w e) ∙ walk-off g n w e
 
-say-off : (g : Graph) (n : ℕ) (w : Walk) → w .at .refusal ≢ 0 → eventsOf g n w ≡ []
+pub say-off : (g : Graph) (n : ℕ) (w : Walk) → w .at .refusal ≢ 0 → eventsOf g n w ≡ []
 unfolding eventsOf
 say-off g zero w e = refl
-say-off g (suc n) w e =
-    ap (λ (es : List Event). es ++ eventsOf g n (stepOf g w .after)) (quiet-off g w e)
-    ∙ ap (λ (v : Walk). eventsOf g n v) (step-off g w e)
-    ∙ say-off g n w e
+say-off g (suc n) w e = ap (λ (x : Turn). x .said ++ eventsOf g n (x .after)) (step-off g w e) ∙ say-off g n w e
 
 -- ---- a turn more
 module _ (g : Graph) (w v : Walk) (s r : Spoken) (sound : w .at .refusal ≡ 0) (did : Did (turnOf g w) v s r) where

@@ -17,6 +17,7 @@ use Rattle.walk_laws.proofs.Moves.{Move, still, skip, root, ends, leave
 use Rattle.walk_laws.proofs.Sums.{unmet, unmet-set, unmet-none, unmet-all, entriesLeft, left-all}
 use Rattle.walk_laws.proofs.Sound.{Sound, up-some, sound-start, step-sound}
 use Rattle.walk_laws.proofs.Fits.{left-less}
+use Rattle.walk.proofs.Going.{walk-off}
 
 -- what is left to do: roots to try, entries to take, atoms to meet, and d atoms on the way up to leave
 toDo : Graph → Walk → ℕ → ℕ
@@ -35,10 +36,6 @@ done-stays g w r h =
     (λ q. by-test (λ (x : Turn). x .after ≡ w) (w .at .standing) (λ z. absurd (false≢true (sym r ∙ z)))
     (λ z. by-test (λ (x : Turn). x .after ≡ w) (leb (g .size) (w .at .next)) (λ y. refl) (λ y. absurd (false≢true (sym y ∙ le-leb _ _ h)))))
     (λ q. refl)
-
-refused-stays : (g : Graph) (w : Walk) → eqb (w .at .refusal) 0 ≡ false → stepOf g w .after ≡ w
-unfolding stepOf
-refused-stays g w q = simp q
 
 -- where no atom stands and no root is left to try, every atom was met
 module _ {g : Graph} {w : Walk} {d : ℕ} (s : Sound g w d) where
@@ -84,7 +81,7 @@ turns-end g zero w d s h = λ e. nothing-left s h
 turns-end g (suc t) w d s h =
     by-test (λ (x : Turn). walkTo g t (x .after) .at .refusal ≡ 0 → Finished g (walkTo g t (x .after))) (eqb (w .at .refusal) 0)
     (λ q. one-less s t h (turns-end g t) (turn-moves g w d .1))
-    (λ q e. absurd (eqb-false _ _ q (ap (λ (v : Walk). v .at .refusal) (sym (stays g t w (refused-stays g w q))) ∙ e)))
+    (λ q e. absurd (eqb-false _ _ q (ap (λ (v : Walk). v .at .refusal) (sym (walk-off g t w (eqb-false _ _ q))) ∙ e)))
 
 start-to-do : (g : Graph) (lm lw lb lt : ℕ) (pairs : List ℕ) (m : ℕ) → degrees g (g .size) ≤ m → toDo g (fresh lm lw lb lt pairs) 0 ≤ turnsOf (g .size) m
 unfolding toDo turnsOf

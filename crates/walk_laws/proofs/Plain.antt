@@ -34,6 +34,7 @@ use Rattle.walk_laws.proofs.Moves.{EntersBy, way-back}
 use Rattle.walk_laws.proofs.Sums.{unmet, unmet-set, unmet-all, zeros-at}
 use Rattle.walk_laws.proofs.Ended.{ended}
 use Rattle.walk_laws.proofs.Longer.{least-exact}
+use Rattle.walk.proofs.Going.{walk-off, say-off}
 
 -- ---- numbers in walk order
 number-old : (i : ℕ) (l : List ℕ) (t a : ℕ) → a ≢ t → numberFrom i (l ++ (t ∷ [])) a ≡ numberFrom i l a
@@ -523,21 +524,6 @@ module _ (g : Graph) where
       (λ q. absurd (false≢true (sym q ∙ h .stands .0)))
 
   -- ---- turns
-  -- a refused walk stays as it is and says nothing
-  refused-step : (w : Walk) → w .at .refusal ≢ 0 → stepOf g w ≡ quiet w
-  unfolding stepOf
-  refused-step w nz = simp (ne-eqb (w .at .refusal) 0 nz)
-
-  refused-stays : (n : ℕ) (w : Walk) → w .at .refusal ≢ 0 → walkTo g n w ≡ w
-  unfolding walkTo
-  refused-stays zero w nz = refl
-  refused-stays (suc n) w nz = ap (λ (x : Turn). walkTo g n (x .after)) (refused-step w nz) ∙ refused-stays n w nz
-
-  refused-quiet : (n : ℕ) (w : Walk) → w .at .refusal ≢ 0 → eventsOf g n w ≡ []
-  unfolding eventsOf
-  refused-quiet zero w nz = refl
-  refused-quiet (suc n) w nz = ap (λ (x : Turn). x .said ++ eventsOf g n (x .after)) (refused-step w nz) ∙ refused-quiet n w nz
-
   -- a state where the turns end
   done-one : (w : Walk) (fs : List Frame) (s : Trail) → Shows w fs s → Finished g w → OneWalk (whole (w .at .next) fs (Goes s)) w (s .said ++ [])
   unfolding whole climb andThen rootsFrom
@@ -558,9 +544,9 @@ module _ (g : Graph) where
         rw a (subst (λ (y : Outcome). OneWalk y (walkTo g n (x .after)) (z .said ++ eventsOf g n (x .after))) q r)
     one-more s x p (off r a b nz er ea eb es tb q) d =
         let ne : x .after .at .refusal ≢ 0 = λ e. nz (sym er ∙ e) in
-        let st : walkTo g n (x .after) ≡ x .after = refused-stays n (x .after) ne in
+        let st : walkTo g n (x .after) ≡ x .after = walk-off g n (x .after) ne in
         let si : s .said ++ (x .said ++ eventsOf g n (x .after)) ≡ s .said =
-        ap₂ (λ (k l : List Event). s .said ++ (k ++ l)) es (refused-quiet n (x .after) ne) ∙ append-nil (s .said) in
+        ap₂ (λ (k l : List Event). s .said ++ (k ++ l)) es (say-off g n (x .after) ne) ∙ append-nil (s .said) in
         let one : OneWalk (Refused r a b s) (x .after) (s .said) =
         record { said = refl; refusal = er; first = ea; second = eb; numbered = nz; tables = tb } in
         rw (q, st, si) one

@@ -9,8 +9,8 @@ use borrow.Author.Tests.{lt-leb, eqb-true, eqb-false}
 use Rattle.feature.specs.declared.atom_kind.AtomKind.{AtomKind}
 use Rattle.feature.specs.declared.bond_kind.BondKind.{BondKind}
 use Rattle.spell.specs.Spell.{atomText, bondText, rnumText}
-use Rattle.writer.specs.Line.{Event, Root, Extend, Join, Pop, lineOf, dotText, addPiece, onLast, wrapped, popPieces, writeEvent, writeEvents}
-use Rattle.writer.proofs.Pieces.{length-onLast, line-onLast, line-split, long-wrapped}
+use Rattle.writer.specs.Line.{Event, Root, Extend, Join, Pop, lineOf, dotText, onLast, wrapped, popPieces, writeEvent, writeEvents}
+use Rattle.writer.proofs.Pieces.{length-onLast, line-onLast, line-split, long-wrapped, piece-added}
 use Rattle.spell.proofs.Lengths.{atom-short, bond-short, rnum-short}
 use Rattle.writer.proofs.Lengths.{dot-short}
 use Rattle.walk.specs.Walk.{popsOf, popsThen}
@@ -44,10 +44,6 @@ leaves-then {most} {xs} {ys} {ps} h k =
 
 -- ---- one event
 module _ (most : ℕ) (ps : List (List ℕ)) where
-  piece-more : (text : List ℕ) → length ps < most → addPiece most text ps ≡ text ∷ ps
-  unfolding addPiece
-  piece-more text h = simp (lt-leb most (length ps) h)
-
   line-more : (text : List ℕ) → length (lineOf (text ∷ ps)) ≡ length (lineOf ps) + length text
   unfolding lineOf
   line-more text = length-append (lineOf ps) text
@@ -58,8 +54,8 @@ module _ (most : ℕ) (ps : List (List ℕ)) where
       let text : List ℕ = dotText (length ps) ++ atomText k in
       record {
         accepted = (h, tt);
-        pieces = rw (piece-more text h) (omega arith);
-        line = rw (piece-more text h) (omega (arith, line-more text, length-append (dotText (length ps)) (atomText k), dot-short (length ps), atom-short k));
+        pieces = rw (piece-added most text ps h) (omega arith);
+        line = rw (piece-added most text ps h) (omega (arith, line-more text, length-append (dotText (length ps)) (atomText k), dot-short (length ps), atom-short k));
       }
 
   leaves-extend : (b : BondKind) (k : AtomKind) → length ps < most → Leaves most (Extend b k ∷ []) ps (length ps + 1) (length (lineOf ps) + 22)
@@ -68,8 +64,8 @@ module _ (most : ℕ) (ps : List (List ℕ)) where
       let text : List ℕ = bondText b ++ atomText k in
       record {
         accepted = (h, tt);
-        pieces = rw (piece-more text h) (omega arith);
-        line = rw (piece-more text h) (omega (arith, line-more text, length-append (bondText b) (atomText k), bond-short b, atom-short k));
+        pieces = rw (piece-added most text ps h) (omega arith);
+        line = rw (piece-added most text ps h) (omega (arith, line-more text, length-append (bondText b) (atomText k), bond-short b, atom-short k));
       }
 
   leaves-join : (b : BondKind) (n : ℕ) → 0 < length ps → Leaves most (Join b n ∷ []) ps (length ps) (length (lineOf ps) + 4)

@@ -8,7 +8,7 @@ use native.Mathlib.Omega.{arith}
 use lib.ListN.{length, take, drop, getD, set, length-append, length-drop, length-set, List·getD-append}
 use lib.Seq.{sets, length-sets, take-take, take-suc-set, take-at, take-nil, getD-take, getD-at}
 use lib.Dec.{leb, eqb}
-use borrow.Author.Tests.{eq-eqb, ne-eqb, leb-false}
+use borrow.Author.Tests.{eq-eqb, ne-eqb, leb-false, lt-leb}
 use Rattle.feature.specs.Pick.{pick}
 use Rattle.feature.specs.Text.{byte, bytes}
 use Rattle.feature.proofs.Lists.{sets-append, sets-nil, sets-cons}
@@ -117,6 +117,11 @@ wrap-line o L M at n e f =
     ∙ sym (sets-append o 0 L (wrapped M))
 
 -- ---- one event
+-- a piece more, where there is room
+pub piece-added : (most : ℕ) (text : List ℕ) (ps : List (List ℕ)) → length ps < most → addPiece most text ps ≡ text ∷ ps
+unfolding addPiece
+piece-added most text ps h = simp (lt-leb most (length ps) h)
+
 -- there is no room for more pieces than starts
 pub room-held : (starts : List ℕ) → pieceRoom starts ≤ length starts
 unfolding pieceRoom
