@@ -9,7 +9,7 @@ use native.Mathlib.Omega.{arith}
 use lib.ListN.{getD}
 use lib.Dec.{ltb, leb, eqb}
 use borrow.Author.Tests.{ltb-true}
-use Rattle.feature.specs.Pick.{pick}
+use Rattle.feature.specs.Pick.{pick, both}
 use Rattle.feature.specs.Kinds.{inRange, invertOf}
 use Rattle.feature.specs.Bonds.{reconcileOf}
 use Rattle.feature.specs.declared.atom_kind.AtomKind.{AtomKind}
@@ -18,12 +18,11 @@ use Rattle.feature.specs.declared.atom_kind.Inverted.the-variants.{Turned, Refu
 use Rattle.feature.specs.declared.bond_kind.BondKind.{BondKind}
 use Rattle.feature.specs.declared.bond_kind.Reconciled.{Reconciled}
 use Rattle.feature.specs.declared.bond_kind.Reconciled.the-variants.{Both, Fails}
-use Rattle.feature.proofs.Cases.{by-test}
+use Rattle.feature.proofs.Cases.{by-test, both-first}
 use Rattle.builder.specs.Rings.{ringNumberCount}
 use Rattle.builder.specs.State.{Bld, refuse, entered, rootOf, bonded, extendedBy, extendOf, openedOf, openingKind, failedSt, closedBy, joinOf, popOf}
 use Rattle.builder.specs.declared.builder.Builder.{Builder}
-use Rattle.desk_state.specs.Standing.{also, isState}
-use Rattle.desk_state.proofs.Counts.{first}
+use Rattle.desk_state.specs.Standing.{isState}
 use Rattle.desk_state.proofs.Kept.{Holds, holds, stands, refuse-holds, root-holds, extend-holds, join-holds, pop-holds}
 use Rattle.desk_numbers.specs.Numbers.{badTable}
 use Rattle.desk_builder.specs.Events.{anew, judged, startD, rootD, extendD, joinD, popD}
@@ -37,8 +36,8 @@ judged-stands : (ok : Bool) (b done : Bld) → isState b ≡ true → (ok ≡ tr
 unfolding judged anew
 judged-stands ok b done is go =
     let h = holds b is in
-    stands (pick (also ok (isState b)) done (refuse b badTable 0))
-    (by-test Holds (also ok (isState b)) (λ e. go (first ok (isState b) e) (refuse-holds b h 0 0)) (λ e. refuse-holds b h badTable 0))
+    stands (pick (both ok (isState b)) done (refuse b badTable 0))
+    (by-test Holds (both ok (isState b)) (λ e. go (both-first ok (isState b) e) (refuse-holds b h 0 0)) (λ e. refuse-holds b h badTable 0))
 
 pub root-stands : (b : Bld) (k : AtomKind) → isState b ≡ true → isState (rootD b k) ≡ true
 unfolding rootD
@@ -143,7 +142,7 @@ build-never-bad a e p r cs bonds accepted room =
 judged-bad : (ok : Bool) (b done : Bld) → isState b ≡ false → judged ok b done .st .refusal ≡ badTable
 unfolding judged refuse
 judged-bad ok b done none = rw none (go ok) where
-  go : (q : Bool) → pick (also q false) done (refuse b badTable 0) .st .refusal ≡ badTable
+  go : (q : Bool) → pick (both q false) done (refuse b badTable 0) .st .refusal ≡ badTable
   go true = refl
   go false = refl
 

@@ -12,7 +12,7 @@ use lib.ListN.{length, getD, take, drop, replicate, length-append, length-drop, 
 use lib.Seq.{length-take-le}
 use lib.Dec.{eqb, ltb}
 use borrow.Author.Tests.{leb-true, ltb-true, ltb-false}
-use Rattle.feature.specs.Pick.{pick}
+use Rattle.feature.specs.Pick.{pick, both}
 use Rattle.feature.specs.Bonds.{codeOf, reverseOf}
 use Rattle.packing.specs.Words.{atomWords, bondWords}
 use Rattle.builder.specs.Limits.{atomLimit}
@@ -22,10 +22,11 @@ use Rattle.builder.specs.Steps.{Sources, BuildReady}
 use Rattle.builder.proofs.Laws.{built-failed, built-done, built-open}
 use Rattle.feature.specs.Every.{every}
 use Rattle.packing.specs.Words.{isAtom}
-use Rattle.desk_state.specs.Standing.{also, sourceAt, entryKindAt, targetAt, isBuilderEntry, isEntryTo, bondsCounted, isPaired, countsStand, isState}
+use Rattle.desk_state.specs.Standing.{sourceAt, entryKindAt, targetAt, isBuilderEntry, isEntryTo, bondsCounted, isPaired, countsStand, isState}
 use Rattle.desk_builder.specs.Build.{BuildLeft, answerLeaves, builtAnswered, leftOf, trimmed, roomy, buildD, heldOf, EntriesBothEnds, stateGraph}
-use Rattle.desk_state.proofs.Counts.{Counts, first, second, counts}
+use Rattle.desk_state.proofs.Counts.{Counts, counts}
 use Rattle.feature.proofs.Every.{every-at}
+use Rattle.feature.proofs.Cases.{both-first, both-second}
 use Rattle.desk_state.proofs.Ends.{both-ends, even-ends}
 
 -- ---- entries after the first
@@ -46,12 +47,12 @@ module _ (s k t : ℕ) (es : List ℕ) (i : ℕ) where
   next-bond : (a x y : ℕ) → isEntryTo (s ∷ k ∷ t ∷ es) a x y (suc i) ≡ isEntryTo es a x y i
   unfolding isEntryTo
   next-bond a x y =
-      ap (λ (n : ℕ). also (eqb n a) (also (eqb (entryKindAt (s ∷ k ∷ t ∷ es) (suc i)) x) (eqb (targetAt (s ∷ k ∷ t ∷ es) (suc i)) y))) next-source
-      ∙ ap (λ (n : ℕ). also (eqb (sourceAt es i) a) (also (eqb n x) (eqb (targetAt (s ∷ k ∷ t ∷ es) (suc i)) y))) next-kind
-      ∙ ap (λ (n : ℕ). also (eqb (sourceAt es i) a) (also (eqb (entryKindAt es i) x) (eqb n y))) next-target
+      ap (λ (n : ℕ). both (eqb n a) (both (eqb (entryKindAt (s ∷ k ∷ t ∷ es) (suc i)) x) (eqb (targetAt (s ∷ k ∷ t ∷ es) (suc i)) y))) next-source
+      ∙ ap (λ (n : ℕ). both (eqb (sourceAt es i) a) (both (eqb n x) (eqb (targetAt (s ∷ k ∷ t ∷ es) (suc i)) y))) next-kind
+      ∙ ap (λ (n : ℕ). both (eqb (sourceAt es i) a) (both (eqb (entryKindAt es i) x) (eqb n y))) next-target
 
 -- the first entry counted, then those after it
-counted-first : (a x y s k t : ℕ) (es : List ℕ) (m : ℕ) → bondsCounted (s ∷ k ∷ t ∷ es) a x y (suc m) ≡ pick (also (eqb s a) (also (eqb k x) (eqb t y))) 1 0 + bondsCounted es a x y m
+counted-first : (a x y s k t : ℕ) (es : List ℕ) (m : ℕ) → bondsCounted (s ∷ k ∷ t ∷ es) a x y (suc m) ≡ pick (both (eqb s a) (both (eqb k x) (eqb t y))) 1 0 + bondsCounted es a x y m
 unfolding bondsCounted isEntryTo
 counted-first a x y s k t es zero = omega arith
 counted-first a x y s k t es (suc m) =
@@ -60,10 +61,10 @@ counted-first a x y s k t es (suc m) =
     omega (arith, ih, one)
 
 -- ---- an atom's bonds
-held-first : (a x y s k t : ℕ) (es : List ℕ) → heldOf x y (of a (s ∷ k ∷ t ∷ es)) ≡ pick (also (eqb s a) (also (eqb k x) (eqb t y))) 1 0 + heldOf x y (of a es)
+held-first : (a x y s k t : ℕ) (es : List ℕ) → heldOf x y (of a (s ∷ k ∷ t ∷ es)) ≡ pick (both (eqb s a) (both (eqb k x) (eqb t y))) 1 0 + heldOf x y (of a es)
 unfolding of heldOf
 held-first a x y s k t es = split (eqb s a) where
-  split : (q : Bool) → heldOf x y (pick q (k ∷ t ∷ of a es) (of a es)) ≡ pick (also q (also (eqb k x) (eqb t y))) 1 0 + heldOf x y (of a es)
+  split : (q : Bool) → heldOf x y (pick q (k ∷ t ∷ of a es) (of a es)) ≡ pick (both q (both (eqb k x) (eqb t y))) 1 0 + heldOf x y (of a es)
   split true = refl
   split false = omega arith
 
@@ -77,7 +78,7 @@ held-is a x y (suc m) (s ∷ k ∷ []) h = absurd (omega arith)
 held-is a x y (suc m) (s ∷ k ∷ t ∷ es) h =
     ap (λ (n : ℕ). heldOf x y (of a (take n (s ∷ k ∷ t ∷ es)))) (three m)
     ∙ held-first a x y s k t (take (m * entryWords) es)
-    ∙ ap (λ (n : ℕ). pick (also (eqb s a) (also (eqb k x) (eqb t y))) 1 0 + n) (held-is a x y m es (omega arith))
+    ∙ ap (λ (n : ℕ). pick (both (eqb s a) (both (eqb k x) (eqb t y))) 1 0 + n) (held-is a x y m es (omega arith))
     ∙ sym (counted-first a x y s k t es m)
 
 -- each entry's source is an atom
@@ -107,20 +108,20 @@ facts : (b : Bld) → isState b ≡ true → Facts b
 unfolding isState
 facts b h =
     let told = countsStand (b .st) (length (b .atoms)) (length (b .entries)) (length (b .path)) (length (b .rings)) in
-    let h1 = second told _ h in
-    let h2 = second (every (isAtom (b .atoms)) (b .st .atoms)) _ h1 in
-    let h3 = second (every (isBuilderEntry (b .st) (b .entries)) (b .st .entries)) _ h2 in
+    let h1 = both-second told _ h in
+    let h2 = both-second (every (isAtom (b .atoms)) (b .st .atoms)) _ h1 in
+    let h3 = both-second (every (isBuilderEntry (b .st) (b .entries)) (b .st .entries)) _ h2 in
     record {
-      counts = counts (b .st) (length (b .atoms)) (length (b .entries)) (length (b .path)) (length (b .rings)) (first told _ h);
-      entries = first (every (isBuilderEntry (b .st) (b .entries)) (b .st .entries)) _ h2;
-      pairs = first (every (isPaired (b .entries) (b .st .entries)) (b .st .entries)) _ h3;
+      counts = counts (b .st) (length (b .atoms)) (length (b .entries)) (length (b .path)) (length (b .rings)) (both-first told _ h);
+      entries = both-first (every (isBuilderEntry (b .st) (b .entries)) (b .st .entries)) _ h2;
+      pairs = both-first (every (isPaired (b .entries) (b .st .entries)) (b .st .entries)) _ h3;
     }
 
 source-at : (b : Bld) → Facts b → (i : ℕ) → i < b .st .entries → sourceAt (b .entries) i < b .st .atoms
 unfolding isBuilderEntry
 source-at b f i l =
     ltb-true (sourceAt (b .entries) i) (b .st .atoms)
-    (first (ltb (sourceAt (b .entries) i) (b .st .atoms)) _ (every-at (isBuilderEntry (b .st) (b .entries)) (b .st .entries) i (f .entries) l))
+    (both-first (ltb (sourceAt (b .entries) i) (b .st .atoms)) _ (every-at (isBuilderEntry (b .st) (b .entries)) (b .st .entries) i (f .entries) l))
 
 -- the entries that a state tells of hold each bond at both ends
 told-ends : (b : Bld) → Facts b → EntriesBothEnds (entriesTold (b .st) (b .entries))

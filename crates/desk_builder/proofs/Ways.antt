@@ -4,13 +4,14 @@ use mathlib.Core.Path.{_≡_, ap, sym, _∙_}
 use mathlib.Core.Bool.{Bool, true, false, not}
 use lib.ListN.{length}
 use borrow.Author.Tests.{not-true, not-false}
+use Rattle.feature.proofs.Cases.{both-first}
 use Rattle.builder.specs.State.{Bld, bld, refusedSt, refuse}
 use Rattle.builder.specs.Steps.{SmallCounts}
 use Rattle.builder.specs.declared.builder.Builder.{Builder}
 use Rattle.desk_numbers.specs.Numbers.{badTable}
 use Rattle.desk_builder.specs.Events.{anew, judged}
 use Rattle.desk_state.specs.Standing.{countsStand, isState}
-use Rattle.desk_state.proofs.Counts.{Counts, first, counts}
+use Rattle.desk_state.proofs.Counts.{Counts, counts}
 use Rattle.desk_state.proofs.Kept.{holds, small}
 
 -- a number handed in stands for nothing
@@ -35,7 +36,7 @@ pub state-counts : (b : Bld) {q : Bool} → q ≡ isState b → not q ≡ false 
 unfolding isState
 state-counts b {q} e holds =
     counts (b .st) (length (b .atoms)) (length (b .entries)) (length (b .path)) (length (b .rings))
-    (first (countsStand (b .st) (length (b .atoms)) (length (b .entries)) (length (b .path)) (length (b .rings))) _ (sym e ∙ not-false q holds))
+    (both-first (countsStand (b .st) (length (b .atoms)) (length (b .entries)) (length (b .path)) (length (b .rings))) _ (sym e ∙ not-false q holds))
 
 -- and so they are whatever the refusal
 pub small-refused : (b : Bld) {q : Bool} (s : Builder) (n c : ℕ) → q ≡ isState b → not q ≡ false → s ≡ refusedSt (b .st) n c → SmallCounts s

@@ -7,7 +7,7 @@ use mathlib.Core.Bool.{Bool, true}
 use lib.ListN.{length}
 use lib.Dec.{ltb}
 use Rattle.desk_numbers.specs.Numbers.{badTable}
-use Rattle.feature.specs.Pick.{pick}
+use Rattle.feature.specs.Pick.{pick, both}
 use Rattle.feature.specs.Kinds.{inRange}
 use Rattle.feature.specs.declared.atom_kind.AtomKind.{AtomKind}
 use Rattle.feature.specs.declared.bond_kind.BondKind.{BondKind}
@@ -15,7 +15,7 @@ use Rattle.builder.specs.Rings.{ringNumberCount}
 use Rattle.builder.specs.State.{Bld, bld, freshBuilder, refuse, refusedSt, rootOf, extendOf, joinOf, popOf}
 use Rattle.builder.specs.declared.builder.Builder.{Builder}
 use Rattle.builder.specs.Build.{zeroed}
-use Rattle.desk_state.specs.Standing.{also, placesIn, entrySlotsIn, isState}
+use Rattle.desk_state.specs.Standing.{placesIn, entrySlotsIn, isState}
 
 -- ---- the start
 -- no event yet, and room for as many atoms and entries as the tables hold, the limits at most
@@ -39,7 +39,7 @@ anew b = refuse b 0 0
 
 -- an event on what is handed in, which is judged first
 unfoldable pub judged : Bool → Bld → Bld → Bld
-judged ok b done = pick (also ok (isState b)) done (refuse b badTable 0)
+judged ok b done = pick (both ok (isState b)) done (refuse b badTable 0)
 
 unfoldable pub rootD : Bld → AtomKind → Bld
 rootD b k = judged (inRange k) b (rootOf (anew b) k (b .st .atoms))

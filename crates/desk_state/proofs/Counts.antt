@@ -1,25 +1,18 @@
 -- What the counts of a state keep to. Assumes nothing.
 use Prim.Native.Nat.{ℕ, _*_, _/_, _≤_}
 use mathlib.Core.Path.{_≡_, refl}
-use mathlib.Core.Bool.{Bool, true, false, false≢true}
+use mathlib.Core.Bool.{Bool, true, false}
 use native.Mathlib.Omega.{arith}
 use lib.Dec.{leb, ltb, eqb}
 use borrow.Author.Tests.{leb-true, ltb-true, ltb-false, eqb-true}
 use Rattle.feature.specs.Pick.{pick}
+use Rattle.feature.proofs.Cases.{both-first, both-second}
 use Rattle.packing.specs.Words.{atomWords}
 use Rattle.builder.specs.Limits.{atomLimit, bondLimit, lesserOf}
 use Rattle.builder.specs.Rings.{ringNumberCount}
 use Rattle.builder.specs.State.{entryWords}
 use Rattle.builder.specs.declared.builder.Builder.{Builder}
-use Rattle.desk_state.specs.Standing.{also, placesIn, entrySlotsIn, countsStand}
-
-pub first : (a b : Bool) → also a b ≡ true → a ≡ true
-first true b h = refl
-first false b h = absurd (false≢true h)
-
-pub second : (a b : Bool) → also a b ≡ true → b ≡ true
-second true b h = h
-second false b h = absurd (false≢true h)
+use Rattle.desk_state.specs.Standing.{placesIn, entrySlotsIn, countsStand}
 
 -- the lesser of two is within both
 pub lesser-most : (limit lent : ℕ) → (lesserOf limit lent ≤ limit) × (lesserOf limit lent ≤ lent)
@@ -44,14 +37,14 @@ pub record Counts (s : Builder) (la le : ℕ) : Type 0 where
 pub counts : (s : Builder) (la le lp lr : ℕ) → countsStand s la le lp lr ≡ true → Counts s la le
 unfolding countsStand
 counts s la le lp lr h1 =
-    let h2 = second (eqb (s .places) (placesIn la)) _ h1 in
-    let h3 = second (eqb (s .slots) (entrySlotsIn le)) _ h2 in
-    let h4 = second (leb (s .places) lp) _ h3 in
-    let h5 = second (leb ringNumberCount lr) _ h4 in
-    let h6 = second (leb (s .atoms) (s .places)) _ h5 in
-    let h7 = second (leb (s .entries) (s .slots)) _ h6 in
-    let p : s .places ≡ placesIn la = eqb-true _ _ (first (eqb (s .places) (placesIn la)) _ h1) in
-    let l : s .slots ≡ entrySlotsIn le = eqb-true _ _ (first (eqb (s .slots) (entrySlotsIn le)) _ h2) in
+    let h2 = both-second (eqb (s .places) (placesIn la)) _ h1 in
+    let h3 = both-second (eqb (s .slots) (entrySlotsIn le)) _ h2 in
+    let h4 = both-second (leb (s .places) lp) _ h3 in
+    let h5 = both-second (leb ringNumberCount lr) _ h4 in
+    let h6 = both-second (leb (s .atoms) (s .places)) _ h5 in
+    let h7 = both-second (leb (s .entries) (s .slots)) _ h6 in
+    let p : s .places ≡ placesIn la = eqb-true _ _ (both-first (eqb (s .places) (placesIn la)) _ h1) in
+    let l : s .slots ≡ entrySlotsIn le = eqb-true _ _ (both-first (eqb (s .slots) (entrySlotsIn le)) _ h2) in
     let mp = lesser-most atomLimit (la / atomWords) in
     let ml = lesser-most bondLimit (le / entryWords) in
     record {
@@ -61,7 +54,7 @@ counts s la le lp lr h1 =
       slots = omega (arith, l, ml .0);
       atom-room = omega (arith, p, mp .1);
       entry-room = omega (arith, l, ml .1);
-      atoms = leb-true _ _ (first (leb (s .atoms) (s .places)) _ h5);
-      entries = leb-true _ _ (first (leb (s .entries) (s .slots)) _ h6);
+      atoms = leb-true _ _ (both-first (leb (s .atoms) (s .places)) _ h5);
+      entries = leb-true _ _ (both-first (leb (s .entries) (s .slots)) _ h6);
       top = leb-true _ _ h7;
     }

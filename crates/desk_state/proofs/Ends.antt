@@ -14,8 +14,8 @@ use Rattle.builder.specs.State.{unclosed}
 use Rattle.feature.specs.Every.{every}
 use Rattle.feature.proofs.Every.{every-at}
 use Rattle.feature.proofs.Bonds.{reverse-twice, kind-back}
+use Rattle.feature.proofs.Cases.{both-first, both-second}
 use Rattle.desk_state.specs.Standing.{sourceAt, entryKindAt, targetAt, isEntryTo, bondsCounted, turnedOf, isOwn, isMatched, isPaired}
-use Rattle.desk_state.proofs.Counts.{first, second}
 
 -- ---- one turn of the count
 pub count-step : (e : List ℕ) (a k t i : ℕ) → bondsCounted e a k t (i + 1) ≡ bondsCounted e a k t i + pick (isEntryTo e a k t i) 1 0
@@ -44,11 +44,11 @@ matched-at e m i h l =
 -- what is matched
 pub matched-same : (own : Bool) (x y : ℕ) → isMatched own x y ≡ true → x ≡ y
 unfolding isMatched
-matched-same own x y h = eqb-true x y (first (eqb x y) _ h)
+matched-same own x y h = eqb-true x y (both-first (eqb x y) _ h)
 
 pub matched-even : (x y : ℕ) → isMatched true x y ≡ true → x % 2 ≡ 0
 unfolding isMatched
-matched-even x y h = eqb-true (x % 2) 0 (second (eqb x y) _ h)
+matched-even x y h = eqb-true (x % 2) 0 (both-second (eqb x y) _ h)
 
 pub to-matched : (own : Bool) (x y : ℕ) → x ≡ y → (own ≡ true → x % 2 ≡ 0) → isMatched own x y ≡ true
 unfolding isMatched
@@ -78,10 +78,10 @@ module _ (e : List ℕ) (m : ℕ) (all : every (isPaired e m) m ≡ true) where
   held a t k h some =
       let f = found e a (codeOf k) t m some in
       let i = f .0 in
-      let s : sourceAt e i ≡ a = eqb-true _ _ (first (eqb (sourceAt e i) a) _ (f .2)) in
-      let rest = second (eqb (sourceAt e i) a) _ (f .2) in
-      let w : entryKindAt e i ≡ codeOf k = eqb-true _ _ (first (eqb (entryKindAt e i) (codeOf k)) _ rest) in
-      let g : targetAt e i ≡ t = eqb-true _ _ (second (eqb (entryKindAt e i) (codeOf k)) _ rest) in
+      let s : sourceAt e i ≡ a = eqb-true _ _ (both-first (eqb (sourceAt e i) a) _ (f .2)) in
+      let rest = both-second (eqb (sourceAt e i) a) _ (f .2) in
+      let w : entryKindAt e i ≡ codeOf k = eqb-true _ _ (both-first (eqb (entryKindAt e i) (codeOf k)) _ rest) in
+      let g : targetAt e i ≡ t = eqb-true _ _ (both-second (eqb (entryKindAt e i) (codeOf k)) _ rest) in
       let p = paired-at e m i (every-at (isPaired e m) m i all (f .1)) (omega (arith, g, h)) in
       let q : bondsCounted e a (codeOf k) t m ≡ bondsCounted e t (turnedOf (kindOf (codeOf k))) a m =
       subst (λ (x : ℕ). bondsCounted e a (codeOf k) x m ≡ bondsCounted e x (turnedOf (kindOf (codeOf k))) a m) g
@@ -112,10 +112,10 @@ module _ (e : List ℕ) (m : ℕ) (all : every (isPaired e m) m ≡ true) where
     go true is =
         let f = found e a (codeOf k) a m (ltb-true _ _ is) in
         let i = f .0 in
-        let s : sourceAt e i ≡ a = eqb-true _ _ (first (eqb (sourceAt e i) a) _ (f .2)) in
-        let rest = second (eqb (sourceAt e i) a) _ (f .2) in
-        let w : entryKindAt e i ≡ codeOf k = eqb-true _ _ (first (eqb (entryKindAt e i) (codeOf k)) _ rest) in
-        let g : targetAt e i ≡ a = eqb-true _ _ (second (eqb (entryKindAt e i) (codeOf k)) _ rest) in
+        let s : sourceAt e i ≡ a = eqb-true _ _ (both-first (eqb (sourceAt e i) a) _ (f .2)) in
+        let rest = both-second (eqb (sourceAt e i) a) _ (f .2) in
+        let w : entryKindAt e i ≡ codeOf k = eqb-true _ _ (both-first (eqb (entryKindAt e i) (codeOf k)) _ rest) in
+        let g : targetAt e i ≡ a = eqb-true _ _ (both-second (eqb (entryKindAt e i) (codeOf k)) _ rest) in
         let own : entryKindAt e i ≡ turnedOf (kindOf (entryKindAt e i)) = w ∙ ap codeOf (sym back) ∙ sym (turned-code k) ∙ ap (λ (x : ℕ). turnedOf (kindOf x)) (sym w) in
         let p = even-at e m i (every-at (isPaired e m) m i all (f .1)) (omega (arith, g, h)) (own-is (sourceAt e i) (entryKindAt e i) (targetAt e i) (s ∙ sym g) own) in
         subst (λ (x : ℕ). bondsCounted e a (codeOf k) x m % 2 ≡ 0) g

@@ -9,26 +9,26 @@ use lib.ListN.{length, getD}
 use lib.Seq.{sets}
 use lib.Dec.{eqb, ltb, leb, lit<}
 use borrow.Author.Tests.{ne-eqb, ltb-true, ltb-false, leb-true, le-leb, lt-leb}
-use Rattle.feature.specs.Pick.{pick}
+use Rattle.feature.specs.Pick.{pick, both}
 use Rattle.feature.specs.Bonds.{codeOf, reverseOf}
 use Rattle.feature.specs.declared.bond_kind.BondKind.{BondKind}
 use Rattle.feature.proofs.Cases.{by-eq}
 use Rattle.feature.proofs.Bonds.{reverse-twice, same-reverse}
 use Rattle.packing.proofs.Laws.{sets-beside, sets-in, sets-first}
 use Rattle.builder.specs.State.{unclosed, entryWords, entryList}
-use Rattle.desk_state.specs.Standing.{also, sourceAt, entryKindAt, targetAt, isEntryTo, bondsCounted, leastOpen}
+use Rattle.desk_state.specs.Standing.{sourceAt, entryKindAt, targetAt, isEntryTo, bondsCounted, leastOpen}
 use Rattle.desk_state.proofs.Ends.{count-step}
 
 -- ---- kinds
 -- ---- what an entry adds to a count
 unfoldable pub hit : ℕ → ℕ → ℕ → ℕ → ℕ → ℕ → ℕ
-hit s c x a k t = pick (also (eqb s a) (also (eqb c k) (eqb x t))) 1 0
+hit s c x a k t = pick (both (eqb s a) (both (eqb c k) (eqb x t))) 1 0
 
 -- seen from its other end
 hit-back : (s : ℕ) (c : BondKind) (x a : ℕ) (k : BondKind) (t : ℕ) → hit s (codeOf c) x a (codeOf k) t ≡ hit x (codeOf (reverseOf c)) s t (codeOf (reverseOf k)) a
 unfolding hit
 hit-back s c x a k t = rw (same-reverse c k) (turn (eqb s a) (eqb (codeOf c) (codeOf k)) (eqb x t)) where
-  turn : (p q r : Bool) → pick {A = ℕ} (also p (also q r)) 1 0 ≡ pick (also r (also q p)) 1 0
+  turn : (p q r : Bool) → pick {A = ℕ} (both p (both q r)) 1 0 ≡ pick (both r (both q p)) 1 0
   turn true true true = refl
   turn true true false = refl
   turn true false true = refl
@@ -42,7 +42,7 @@ hit-back s c x a k t = rw (same-reverse c k) (turn (eqb s a) (eqb (codeOf c) (co
 pub hit-open : (s c x a k t : ℕ) → unclosed ≤ x → t < unclosed → hit s c x a k t ≡ 0
 unfolding hit
 hit-open s c x a k t h l = rw (ne-eqb x t (λ e. omega arith)) (none (eqb s a) (eqb c k)) where
-  none : (p q : Bool) → pick {A = ℕ} (also p (also q false)) 1 0 ≡ 0
+  none : (p q : Bool) → pick {A = ℕ} (both p (both q false)) 1 0 ≡ 0
   none true true = refl
   none true false = refl
   none false q = refl

@@ -8,7 +8,7 @@ use native.Mathlib.Omega.{arith}
 use lib.ListN.{length, getD, set}
 use lib.Dec.{eqb, ltb, leb}
 use borrow.Author.Tests.{eqb-true, eqb-false, eq-eqb, ne-eqb, lt-ltb, le-ltb, ltb-true, ltb-false, leb-true, leb-false, le-leb}
-use Rattle.feature.specs.Pick.{pick, neither}
+use Rattle.feature.specs.Pick.{pick, neither, both}
 use Rattle.feature.specs.Every.{every}
 use Rattle.feature.specs.Kinds.{noConfiguration, noHydrogens, th1, th2, withConfiguration, inRange, invertBracket, invertOf}
 use Rattle.feature.specs.Bonds.{codeOf, kindOf, reverseOf, reconcileOf}
@@ -22,7 +22,7 @@ use Rattle.feature.specs.declared.bond_kind.Coded.{Coded}
 use Rattle.feature.specs.declared.bond_kind.Coded.the-variants as coded
 use Rattle.feature.specs.declared.bond_kind.Reconciled.{Reconciled}
 use Rattle.feature.specs.declared.bond_kind.Reconciled.the-variants.{Both, Fails}
-use Rattle.feature.proofs.Cases.{by-test}
+use Rattle.feature.proofs.Cases.{by-test, both-first, both-second, both-pass}
 use Rattle.feature.proofs.Every.{every-at, every-all}
 use Rattle.feature.proofs.Ranges.{good, ranged}
 use Rattle.feature.proofs.Bonds.{same-code, Reversed, reconciled, kind-back}
@@ -33,16 +33,12 @@ use Rattle.builder.specs.Rings.{ringNumberCount}
 use Rattle.builder.specs.State.{Bld, bld, unclosed, refuse, lastOf, entered, rootOf, bonded, extendedBy, extendOf, openedOf, openedAt, openingOf, openingKind, failedSt, closedBy, joinOf, popOf}
 use Rattle.builder.specs.Steps.{SmallCounts}
 use Rattle.builder.specs.declared.builder.Builder.{Builder}
-use Rattle.desk_state.specs.Standing.{also, isKind, sourceAt, entryKindAt, targetAt, isTarget, isBuilderEntry, bondsCounted, turnedOf, isOwn, isMatched, isPaired, leastOpen, isLater, isStep, isApart, isRing, openRings, joinsStand, placesIn, entrySlotsIn, countsStand, failureStands, isState}
+use Rattle.desk_state.specs.Standing.{isKind, sourceAt, entryKindAt, targetAt, isTarget, isBuilderEntry, bondsCounted, turnedOf, isOwn, isMatched, isPaired, leastOpen, isLater, isStep, isApart, isRing, openRings, joinsStand, placesIn, entrySlotsIn, countsStand, failureStands, isState}
 use Rattle.desk_state.specs.Steps.{Between}
-use Rattle.desk_state.proofs.Counts.{first, second, counts}
+use Rattle.desk_state.proofs.Counts.{counts}
 use Rattle.desk_state.proofs.Ends.{turned-code, to-matched, both-ends, even-ends}
 use Rattle.desk_state.proofs.Grown.{Plain, Pairs}
 use Rattle.desk_state.proofs.Keeps.{Keeps, keeps-root, keeps-extend, keeps-open, keeps-fail, keeps-close, keeps-pop}
-
--- ---- tests joined
-all-two : (a b : Bool) → a ≡ true → b ≡ true → also a b ≡ true
-all-two a b e f = rw (e, f) refl
 
 -- ---- kinds
 kind-code : (n : ℕ) → isKind (kindOf n) ≡ true → (k : BondKind) × (n ≡ codeOf k)
@@ -64,9 +60,9 @@ between s e m few most all =
     record {
       few = few;
       most = most;
-      kind = λ i l. kind-code (entryKindAt e i) (first (isKind (kindOf (entryKindAt e i))) _ (second (ltb (sourceAt e i) (s .atoms)) _ (at i l)));
-      source = λ i l. ltb-true _ _ (first (ltb (sourceAt e i) (s .atoms)) _ (at i l));
-      target = λ i l u. ltb-true _ _ (subst (λ (q : Bool). pick q (ltb (targetAt e i) (s .atoms)) (ltb (targetAt e i - unclosed) (s .joins)) ≡ true) (lt-ltb (targetAt e i) unclosed u) (second (isKind (kindOf (entryKindAt e i))) _ (second (ltb (sourceAt e i) (s .atoms)) _ (at i l))));
+      kind = λ i l. kind-code (entryKindAt e i) (both-first (isKind (kindOf (entryKindAt e i))) _ (both-second (ltb (sourceAt e i) (s .atoms)) _ (at i l)));
+      source = λ i l. ltb-true _ _ (both-first (ltb (sourceAt e i) (s .atoms)) _ (at i l));
+      target = λ i l u. ltb-true _ _ (subst (λ (q : Bool). pick q (ltb (targetAt e i) (s .atoms)) (ltb (targetAt e i - unclosed) (s .joins)) ≡ true) (lt-ltb (targetAt e i) unclosed u) (both-second (isKind (kindOf (entryKindAt e i))) _ (both-second (ltb (sourceAt e i) (s .atoms)) _ (at i l))));
     }
   where
     at : (i : ℕ) → i < m → isBuilderEntry s e i ≡ true
@@ -77,8 +73,8 @@ module _ (s : Builder) (e : List ℕ) (m : ℕ) where
   unfolding isBuilderEntry isTarget isLater
   to-plain all late =
       record {
-        source = λ i l. ltb-true _ _ (first (ltb (sourceAt e i) (s .atoms)) _ (at i l));
-        kind = λ i l. kind-code (entryKindAt e i) (first (isKind (kindOf (entryKindAt e i))) _ (second (ltb (sourceAt e i) (s .atoms)) _ (at i l)));
+        source = λ i l. ltb-true _ _ (both-first (ltb (sourceAt e i) (s .atoms)) _ (at i l));
+        kind = λ i l. kind-code (entryKindAt e i) (both-first (isKind (kindOf (entryKindAt e i))) _ (both-second (ltb (sourceAt e i) (s .atoms)) _ (at i l)));
         target = λ i l u. ltb-true _ _ (subst (λ (q : Bool). pick q (ltb (targetAt e i) (s .atoms)) (ltb (targetAt e i - unclosed) (s .joins)) ≡ true) (lt-ltb (targetAt e i) unclosed u) (third i l));
         waits = λ i l u. let z = ltb-true (targetAt e i - unclosed) (s .joins) (subst (λ (q : Bool). pick q (ltb (targetAt e i) (s .atoms)) (ltb (targetAt e i - unclosed) (s .joins)) ≡ true) (le-ltb (targetAt e i) unclosed u) (third i l)) in omega (arith, z, u);
         later = λ i l u. leb-true _ _ (subst (λ (q : Bool). pick q (leb (leastOpen e i) (targetAt e i)) true ≡ true) (le-leb unclosed (targetAt e i) u) (every-at (isLater e) m i late l));
@@ -88,13 +84,13 @@ module _ (s : Builder) (e : List ℕ) (m : ℕ) where
       at i l = every-at (isBuilderEntry s e) m i all l
 
       third : (i : ℕ) → i < m → isTarget s (targetAt e i) ≡ true
-      third i l = second (isKind (kindOf (entryKindAt e i))) _ (second (ltb (sourceAt e i) (s .atoms)) _ (at i l))
+      third i l = both-second (isKind (kindOf (entryKindAt e i))) _ (both-second (ltb (sourceAt e i) (s .atoms)) _ (at i l))
 
   of-plain : Plain (s .atoms) (s .joins) e m → (i : ℕ) → i < m → isBuilderEntry s e i ≡ true
   unfolding isBuilderEntry isTarget
   of-plain h i l =
-      all-two (ltb (sourceAt e i) (s .atoms)) _ (lt-ltb _ _ (h .source i l))
-      (all-two (isKind (kindOf (entryKindAt e i))) _ (ap (λ (c : ℕ). isKind (kindOf c)) (h .kind i l .1) ∙ code-kind (h .kind i l .0)) (go (ltb (targetAt e i) unclosed) refl))
+      both-pass (lt-ltb _ _ (h .source i l))
+      (both-pass (ap (λ (c : ℕ). isKind (kindOf c)) (h .kind i l .1) ∙ code-kind (h .kind i l .0)) (go (ltb (targetAt e i) unclosed) refl))
     where
       go : (q : Bool) → ltb (targetAt e i) unclosed ≡ q → pick q (ltb (targetAt e i) (s .atoms)) (ltb (targetAt e i - unclosed) (s .joins)) ≡ true
       go true is = lt-ltb _ _ (h .target i l (ltb-true _ _ is))
@@ -121,24 +117,24 @@ module _ (s : Builder) (e : List ℕ) (m : ℕ) where
         subst (λ (c : ℕ). bondsCounted e (sourceAt e i) c (targetAt e i) m ≡ bondsCounted e (targetAt e i) (turnedOf (kindOf c)) (sourceAt e i) m) (sym (h .kind i l .1))
         (p .ends (sourceAt e i) (targetAt e i) k low u ∙ ap (λ (c : ℕ). bondsCounted e (targetAt e i) c (sourceAt e i) m) (sym (turned-code k)))
 
-    twice : also (eqb (sourceAt e i) (targetAt e i)) (eqb (entryKindAt e i) (turnedOf (kindOf (entryKindAt e i)))) ≡ true → bondsCounted e (sourceAt e i) (entryKindAt e i) (targetAt e i) m % 2 ≡ 0
+    twice : both (eqb (sourceAt e i) (targetAt e i)) (eqb (entryKindAt e i) (turnedOf (kindOf (entryKindAt e i)))) ≡ true → bondsCounted e (sourceAt e i) (entryKindAt e i) (targetAt e i) m % 2 ≡ 0
     twice own =
-        let st : sourceAt e i ≡ targetAt e i = eqb-true _ _ (first (eqb (sourceAt e i) (targetAt e i)) _ own) in
-        let kk : entryKindAt e i ≡ turnedOf (kindOf (entryKindAt e i)) = eqb-true _ _ (second (eqb (sourceAt e i) (targetAt e i)) _ own) in
+        let st : sourceAt e i ≡ targetAt e i = eqb-true _ _ (both-first (eqb (sourceAt e i) (targetAt e i)) _ own) in
+        let kk : entryKindAt e i ≡ turnedOf (kindOf (entryKindAt e i)) = eqb-true _ _ (both-second (eqb (sourceAt e i) (targetAt e i)) _ own) in
         let back : reverseOf k ≡ k = same-code (reverseOf k) k (sym (sym (h .kind i l .1) ∙ kk ∙ ap (λ (c : ℕ). turnedOf (kindOf c)) (h .kind i l .1) ∙ turned-code k)) in
         subst (λ (t : ℕ). bondsCounted e (sourceAt e i) (entryKindAt e i) t m % 2 ≡ 0) st
         (subst (λ (c : ℕ). bondsCounted e (sourceAt e i) c (sourceAt e i) m % 2 ≡ 0) (sym (h .kind i l .1)) (p .even (sourceAt e i) k low back))
 
-    go : (q : Bool) → leb unclosed (targetAt e i) ≡ q → pick q true (isMatched (also (eqb (sourceAt e i) (targetAt e i)) (eqb (entryKindAt e i) (turnedOf (kindOf (entryKindAt e i))))) (bondsCounted e (sourceAt e i) (entryKindAt e i) (targetAt e i) m) (bondsCounted e (targetAt e i) (turnedOf (kindOf (entryKindAt e i))) (sourceAt e i) m)) ≡ true
+    go : (q : Bool) → leb unclosed (targetAt e i) ≡ q → pick q true (isMatched (both (eqb (sourceAt e i) (targetAt e i)) (eqb (entryKindAt e i) (turnedOf (kindOf (entryKindAt e i))))) (bondsCounted e (sourceAt e i) (entryKindAt e i) (targetAt e i) m) (bondsCounted e (targetAt e i) (turnedOf (kindOf (entryKindAt e i))) (sourceAt e i) m)) ≡ true
     go true is = refl
-    go false is = to-matched (also (eqb (sourceAt e i) (targetAt e i)) (eqb (entryKindAt e i) (turnedOf (kindOf (entryKindAt e i))))) _ _ (alike (leb-false _ _ is)) twice
+    go false is = to-matched (both (eqb (sourceAt e i) (targetAt e i)) (eqb (entryKindAt e i) (turnedOf (kindOf (entryKindAt e i))))) _ _ (alike (leb-false _ _ is)) twice
 
 -- ---- ring numbers
 module _ (s : Builder) (e r : List ℕ) where
-  ring-at : (n : ℕ) → isRing s e r n ≡ true → getD r n 0 ≢ 0 → also (leb (getD r n 0) (s .entries)) (also (leb unclosed (targetAt e (getD r n 0 - 1))) (every (isApart r n) n)) ≡ true
+  ring-at : (n : ℕ) → isRing s e r n ≡ true → getD r n 0 ≢ 0 → both (leb (getD r n 0) (s .entries)) (both (leb unclosed (targetAt e (getD r n 0 - 1))) (every (isApart r n) n)) ≡ true
   unfolding isRing
   ring-at n h z =
-      subst (λ (q : Bool). pick q true (also (leb (getD r n 0) (s .entries)) (also (leb unclosed (targetAt e (getD r n 0 - 1))) (every (isApart r n) n))) ≡ true) (ne-eqb (getD r n 0) 0 z) h
+      subst (λ (q : Bool). pick q true (both (leb (getD r n 0) (s .entries)) (both (leb unclosed (targetAt e (getD r n 0 - 1))) (every (isApart r n) n))) ≡ true) (ne-eqb (getD r n 0) 0 z) h
 
   ring-apart : (n i : ℕ) → isApart r n i ≡ true → getD r i 0 ≢ getD r n 0
   unfolding isApart
@@ -147,12 +143,12 @@ module _ (s : Builder) (e r : List ℕ) where
   of-ring : (n : ℕ) → (getD r n 0 ≢ 0 → (getD r n 0 ≤ s .entries) × (unclosed ≤ targetAt e (getD r n 0 - 1))) → ((i : ℕ) → i < n → getD r n 0 ≢ 0 → getD r i 0 ≢ getD r n 0) → isRing s e r n ≡ true
   unfolding isRing isApart
   of-ring n h apart = go (eqb (getD r n 0) 0) refl where
-    go : (q : Bool) → eqb (getD r n 0) 0 ≡ q → pick q true (also (leb (getD r n 0) (s .entries)) (also (leb unclosed (targetAt e (getD r n 0 - 1))) (every (isApart r n) n))) ≡ true
+    go : (q : Bool) → eqb (getD r n 0) 0 ≡ q → pick q true (both (leb (getD r n 0) (s .entries)) (both (leb unclosed (targetAt e (getD r n 0 - 1))) (every (isApart r n) n))) ≡ true
     go true is = refl
     go false is =
         let z = eqb-false (getD r n 0) 0 is in
-        all-two (leb (getD r n 0) (s .entries)) _ (le-leb _ _ (h z .0))
-        (all-two (leb unclosed (targetAt e (getD r n 0 - 1))) _ (le-leb _ _ (h z .1))
+        both-pass (le-leb _ _ (h z .0))
+        (both-pass (le-leb _ _ (h z .1))
         (every-all (isApart r n) n (λ i l. ap neither (ne-eqb (getD r i 0) (getD r n 0) (apart i l z)))))
 
 -- ---- a state as what it keeps to
@@ -171,22 +167,22 @@ pub record Holds (b : Bld) : Type 0 where
 rooms : (s : Builder) (la le lp lr : ℕ) → countsStand s la le lp lr ≡ true → (s .places ≤ lp) × (ringNumberCount ≤ lr)
 unfolding countsStand
 rooms s la le lp lr h1 =
-    let h2 = second (eqb (s .places) (placesIn la)) _ h1 in
-    let h3 = second (eqb (s .slots) (entrySlotsIn le)) _ h2 in
-    let h4 = second (leb (s .places) lp) _ h3 in
-    (leb-true _ _ (first (leb (s .places) lp) _ h3), leb-true _ _ (first (leb ringNumberCount lr) _ h4))
+    let h2 = both-second (eqb (s .places) (placesIn la)) _ h1 in
+    let h3 = both-second (eqb (s .slots) (entrySlotsIn le)) _ h2 in
+    let h4 = both-second (leb (s .places) lp) _ h3 in
+    (leb-true _ _ (both-first (leb (s .places) lp) _ h3), leb-true _ _ (both-first (leb ringNumberCount lr) _ h4))
 
 to-failing : (s : Builder) → failureStands s ≡ true → Failing s
 unfolding failureStands
 to-failing s h t =
-    let z : also (ltb (s .closing) (s .atoms)) (ltb (s .opening) (s .atoms)) ≡ true = subst (λ (q : Bool). pick q (also (ltb (s .closing) (s .atoms)) (ltb (s .opening) (s .atoms))) true ≡ true) t h in
-    (ltb-true _ _ (first (ltb (s .closing) (s .atoms)) _ z), ltb-true _ _ (second (ltb (s .closing) (s .atoms)) _ z))
+    let z : both (ltb (s .closing) (s .atoms)) (ltb (s .opening) (s .atoms)) ≡ true = subst (λ (q : Bool). pick q (both (ltb (s .closing) (s .atoms)) (ltb (s .opening) (s .atoms))) true ≡ true) t h in
+    (ltb-true _ _ (both-first (ltb (s .closing) (s .atoms)) _ z), ltb-true _ _ (both-second (ltb (s .closing) (s .atoms)) _ z))
 
 of-failing : (s : Builder) → Failing s → failureStands s ≡ true
 unfolding failureStands
 of-failing s h = go (s .failed) refl where
-  go : (q : Bool) → s .failed ≡ q → pick q (also (ltb (s .closing) (s .atoms)) (ltb (s .opening) (s .atoms))) true ≡ true
-  go true t = let z = h t in all-two (ltb (s .closing) (s .atoms)) _ (lt-ltb _ _ (z .0)) (lt-ltb _ _ (z .1))
+  go : (q : Bool) → s .failed ≡ q → pick q (both (ltb (s .closing) (s .atoms)) (ltb (s .opening) (s .atoms))) true ≡ true
+  go true t = let z = h t in both-pass (lt-ltb _ _ (z .0)) (lt-ltb _ _ (z .1))
   go false t = refl
 
 pub holds : (b : Bld) → isState b ≡ true → Holds b
@@ -196,17 +192,17 @@ holds b h =
     let e = b .entries in
     let m = s .entries in
     let told = countsStand s (length (b .atoms)) (length e) (length (b .path)) (length (b .rings)) in
-    let h1 = second told _ h in
-    let h2 = second (every (isAtom (b .atoms)) (s .atoms)) _ h1 in
-    let h3 = second (every (isBuilderEntry s e) m) _ h2 in
-    let h4 = second (every (isPaired e m) m) _ h3 in
-    let h5 = second (every (isLater e) m) _ h4 in
-    let h6 = second (every (isStep s (b .path)) (s .top)) _ h5 in
-    let h7 = second (every (isRing s e (b .rings)) ringNumberCount) _ h6 in
-    let c = counts s (length (b .atoms)) (length e) (length (b .path)) (length (b .rings)) (first told _ h) in
-    let w = rooms s (length (b .atoms)) (length e) (length (b .path)) (length (b .rings)) (first told _ h) in
-    let paired = first (every (isPaired e m) m) _ h3 in
-    let ring = first (every (isRing s e (b .rings)) ringNumberCount) _ h6 in
+    let h1 = both-second told _ h in
+    let h2 = both-second (every (isAtom (b .atoms)) (s .atoms)) _ h1 in
+    let h3 = both-second (every (isBuilderEntry s e) m) _ h2 in
+    let h4 = both-second (every (isPaired e m) m) _ h3 in
+    let h5 = both-second (every (isLater e) m) _ h4 in
+    let h6 = both-second (every (isStep s (b .path)) (s .top)) _ h5 in
+    let h7 = both-second (every (isRing s e (b .rings)) ringNumberCount) _ h6 in
+    let c = counts s (length (b .atoms)) (length e) (length (b .path)) (length (b .rings)) (both-first told _ h) in
+    let w = rooms s (length (b .atoms)) (length e) (length (b .path)) (length (b .rings)) (both-first told _ h) in
+    let paired = both-first (every (isPaired e m) m) _ h3 in
+    let ring = both-first (every (isRing s e (b .rings)) ringNumberCount) _ h6 in
     record {
       keeps = record {
         places-is = c .places-is;
@@ -220,19 +216,19 @@ holds b h =
         within = c .atoms;
         listed = c .entries;
         short = c .top;
-        atoms = λ i l. every-at (isAtom (b .atoms)) (s .atoms) i (first (every (isAtom (b .atoms)) (s .atoms)) _ h1) l;
-        plain = to-plain s e m (first (every (isBuilderEntry s e) m) _ h2) (first (every (isLater e) m) _ h4);
+        atoms = λ i l. every-at (isAtom (b .atoms)) (s .atoms) i (both-first (every (isAtom (b .atoms)) (s .atoms)) _ h1) l;
+        plain = to-plain s e m (both-first (every (isBuilderEntry s e) m) _ h2) (both-first (every (isLater e) m) _ h4);
         pairs = record { ends = both-ends e m paired; even = even-ends e m paired };
-        steps = λ i l. ltb-true _ _ (every-at (isStep s (b .path)) (s .top) i (first (every (isStep s (b .path)) (s .top)) _ h5) l);
+        steps = λ i l. ltb-true _ _ (every-at (isStep s (b .path)) (s .top) i (both-first (every (isStep s (b .path)) (s .top)) _ h5) l);
         each = λ i l z.
             let t = ring-at s e (b .rings) i (every-at (isRing s e (b .rings)) ringNumberCount i ring l) z in
-            (leb-true _ _ (first (leb (getD (b .rings) i 0) m) _ t), leb-true _ _ (first (leb unclosed (targetAt e (getD (b .rings) i 0 - 1))) _ (second (leb (getD (b .rings) i 0) m) _ t)));
+            (leb-true _ _ (both-first (leb (getD (b .rings) i 0) m) _ t), leb-true _ _ (both-first (leb unclosed (targetAt e (getD (b .rings) i 0 - 1))) _ (both-second (leb (getD (b .rings) i 0) m) _ t)));
         apart = λ i k l u z.
             let t = ring-at s e (b .rings) k (every-at (isRing s e (b .rings)) ringNumberCount k ring u) z in
-            ring-apart s e (b .rings) k i (every-at (isApart (b .rings) k) k i (second (leb unclosed (targetAt e (getD (b .rings) k 0 - 1))) _ (second (leb (getD (b .rings) k 0) m) _ t)) l);
-        few = leb-true _ _ (first (leb (s .joins + openRings (b .rings) ringNumberCount) (m * 2)) _ h7);
+            ring-apart s e (b .rings) k i (every-at (isApart (b .rings) k) k i (both-second (leb unclosed (targetAt e (getD (b .rings) k 0 - 1))) _ (both-second (leb (getD (b .rings) k 0) m) _ t)) l);
+        few = leb-true _ _ (both-first (leb (s .joins + openRings (b .rings) ringNumberCount) (m * 2)) _ h7);
       };
-      failing = to-failing s (second (leb (s .joins + openRings (b .rings) ringNumberCount) (m * 2)) _ h7);
+      failing = to-failing s (both-second (leb (s .joins + openRings (b .rings) ringNumberCount) (m * 2)) _ h7);
     }
 
 pub stands : (b : Bld) → Holds b → isState b ≡ true
@@ -242,21 +238,21 @@ stands b w =
     let e = b .entries in
     let m = s .entries in
     let h = w .keeps in
-    all-two (countsStand s (length (b .atoms)) (length e) (length (b .path)) (length (b .rings))) _
-    (all-two (eqb (s .places) (placesIn (length (b .atoms)))) _ (eq-eqb _ _ (h .places-is))
-    (all-two (eqb (s .slots) (entrySlotsIn (length e))) _ (eq-eqb _ _ (h .slots-is))
-    (all-two (leb (s .places) (length (b .path))) _ (le-leb _ _ (h .path-room))
-    (all-two (leb ringNumberCount (length (b .rings))) _ (le-leb _ _ (h .ring-room))
-    (all-two (leb (s .atoms) (s .places)) _ (le-leb _ _ (h .within))
-    (all-two (leb (s .entries) (s .slots)) _ (le-leb _ _ (h .listed))
+    both-pass
+    (both-pass (eq-eqb _ _ (h .places-is))
+    (both-pass (eq-eqb _ _ (h .slots-is))
+    (both-pass (le-leb _ _ (h .path-room))
+    (both-pass (le-leb _ _ (h .ring-room))
+    (both-pass (le-leb _ _ (h .within))
+    (both-pass (le-leb _ _ (h .listed))
     (le-leb (s .top) (s .atoms) (h .short))))))))
-    (all-two (every (isAtom (b .atoms)) (s .atoms)) _ (every-all (isAtom (b .atoms)) (s .atoms) (h .atoms))
-    (all-two (every (isBuilderEntry s e) m) _ (every-all (isBuilderEntry s e) m (of-plain s e m (h .plain)))
-    (all-two (every (isPaired e m) m) _ (every-all (isPaired e m) m (of-pairs s e m (h .plain) (h .pairs) (omega (arith, h .within, h .most-places))))
-    (all-two (every (isLater e) m) _ (every-all (isLater e) m (of-later s e m (h .plain)))
-    (all-two (every (isStep s (b .path)) (s .top)) _ (every-all (isStep s (b .path)) (s .top) (λ i l. lt-ltb _ _ (h .steps i l)))
-    (all-two (every (isRing s e (b .rings)) ringNumberCount) _ (every-all (isRing s e (b .rings)) ringNumberCount (λ n l. of-ring s e (b .rings) n (h .each n l) (λ i u z. h .apart i n u l z)))
-    (all-two (leb (s .joins + openRings (b .rings) ringNumberCount) (m * 2)) _ (le-leb _ _ (h .few))
+    (both-pass (every-all (isAtom (b .atoms)) (s .atoms) (h .atoms))
+    (both-pass (every-all (isBuilderEntry s e) m (of-plain s e m (h .plain)))
+    (both-pass (every-all (isPaired e m) m (of-pairs s e m (h .plain) (h .pairs) (omega (arith, h .within, h .most-places))))
+    (both-pass (every-all (isLater e) m (of-later s e m (h .plain)))
+    (both-pass (every-all (isStep s (b .path)) (s .top) (λ i l. lt-ltb _ _ (h .steps i l)))
+    (both-pass (every-all (isRing s e (b .rings)) ringNumberCount (λ n l. of-ring s e (b .rings) n (h .each n l) (λ i u z. h .apart i n u l z)))
+    (both-pass (le-leb _ _ (h .few))
     (of-failing s (w .failing)))))))))
 
 -- so few of each that no sum with them wraps

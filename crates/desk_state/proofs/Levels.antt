@@ -10,19 +10,18 @@ use lib.ListN.{length, getD, set, length-set}
 use lib.Seq.{getD-set-same, getD-set-other}
 use lib.Dec.{eqb, ltb}
 use borrow.Author.Tests.{eqb-true, eqb-false, eq-eqb, ne-eqb, ltb-true, ltb-false, lt-leb, le-leb}
-use Rattle.feature.specs.Pick.{pick, neither}
+use Rattle.feature.specs.Pick.{pick, neither, both}
 use Rattle.feature.specs.Every.{every}
 use Rattle.feature.proofs.Every.{every-fails, every-all}
 use Rattle.feature.specs.Bonds.{codeOf, kindOf, reverseOf}
 use Rattle.feature.specs.declared.bond_kind.BondKind.{BondKind}
 use Rattle.feature.specs.declared.bond_kind.BondKind.the-variants as bonds
-use Rattle.feature.proofs.Cases.{by-eq}
+use Rattle.feature.proofs.Cases.{by-eq, both-first, both-second}
 use Rattle.feature.proofs.Bonds.{reverse-twice, same-code}
 use Rattle.builder.specs.Limits.{atomLimit, bondLimit}
 use Rattle.builder.specs.State.{unclosed}
-use Rattle.desk_state.specs.Standing.{also, sourceAt, entryKindAt, targetAt, bondsCounted, turnedOf, isOwn, isMatched, isPaired}
+use Rattle.desk_state.specs.Standing.{sourceAt, entryKindAt, targetAt, bondsCounted, turnedOf, isOwn, isMatched, isPaired}
 use Rattle.desk_state.specs.Steps.{isOf, lastAt, Linked, bondKindCount, cellOf, HasCount, Sound, ownAt, outCell, backCell, moreOf, putOf, canTake, takeOf, valAt, CountedAfter, Taken, NoneCounted, BondsMatch}
-use Rattle.desk_state.proofs.Counts.{first, second}
 use Rattle.desk_state.proofs.Ends.{turned-code, to-matched}
 use Rattle.desk_state.proofs.Links.{last-le, last-same, last-is, word-source, of-closed, IsBond, adds, adds-one, adds-none, count-suc, count-zero, count-most, out-last, back-last}
 
@@ -53,7 +52,7 @@ in-room size t k w = omega (arith, w .1, code-most k .1)
 own-parts : (a t : ℕ) (k : BondKind) → isOwn a (codeOf k) t ≡ true → (a ≡ t) × (reverseOf k ≡ k)
 unfolding isOwn
 own-parts a t k h =
-    (eqb-true _ _ (first (eqb a t) _ h), same-code (reverseOf k) k (sym (eqb-true _ _ (second (eqb a t) _ h) ∙ turned-code k)))
+    (eqb-true _ _ (both-first (eqb a t) _ h), same-code (reverseOf k) k (sym (eqb-true _ _ (both-second (eqb a t) _ h) ∙ turned-code k)))
 
 own-from : (a t : ℕ) (k : BondKind) → a ≡ t → reverseOf k ≡ k → isOwn a (codeOf k) t ≡ true
 unfolding isOwn
@@ -86,7 +85,7 @@ module _ (e : List ℕ) (n i : ℕ) (below : i < n) (closed : targetAt e i < unc
   odd : ownAt e i ≡ true → here % 2 ≢ 0 → isPaired e n i ≡ false
   unfolding isPaired isMatched
   odd own ne = rw (lt-leb unclosed (targetAt e i) closed, own, ne-eqb (here % 2) 0 ne) (go (eqb here there)) where
-    go : (q : Bool) → also q false ≡ false
+    go : (q : Bool) → both q false ≡ false
     go true = refl
     go false = refl
 

@@ -13,11 +13,10 @@ use lib.Seq.{getD-set-same, getD-set-other}
 use lib.Dec.{eqb, ltb}
 use borrow.Author.Tests.{eqb-true, eq-eqb, ne-eqb, ltb-true, ltb-false, lt-ltb, le-ltb}
 use Rattle.feature.specs.Pick.{pick}
-use Rattle.feature.proofs.Cases.{by-eq}
+use Rattle.feature.proofs.Cases.{by-eq, both-first, both-second}
 use Rattle.builder.specs.State.{unclosed, entryWords}
 use Rattle.desk_state.specs.Standing.{sourceAt, entryKindAt, targetAt, isEntryTo, bondsCounted}
 use Rattle.desk_state.specs.Steps.{wordAt, isOf, lastAt, Linked, Loose, headWith, nextWith}
-use Rattle.desk_state.proofs.Counts.{first, second}
 
 -- ---- the last of an atom
 module _ (e : List ℕ) (column a : ℕ) where
@@ -67,7 +66,7 @@ word-source e i = ap (λ (x : ℕ). getD e x 0) {x = i * entryWords + 0} {y = i 
 
 pub of-closed : (e : List ℕ) (column a i : ℕ) → isOf e column a i ≡ true → (targetAt e i < unclosed) × (wordAt e column i ≡ a)
 of-closed e column a i h =
-    (ltb-true _ _ (first (ltb (targetAt e i) unclosed) _ h), eqb-true _ _ (second (ltb (targetAt e i) unclosed) _ h))
+    (ltb-true _ _ (both-first (ltb (targetAt e i) unclosed) _ h), eqb-true _ _ (both-second (ltb (targetAt e i) unclosed) _ h))
 
 to-of : (e : List ℕ) (column a i : ℕ) → targetAt e i < unclosed → wordAt e column i ≡ a → isOf e column a i ≡ true
 to-of e column a i l w = rw (lt-ltb (targetAt e i) unclosed l) (eq-eqb (wordAt e column i) a w)
@@ -81,11 +80,11 @@ pub record IsBond (e : List ℕ) (a k t i : ℕ) : Type 0 where
 pub bond-is : (e : List ℕ) (a k t i : ℕ) → isEntryTo e a k t i ≡ true → IsBond e a k t i
 unfolding isEntryTo
 bond-is e a k t i h =
-    let rest = second (eqb (sourceAt e i) a) _ h in
+    let rest = both-second (eqb (sourceAt e i) a) _ h in
     record {
-      source = eqb-true _ _ (first (eqb (sourceAt e i) a) _ h);
-      kind = eqb-true _ _ (first (eqb (entryKindAt e i) k) _ rest);
-      target = eqb-true _ _ (second (eqb (entryKindAt e i) k) _ rest);
+      source = eqb-true _ _ (both-first (eqb (sourceAt e i) a) _ h);
+      kind = eqb-true _ _ (both-first (eqb (entryKindAt e i) k) _ rest);
+      target = eqb-true _ _ (both-second (eqb (entryKindAt e i) k) _ rest);
     }
 
 pub is-bond : (e : List ℕ) (a k t i : ℕ) → IsBond e a k t i → isEntryTo e a k t i ≡ true

@@ -9,7 +9,7 @@ use mathlib.Core.Bool.{Bool, true, false}
 use lib.ListN.{length, getD}
 use lib.Dec.{ltb, leb, eqb}
 use Rattle.feature.specs.Every.{every}
-use Rattle.feature.specs.Pick.{pick, neither}
+use Rattle.feature.specs.Pick.{pick, neither, both}
 use Rattle.feature.specs.Bonds.{codeOf, kindOf, reverseOf}
 use Rattle.feature.specs.declared.bond_kind.Coded.{Coded}
 use Rattle.feature.specs.declared.bond_kind.Coded.the-variants as coded
@@ -18,10 +18,6 @@ use Rattle.builder.specs.Limits.{atomLimit, bondLimit, lesserOf}
 use Rattle.builder.specs.Rings.{ringNumberCount}
 use Rattle.builder.specs.State.{Bld, entryWords, unclosed}
 use Rattle.builder.specs.declared.builder.Builder.{Builder}
-
--- both, the second looked at only if the first holds
-abbrev pub also : Bool → Bool → Bool
-also a b = pick a b false
 
 unfoldable pub isKind : Coded → Bool
 isKind (coded.Kind k) = true
@@ -43,15 +39,15 @@ isTarget s t = pick (ltb t unclosed) (ltb t (s .atoms)) (ltb (t - unclosed) (s .
 
 unfoldable pub isBuilderEntry : Builder → List ℕ → ℕ → Bool
 isBuilderEntry s e i =
-    also (ltb (sourceAt e i) (s .atoms))
-    (also (isKind (kindOf (entryKindAt e i)))
+    both (ltb (sourceAt e i) (s .atoms))
+    (both (isKind (kindOf (entryKindAt e i)))
     (isTarget s (targetAt e i)))
 
 -- entry i goes from a to t and its kind is k, all as numbers
 unfoldable pub isEntryTo : List ℕ → ℕ → ℕ → ℕ → ℕ → Bool
 isEntryTo e a k t i =
-    also (eqb (sourceAt e i) a)
-    (also (eqb (entryKindAt e i) k)
+    both (eqb (sourceAt e i) a)
+    (both (eqb (entryKindAt e i) k)
     (eqb (targetAt e i) t))
 
 -- how many of the first m do
@@ -66,11 +62,11 @@ turnedOf coded.Bad = 0
 
 -- a bond of a kind from s to t is its own reverse
 unfoldable pub isOwn : ℕ → ℕ → ℕ → Bool
-isOwn s k t = also (eqb s t) (eqb k (turnedOf (kindOf k)))
+isOwn s k t = both (eqb s t) (eqb k (turnedOf (kindOf k)))
 
 -- here as many as there, and where both are the same, an even number
 unfoldable pub isMatched : Bool → ℕ → ℕ → Bool
-isMatched own here there = also (eqb here there) (pick own (eqb (here % 2) 0) true)
+isMatched own here there = both (eqb here there) (pick own (eqb (here % 2) 0) true)
 
 -- among the first m entries there are as many bonds like entry i as there are reverses of it at its other end; a bond that
 -- is its own reverse, from an atom to itself, is held twice
@@ -101,8 +97,8 @@ isApart r n i = neither (eqb (getD r i 0) (getD r n 0))
 unfoldable pub isRing : Builder → List ℕ → List ℕ → ℕ → Bool
 isRing s e r n =
     pick (eqb (getD r n 0) 0) true
-    (also (leb (getD r n 0) (s .entries))
-    (also (leb unclosed (targetAt e (getD r n 0 - 1)))
+    (both (leb (getD r n 0) (s .entries))
+    (both (leb unclosed (targetAt e (getD r n 0 - 1)))
     (every (isApart r n) n)))
 
 -- how many of the first n ring numbers are open
@@ -125,27 +121,27 @@ entrySlotsIn le = lesserOf bondLimit (le / entryWords)
 -- the rooms and the counts, for tables of so many words: atoms, entries, path and ring numbers
 unfoldable pub countsStand : Builder → ℕ → ℕ → ℕ → ℕ → Bool
 countsStand s la le lp lr =
-    also (eqb (s .places) (placesIn la))
-    (also (eqb (s .slots) (entrySlotsIn le))
-    (also (leb (s .places) lp)
-    (also (leb ringNumberCount lr)
-    (also (leb (s .atoms) (s .places))
-    (also (leb (s .entries) (s .slots))
+    both (eqb (s .places) (placesIn la))
+    (both (eqb (s .slots) (entrySlotsIn le))
+    (both (leb (s .places) lp)
+    (both (leb ringNumberCount lr)
+    (both (leb (s .atoms) (s .places))
+    (both (leb (s .entries) (s .slots))
     (leb (s .top) (s .atoms)))))))
 
 -- the failure that is remembered, if any
 unfoldable pub failureStands : Builder → Bool
 failureStands s =
-    pick (s .failed) (also (ltb (s .closing) (s .atoms)) (ltb (s .opening) (s .atoms))) true
+    pick (s .failed) (both (ltb (s .closing) (s .atoms)) (ltb (s .opening) (s .atoms))) true
 
 unfoldable pub isState : Bld → Bool
 isState b =
-    also (countsStand (b .st) (length (b .atoms)) (length (b .entries)) (length (b .path)) (length (b .rings)))
-    (also (every (isAtom (b .atoms)) (b .st .atoms))
-    (also (every (isBuilderEntry (b .st) (b .entries)) (b .st .entries))
-    (also (every (isPaired (b .entries) (b .st .entries)) (b .st .entries))
-    (also (every (isLater (b .entries)) (b .st .entries))
-    (also (every (isStep (b .st) (b .path)) (b .st .top))
-    (also (every (isRing (b .st) (b .entries) (b .rings)) ringNumberCount)
-    (also (joinsStand (b .st) (b .rings))
+    both (countsStand (b .st) (length (b .atoms)) (length (b .entries)) (length (b .path)) (length (b .rings)))
+    (both (every (isAtom (b .atoms)) (b .st .atoms))
+    (both (every (isBuilderEntry (b .st) (b .entries)) (b .st .entries))
+    (both (every (isPaired (b .entries) (b .st .entries)) (b .st .entries))
+    (both (every (isLater (b .entries)) (b .st .entries))
+    (both (every (isStep (b .st) (b .path)) (b .st .top))
+    (both (every (isRing (b .st) (b .entries) (b .rings)) ringNumberCount)
+    (both (joinsStand (b .st) (b .rings))
     (failureStands (b .st)))))))))

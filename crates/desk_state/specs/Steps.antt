@@ -8,12 +8,12 @@ use mathlib.Core.Bool.{Bool, true, false}
 use lib.ListN.{length, getD, set}
 use lib.Dec.{ltb, eqb}
 use Rattle.feature.specs.Every.{every}
-use Rattle.feature.specs.Pick.{pick, neither}
+use Rattle.feature.specs.Pick.{pick, neither, both}
 use Rattle.feature.specs.Bonds.{codeOf, kindOf, reverseOf}
 use Rattle.feature.specs.declared.bond_kind.BondKind.{BondKind}
 use Rattle.builder.specs.Limits.{atomLimit, bondLimit}
 use Rattle.builder.specs.State.{entryWords, unclosed}
-use Rattle.desk_state.specs.Standing.{also, sourceAt, entryKindAt, targetAt, bondsCounted, turnedOf, isOwn, isPaired}
+use Rattle.desk_state.specs.Standing.{sourceAt, entryKindAt, targetAt, bondsCounted, turnedOf, isOwn, isPaired}
 
 -- ---- chains
 -- a word of entry i
@@ -22,7 +22,7 @@ wordAt e column i = getD e (i * entryWords + column) 0
 
 -- entry i is closed, and its word in the column is a
 abbrev pub isOf : List ℕ → ℕ → ℕ → ℕ → Bool
-isOf e column a i = also (ltb (targetAt e i) unclosed) (eqb (wordAt e column i) a)
+isOf e column a i = both (ltb (targetAt e i) unclosed) (eqb (wordAt e column i) a)
 
 -- one more than the place of the last such entry among the first m, or 0
 unfoldable pub lastAt : List ℕ → ℕ → ℕ → ℕ → ℕ

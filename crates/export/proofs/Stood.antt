@@ -11,7 +11,7 @@ use lib.ListN.{length, getD, set}
 use lib.Seq.{sets}
 use lib.Dec.{ltb, leb, eqb}
 use borrow.Author.Tests.{eqb-true, eqb-false, eq-eqb, lt-ltb, ltb-false, lt-leb, le-ltb}
-use Rattle.feature.specs.Pick.{pick}
+use Rattle.feature.specs.Pick.{pick, both}
 use Rattle.feature.specs.Kinds.{inRange, invertOf}
 use Rattle.feature.specs.Bonds.{kindOf, reconcileOf}
 use Rattle.feature.specs.declared.atom_kind.AtomKind.{AtomKind}
@@ -31,7 +31,7 @@ use Rattle.builder.specs.Rings.{ringNumberCount}
 use Rattle.builder.specs.State.{Bld, bld, refuse, entered, rootOf, bonded, extendedBy, extendOf, openedOf, openingKind, failedSt, closedBy, joinOf, popOf}
 use Rattle.builder.specs.State as graph
 use Rattle.builder.specs.declared.builder.Builder.{Builder}
-use Rattle.desk_state.specs.Standing.{also, isState}
+use Rattle.desk_state.specs.Standing.{isState}
 use Rattle.desk_state.proofs.Kept.{holds}
 use Rattle.desk_numbers.specs.Numbers.{badTable}
 use Rattle.desk_builder.specs.Events.{anew, judged, roomsOf, freshOf, startD, rootD, extendD, joinD, popD}
@@ -97,7 +97,7 @@ module _ (b : Bld) where
 
   tame-judged : (ok : Bool) (done : Bld) → Tame b done → Tame b (judged ok b done)
   unfolding judged
-  tame-judged ok done h = by-test (Tame b) (also ok (isState b)) (λ t. h) (λ t. tame-refused b _ 0)
+  tame-judged ok done h = by-test (Tame b) (both ok (isState b)) (λ t. h) (λ t. tame-refused b _ 0)
 
 -- ---- words
 -- words that stand for a state are enough, and its atoms fit their fields
