@@ -1,86 +1,29 @@
 // What the desk says: a number, and what it carries. Where it refuses, the number has a name.
 ghost use Prim.Native.Nat.{_≤_};
 ghost use lib.ListN.{length};
+use desk_answer::Said;
+use desk_numbers::ATOM_ROOM;
+use desk_numbers::BAD_TABLE;
+use desk_numbers::BOND_ROOM;
+use desk_numbers::CHARACTER;
+use desk_numbers::DUPLICATE_BOND;
+use desk_numbers::END_OF_LINE;
+use desk_numbers::HALF_BOND;
+use desk_numbers::INCOMPATIBLE_BOND;
+use desk_numbers::INVERSION;
+use desk_numbers::JOIN;
+use desk_numbers::LOOP;
+use desk_numbers::NESTING;
+use desk_numbers::NO_ATOM;
+use desk_numbers::OUT_ROOM;
+use desk_numbers::OVERPOP;
+use desk_numbers::RING_NUMBERS;
+use desk_numbers::RNUM;
+use desk_numbers::TEXT_TOO_LONG;
+use desk_numbers::UNKNOWN_TARGET;
 use oracle_form::byte::put;
 use oracle_form::byte::put_word;
 use oracle_form::number;
-
-// The desk's numbers.
-pub const DONE: u32 = 0;
-
-pub const END_OF_LINE: u32 = 1;
-
-pub const CHARACTER: u32 = 2;
-
-pub const JOIN: u32 = 3;
-
-pub const RNUM: u32 = 4;
-
-pub const UNKNOWN_TARGET: u32 = 5;
-
-pub const LOOP: u32 = 6;
-
-pub const HALF_BOND: u32 = 7;
-
-pub const DUPLICATE_BOND: u32 = 8;
-
-pub const INCOMPATIBLE_BOND: u32 = 9;
-
-pub const INVERSION: u32 = 10;
-
-pub const RING_NUMBERS: u32 = 11;
-
-pub const TEXT_TOO_LONG: u32 = 12;
-
-pub const ATOM_ROOM: u32 = 13;
-
-pub const BOND_ROOM: u32 = 14;
-
-pub const NESTING: u32 = 15;
-
-pub const OUT_ROOM: u32 = 16;
-
-pub const BAD_TABLE: u32 = 17;
-
-pub const NO_ATOM: u32 = 18;
-
-pub const OVERPOP: u32 = 19;
-
-// A number of the desk's and what it carries.
-pub struct Said {
-    pub no: u32,
-    // How many numbers are carried; those that are not are 0.
-    pub carries: u32,
-    pub first: usize,
-    pub second: usize,
-}
-
-pub fn alone(no: u32) -> Said {
-    Said {
-        no,
-        carries: 0,
-        first: 0,
-        second: 0,
-    }
-}
-
-pub fn with_one(no: u32, first: usize) -> Said {
-    Said {
-        no,
-        carries: 1,
-        first,
-        second: 0,
-    }
-}
-
-pub fn with_two(no: u32, first: usize, second: usize) -> Said {
-    Said {
-        no,
-        carries: 2,
-        first,
-        second,
-    }
-}
 
 // The name of a refusal, `?` for a number that is none.
 fn print_name(out: &mut [u8], at: usize, no: u32) -> usize

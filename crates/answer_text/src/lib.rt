@@ -6,11 +6,9 @@
 //
 // tables: a graph that stands in lent tables.
 // order: the walk order of such a graph.
-// desk: the desk's numbers, what they carry, and a refusal.
-// said: the calls' answers as the desk's numbers.
+// desk: what the desk says, by number, and a refusal by its name.
 // words: the same for people, with the place in the line.
 pub mod desk;
 pub mod order;
-pub mod said;
 pub mod tables;
 pub mod words;

@@ -4,13 +4,12 @@
 // unknown targets, half bonds, bonds that disagree, outputs or tables; these go by their names all the same.
 ghost use Prim.Native.Nat.{_≤_};
 ghost use lib.ListN.{length};
-use crate::desk;
-use crate::desk::Said;
 use crate::desk::print_named;
 use builder::limits::ATOMS;
 use builder::limits::BONDS;
 use builder::limits::BRANCHES;
 use builder::limits::TEXT;
+use desk_answer::Said;
 use oracle_form::byte::NOWHERE;
 use oracle_form::byte::put;
 use oracle_form::byte::put_word;
@@ -39,15 +38,15 @@ fn print_pair(out: &mut [u8], at: usize, s: Said) -> usize
 {
     let no = s.no;
     match no {
-        desk::JOIN => put_pair(
+        desk_numbers::JOIN => put_pair(
             out,
             at,
             b"the two ends of the ring bond between atoms ",
             s,
             b" disagree",
         ),
-        desk::DUPLICATE_BOND => put_pair(out, at, b"atoms ", s, b" are bonded twice"),
-        desk::RING_NUMBERS => put_pair(
+        desk_numbers::DUPLICATE_BOND => put_pair(out, at, b"atoms ", s, b" are bonded twice"),
+        desk_numbers::RING_NUMBERS => put_pair(
             out,
             at,
             b"the ring bond between atoms ",
@@ -64,22 +63,22 @@ fn print_single(out: &mut [u8], at: usize, s: Said) -> usize
 {
     let no = s.no;
     match no {
-        desk::RNUM => put_with(
+        desk_numbers::RNUM => put_with(
             out,
             at,
             b"a ring number is opened and never closed: the use numbered ",
             s.first,
             b"",
         ),
-        desk::LOOP => put_with(out, at, b"atom ", s.first, b" is bonded to itself"),
-        desk::INVERSION => put_with(
+        desk_numbers::LOOP => put_with(out, at, b"atom ", s.first, b" is bonded to itself"),
+        desk_numbers::INVERSION => put_with(
             out,
             at,
             b"atom ",
             s.first,
             b" bears hydrogen, so its mark had to be turned, and only @ and @@ can be",
         ),
-        desk::TEXT_TOO_LONG => {
+        desk_numbers::TEXT_TOO_LONG => {
             let at = put_with(out, at, b"the text has ", s.first, b" bytes: ");
             put_with(out, at, b"", TEXT, b" are the most")
         }
@@ -93,17 +92,23 @@ pub fn print_words(out: &mut [u8], at: usize, s: Said) -> usize
 {
     let no = s.no;
     match no {
-        desk::END_OF_LINE => put_word(out, at, b"the text ends where more has to follow"),
-        desk::CHARACTER => put_word(out, at, b"this character cannot stand here"),
-        desk::ATOM_ROOM => put_with(out, at, b"one atom too many: ", ATOMS, b" are the most"),
-        desk::BOND_ROOM => put_with(
+        desk_numbers::END_OF_LINE => put_word(out, at, b"the text ends where more has to follow"),
+        desk_numbers::CHARACTER => put_word(out, at, b"this character cannot stand here"),
+        desk_numbers::ATOM_ROOM => put_with(
+            out,
+            at,
+            b"one atom too many: ",
+            ATOMS,
+            b" are the most",
+        ),
+        desk_numbers::BOND_ROOM => put_with(
             out,
             at,
             b"one bond too many: ",
             BONDS,
             b" ends of bonds are the most",
         ),
-        desk::NESTING => put_with(
+        desk_numbers::NESTING => put_with(
             out,
             at,
             b"one branch too many: ",
@@ -118,11 +123,11 @@ pub fn print_words(out: &mut [u8], at: usize, s: Said) -> usize
 pub fn place_of(s: Said, size: usize) -> usize {
     let no = s.no;
     match no {
-        desk::END_OF_LINE => size,
-        desk::CHARACTER => s.first,
-        desk::ATOM_ROOM => s.first,
-        desk::BOND_ROOM => s.first,
-        desk::NESTING => s.first,
+        desk_numbers::END_OF_LINE => size,
+        desk_numbers::CHARACTER => s.first,
+        desk_numbers::ATOM_ROOM => s.first,
+        desk_numbers::BOND_ROOM => s.first,
+        desk_numbers::NESTING => s.first,
         _ => NOWHERE,
     }
 }

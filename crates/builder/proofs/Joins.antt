@@ -10,8 +10,9 @@ use Rattle.feature.specs.Bonds.{codeOf, kindOf, reconcileOf, sureKind}
 use Rattle.feature.specs.declared.bond_kind.BondKind.{BondKind}
 use Rattle.feature.specs.declared.bond_kind.Reconciled.{Reconciled}
 use Rattle.feature.specs.declared.bond_kind.Reconciled.the-variants.{Both, Fails}
+use Rattle.desk_numbers.specs.Numbers.{bondRoom}
 use Rattle.builder.specs.declared.builder.Builder.{Builder}
-use Rattle.builder.specs.State.{Bld, bld, state, bondRoom, entryWords, entryList, failedSt, joinedSt, refusedSt, lastOf, openedAt, openingOf, openingKind, refuse, closedBy}
+use Rattle.builder.specs.State.{Bld, bld, state, entryWords, entryList, failedSt, joinedSt, refusedSt, lastOf, openedAt, openingOf, openingKind, refuse, closedBy}
 
 pub again-failed : (s : Builder) (x y : ℕ) → s .failed ≡ true → state (s .refusal) (s .carried) (s .places) (s .slots) (s .atoms) (s .entries) (s .top) (s .joins + 1) (s .failed) (s .closing) (s .opening) ≡ failedSt s x y
 unfolding failedSt

@@ -16,6 +16,7 @@ use Rattle.feature.specs.declared.atom_kind.Inverted.the-variants.{Turned, Refu
 use Rattle.feature.specs.declared.bond_kind.BondKind.{BondKind}
 use Rattle.feature.specs.declared.bond_kind.Reconciled.{Reconciled}
 use Rattle.feature.specs.declared.bond_kind.Reconciled.the-variants.{Both, Fails}
+use Rattle.desk_numbers.specs.Numbers.{inversion, atomRoom, bondRoom, noAtom}
 use Rattle.packing.specs.Words.{atomWords, listOf}
 use Rattle.builder.specs.declared.builder.Builder.{Builder}
 
@@ -26,19 +27,6 @@ entryWords = 3
 -- the target of an entry whose ring number is open is this and the number of the join
 abbrev pub unclosed : ℕ
 unclosed = 0x8000_0000
-
--- the desk's numbers
-abbrev pub inversion : ℕ
-inversion = 10
-
-abbrev pub atomRoom : ℕ
-atomRoom = 13
-
-abbrev pub bondRoom : ℕ
-bondRoom = 14
-
-abbrev pub noAtom : ℕ
-noAtom = 18
 
 -- the lent tables and the numbers beside them
 pub record Bld : Type 0 where

@@ -12,6 +12,10 @@ ghost use Rattle.builder.specs.Rings.{ringNumberCount};
 ghost use Rattle.builder.specs.State.{bld, freshBuilder, refusedSt, poppedSt, failedSt, joinedSt, entryWords, entryList, entered, rootOf, bonded, extendOf, openedOf, openingKind, closedBy, joinOf};
 ghost use Rattle.builder.specs.Steps.{SmallCounts};
 use crate::opens::rejoin;
+use desk_numbers::ATOM_ROOM;
+use desk_numbers::BOND_ROOM;
+use desk_numbers::INVERSION;
+use desk_numbers::NO_ATOM;
 use feature::atom_kind::AtomKind;
 use feature::atom_kind::Inverted;
 use feature::atom_kind::invert;
@@ -30,15 +34,6 @@ use packing::store;
 pub const ENTRY_WORDS: usize = 3;
 // The target of an entry whose ring number is open: this and the number of the join.
 pub const OPEN: u32 = 0x8000_0000;
-
-// The desk's numbers of the events' refusals.
-pub const INVERSION: u32 = 10;
-
-pub const ATOM_ROOM: u32 = 13;
-
-pub const BOND_ROOM: u32 = 14;
-
-pub const NO_ATOM: u32 = 18;
 
 // What a builder knows beside its tables. A refusal is its number and what it carries; 0 is none.
 pub struct Builder {

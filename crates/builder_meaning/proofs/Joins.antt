@@ -14,10 +14,11 @@ use Rattle.feature.specs.Bonds.{codeOf, kindOf, reconcileOf, sureKind}
 use Rattle.feature.specs.declared.bond_kind.BondKind.{BondKind}
 use Rattle.feature.specs.declared.bond_kind.Reconciled.{Reconciled}
 use Rattle.feature.specs.declared.bond_kind.Reconciled.the-variants.{Both, Fails}
+use Rattle.desk_numbers.specs.Numbers.{bondRoom, noAtom}
 use Rattle.feature.proofs.Bonds.{sure-code, Reversed, reconciled}
 use Rattle.feature.proofs.Cases.{impossible}
 use Rattle.builder.specs.Rings.{ringNumberCount}
-use Rattle.builder.specs.State.{Bld, bld, state, unclosed, entryWords, entryList, bondRoom, noAtom, refuse, joinedSt, failedSt, lastOf, openedOf, openedAt, openingOf, openingKind, closedBy, joinOf}
+use Rattle.builder.specs.State.{Bld, bld, state, unclosed, entryWords, entryList, refuse, joinedSt, failedSt, lastOf, openedOf, openedAt, openingOf, openingKind, closedBy, joinOf}
 use Rattle.builder.specs.declared.builder.Builder.{Builder}
 use Rattle.builder.proofs.Joins.{first-failed, again-failed}
 use Rattle.builder_meaning.specs.Sketch.{To, Open, Node, Held, Failure, None, Failed, Sketch, edge, held, joined, firstOf, broken, countOf, upd, edgesAt, addEdge, openKind, fill, lookup, ringFreed, openedS, closedS, ringS, joinS, targetOf}

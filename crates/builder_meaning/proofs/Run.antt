@@ -12,14 +12,15 @@ use Rattle.feature.specs.declared.atom_kind.AtomKind.{AtomKind}
 use Rattle.feature.specs.declared.atom_kind.Inverted.{Inverted}
 use Rattle.feature.specs.declared.atom_kind.Inverted.the-variants.{Turned, Refused}
 use Rattle.feature.specs.declared.bond_kind.BondKind.{BondKind}
+use Rattle.desk_numbers.specs.Numbers.{inversion, endOfLine, character, nesting}
 use Rattle.feature.proofs.Cases.{impossible}
 use Rattle.read_token.specs.declared.scanner.Missing.{Missing}
 use Rattle.read_token.specs.declared.scanner.Missing.the-variants.{EndOfLine, Character}
 use Rattle.builder.specs.Rings.{ringNumberCount}
-use Rattle.builder.specs.State.{Bld, bld, freshBuilder, inversion, refuse, joinOf}
+use Rattle.builder.specs.State.{Bld, bld, freshBuilder, refuse, joinOf}
 use Rattle.read_line.specs.declared.lead.Lead.{Lead}
 use Rattle.read_line.specs.declared.lead.Lead.the-variants.{Dot, Bond}
-use Rattle.read_line.specs.Events.{ReadEvent, Enter, Join, Pop, Miss, Nest, on, countedSt, markJudged, unstoredOf, ledOf, enterOf, ringOf, missingSt, step, run, endOfLine, character, nesting}
+use Rattle.read_line.specs.Events.{ReadEvent, Enter, Join, Pop, Miss, Nest, on, countedSt, markJudged, unstoredOf, ledOf, enterOf, ringOf, missingSt, step, run}
 use Rattle.builder_meaning.specs.Sketch.{Failure, None, Failed, Sketch, startS, atomPassed, nextNumber, countOf, bondsTo, lookup, judgedS, enterS, numberS, missedS, stepS, runS}
 use Rattle.builder_meaning.proofs.Rows.{edgesOf, flat, nodesOf}
 use Rattle.builder_meaning.proofs.Same.{lastly, hasFailed, closerOf, openerOf, Room, Same}

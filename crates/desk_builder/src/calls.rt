@@ -13,15 +13,13 @@ use builder::limits::BONDS;
 use builder::limits::atom_room;
 use builder::limits::lesser;
 use builder::opens::NUMBERS;
+use desk_numbers::BAD_TABLE;
 use desk_state::state::is_state;
 use feature::atom_kind::AtomKind;
 use feature::atom_kind::in_range;
 use feature::bond_kind::BondKind;
 use packing::ATOM_WORDS;
 use packing::BOND_WORDS;
-
-// The desk's number for tables that stand for nothing.
-pub const BAD_TABLE: u32 = 17;
 
 // What the desk says of a build. Its numbers, in order: 0, 3, 4, 17.
 pub enum Answer {

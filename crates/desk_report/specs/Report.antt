@@ -18,7 +18,7 @@ use Rattle.desk_atom.specs.declared.Spelt.{Spelt}
 use Rattle.desk_writer.specs.Pieces as pieces
 use Rattle.desk_pool.specs.Slots as slots
 use Rattle.desk_atom.specs.Texts as texts
-use Rattle.desk_numbers.specs.Numbers.{Told}
+use Rattle.desk_numbers.specs.Numbers.{Told, badTable}
 use Rattle.desk_report.specs.declared.answer.Report.{Report}
 
 abbrev pub report : ℕ → ℕ → ℕ → Report
@@ -42,7 +42,7 @@ ofWritten w = telling (write.writtenTold w)
 -- ---- the single calls
 -- of words that stand for no state, no atom or no bond
 abbrev pub bad : Report
-bad = report 17 0 0
+bad = report badTable 0 0
 
 -- of a builder's event: its refusal, 0 where it was accepted
 unfoldable pub ofEvent : Builder → Report

@@ -6,31 +6,19 @@ ghost use lib.ListN.{set};
 ghost use lib.Seq.{sets};
 ghost use Rattle.desk_report.specs.Report.{report, bad, ofRead, ofWritten, ofEvent, ofBuilt, ofSaid, ofHanded, ofBegins, ofSpelt, laidInto};
 use builder::builder::Builder;
+use desk_answer::Said;
 use desk_atom::Begins;
 use desk_atom::Spelt;
 use desk_builder::calls;
-use desk_numbers::ATOM_ROOM;
 use desk_numbers::BAD_TABLE;
-use desk_numbers::BOND_ROOM;
 use desk_numbers::CHARACTER;
 use desk_numbers::DONE;
-use desk_numbers::DUPLICATE_BOND;
 use desk_numbers::END_OF_LINE;
-use desk_numbers::HALF_BOND;
-use desk_numbers::INCOMPATIBLE_BOND;
-use desk_numbers::INVERSION;
 use desk_numbers::JOIN;
-use desk_numbers::LOOP;
-use desk_numbers::NESTING;
-use desk_numbers::NO_ATOM;
 use desk_numbers::OUT_ROOM;
-use desk_numbers::OVERPOP;
 use desk_numbers::RING_NUMBERS;
 use desk_numbers::RNUM;
-use desk_numbers::TEXT_TOO_LONG;
-use desk_numbers::UNKNOWN_TARGET;
 use desk_pool::Handed;
-use desk_writer::Said;
 use read::Answer;
 use write::answer::Written;
 
@@ -40,33 +28,44 @@ pub struct Report {
     pub second: u64,
 }
 
-fn alone(number: u64) -> Report
+fn alone(number: u32) -> Report
     ensures { λ r. ⌜ r ≡ report number 0 0 ⌝ }
 {
     Report {
-        number,
+        number: number as u64,
         first: 0,
         second: 0,
     }
 }
 
-fn with_one(number: u64, first: usize) -> Report
+fn with_one(number: u32, first: usize) -> Report
     ensures { λ r. ⌜ r ≡ report number first 0 ⌝ }
 {
     Report {
-        number,
+        number: number as u64,
         first: first as u64,
         second: 0,
     }
 }
 
-fn with_two(number: u64, first: u32, second: u32) -> Report
+fn with_two(number: u32, first: u32, second: u32) -> Report
     ensures { λ r. ⌜ r ≡ report number first second ⌝ }
 {
     Report {
-        number,
+        number: number as u64,
         first: first as u64,
         second: second as u64,
+    }
+}
+
+// What the desk says, without how much it carries.
+fn words_of(s: Said) -> Report
+    ensures { λ r. ⌜ r ≡ report (s .no) (s .first) (s .second) ⌝ }
+{
+    Report {
+        number: s.no as u64,
+        first: s.first as u64,
+        second: s.second as u64,
     }
 }
 
@@ -74,50 +73,21 @@ fn with_two(number: u64, first: u32, second: u32) -> Report
 pub fn of_read(a: Answer) -> Report
     ensures { λ r. ⌜ r ≡ ofRead a ⌝ }
 {
-    match a {
-        Answer::Done(n, m) => Report {
-            number: DONE,
-            first: n as u64,
-            second: m as u64,
-        },
-        Answer::EndOfLine => alone(END_OF_LINE),
-        Answer::Character(place) => with_one(CHARACTER, place),
-        Answer::Join(closing, opening) => with_two(JOIN, closing, opening),
-        Answer::Rnum(join) => with_one(RNUM, join as usize),
-        Answer::Inversion(atom) => with_one(INVERSION, atom),
-        Answer::TextTooLong(size) => with_one(TEXT_TOO_LONG, size),
-        Answer::AtomRoom(place) => with_one(ATOM_ROOM, place),
-        Answer::BondRoom(place) => with_one(BOND_ROOM, place),
-        Answer::Nesting(place) => with_one(NESTING, place),
-        Answer::NoAtom => alone(NO_ATOM),
-    }
+    words_of(desk_answer::of_read(a))
 }
 
 // Of the write call and the walk order. 0 carries the bytes, or the atoms walked.
 pub fn of_written(w: Written) -> Report
     ensures { λ r. ⌜ r ≡ ofWritten w ⌝ }
 {
-    match w {
-        Written::Done(n) => with_one(DONE, n),
-        Written::UnknownTarget(source, target) => with_two(UNKNOWN_TARGET, source, target),
-        Written::Loop(source) => with_one(LOOP, source as usize),
-        Written::HalfBond(source, target) => with_two(HALF_BOND, source, target),
-        Written::DuplicateBond(source, target) => with_two(DUPLICATE_BOND, source, target),
-        Written::IncompatibleBond(target, source) => with_two(INCOMPATIBLE_BOND, target, source),
-        Written::Inversion(atom) => with_one(INVERSION, atom as usize),
-        Written::RingNumbers(source, target) => with_two(RING_NUMBERS, source, target),
-        Written::AtomRoom(n) => with_one(ATOM_ROOM, n),
-        Written::BondRoom(m) => with_one(BOND_ROOM, m),
-        Written::OutRoom(bytes) => with_one(OUT_ROOM, bytes),
-        Written::BadTable(place) => with_one(BAD_TABLE, place),
-    }
+    words_of(desk_answer::of_written(w))
 }
 
 // Of a builder's event.
 pub fn of_event(b: Builder) -> Report
     ensures { λ r. ⌜ r ≡ ofEvent b ⌝ }
 {
-    with_one(b.refusal as u64, b.carried)
+    with_one(b.refusal, b.carried)
 }
 
 // Of a build. 0 carries the atoms and the bond entries.
@@ -126,7 +96,7 @@ pub fn of_built(a: calls::Answer) -> Report
 {
     match a {
         calls::Answer::Done(n, m) => Report {
-            number: DONE,
+            number: DONE as u64,
             first: n as u64,
             second: m as u64,
         },
@@ -137,17 +107,10 @@ pub fn of_built(a: calls::Answer) -> Report
 }
 
 // Of a writer's event. 0 carries the length of the line.
-pub fn of_said(s: Said) -> Report
+pub fn of_said(s: desk_writer::Said) -> Report
     ensures { λ r. ⌜ r ≡ ofSaid s ⌝ }
 {
-    match s {
-        Said::Held(w) => with_one(DONE, w.len),
-        Said::AtomRoom(n) => with_one(ATOM_ROOM, n),
-        Said::OutRoom(n) => with_one(OUT_ROOM, n),
-        Said::NoPiece => alone(NO_ATOM),
-        Said::Overpop => alone(OVERPOP),
-        Said::BadTable => alone(BAD_TABLE),
-    }
+    words_of(desk_answer::of_writer(s))
 }
 
 // Of the pool's call for two atoms. 0 carries the ring number.

@@ -15,11 +15,11 @@ use Rattle.feature.specs.declared.atom_kind.Inverted.{Inverted}
 use Rattle.feature.specs.declared.atom_kind.Inverted.the-variants.{Turned, Refused}
 use Rattle.feature.specs.declared.bond_kind.BondKind.{BondKind}
 use Rattle.feature.proofs.Cases.{by-test, impossible}
-use Rattle.builder.specs.State.{inversion, atomRoom, bondRoom}
+use Rattle.desk_numbers.specs.Numbers.{inversion, atomRoom, bondRoom, nesting}
 use Rattle.read_token.specs.declared.scanner.Missing.{Missing}
 use Rattle.read_token.specs.declared.scanner.Missing.the-variants as missing
 use Rattle.read_line.specs.declared.lead.Lead.the-variants.{Dot, Bond}
-use Rattle.read_line.specs.Events.{ReadEvent, Enter, Join, Pop, Miss, Nest, nesting}
+use Rattle.read_line.specs.Events.{ReadEvent, Enter, Join, Pop, Miss, Nest}
 use Rattle.builder_meaning.specs.Sketch.{Node, Held, Failure, None, Failed, Sketch, node, refused, nextNumber, countOf, upd, edgesAt, openKind, lookup, firstOf, rootS, bondedS, extendS, openedS, closedS, ringS, joinS, judgedS, enterS, numberS, missedS, stepS}
 use Rattle.builder_meaning.proofs.Rows.{upd-length}
 use Rattle.read.specs.declared.Answer.{Answer}

@@ -10,8 +10,8 @@ use Rattle.feature.proofs.Cases.{by-either, impossible}
 use Rattle.builder.specs.Limits.{textLimit, atomLimit, bondLimit, fewAtoms, lesserOf}
 use Rattle.packing.specs.Words.{atomWords, bondWords}
 use Rattle.builder.specs.Rings.{ringNumberCount}
-use Rattle.builder.specs.State.{Bld, entryWords, inversion, atomRoom, bondRoom}
-use Rattle.read_line.specs.Events.{endOfLine, character, nesting}
+use Rattle.builder.specs.State.{Bld, entryWords}
+use Rattle.desk_numbers.specs.Numbers.{inversion, atomRoom, bondRoom, endOfLine, character, nesting}
 use Rattle.builder.specs.declared.build.Built.{Built}
 use Rattle.builder.specs.declared.build.Built.the-variants as built
 use Rattle.builder_meaning.specs.Sketch.{Sketch, BothEnds, sketchOf, finishS, atomTable, bondTable, padded, leftS}

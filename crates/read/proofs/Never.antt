@@ -17,6 +17,7 @@ use Rattle.feature.specs.declared.atom_kind.Inverted.the-variants.{Turned, Refu
 use Rattle.feature.specs.declared.bond_kind.BondKind.{BondKind}
 use Rattle.feature.specs.declared.bond_kind.Reconciled.{Reconciled}
 use Rattle.feature.specs.declared.bond_kind.Reconciled.the-variants.{Both, Fails}
+use Rattle.desk_numbers.specs.Numbers.{endOfLine, character, inversion, atomRoom, bondRoom, nesting}
 use Rattle.feature.proofs.Cases.{by-either, by-test, impossible}
 use Rattle.read_token.specs.Scan.{peekAt, atomAt, rnumAt}
 use Rattle.read_token.specs.declared.scanner.Found.{Found}
@@ -26,11 +27,11 @@ use Rattle.read_token.specs.declared.scanner.Missing.the-variants.{EndOfLine, C
 use Rattle.read_token.specs.declared.read_rnum.Ring.{Ring}
 use Rattle.read_token.specs.declared.read_rnum.Ring.the-variants as ring
 use Rattle.builder.specs.Limits.{textLimit, branchLimit}
-use Rattle.builder.specs.State.{Bld, bld, state, refusedSt, refuse, inversion, atomRoom, bondRoom, entered, bonded, rootOf, extendedBy, extendOf, openedOf, lastOf, openingOf, openingKind, failedSt, closedBy, joinOf, popOf}
+use Rattle.builder.specs.State.{Bld, bld, state, refusedSt, refuse, entered, bonded, rootOf, extendedBy, extendOf, openedOf, lastOf, openingOf, openingKind, failedSt, closedBy, joinOf, popOf}
 use Rattle.builder.specs.declared.builder.Builder.{Builder}
 use Rattle.read_line.specs.declared.lead.Lead.{Lead}
 use Rattle.read_line.specs.declared.lead.Lead.the-variants.{Dot, Bond}
-use Rattle.read_line.specs.Events.{ReadEvent, on, Enter, Join, Pop, Miss, Nest, endOfLine, character, nesting, countedSt, markJudged, unstoredOf, ledOf, enterOf, ringOf, missingSt, step, run}
+use Rattle.read_line.specs.Events.{ReadEvent, on, Enter, Join, Pop, Miss, Nest, countedSt, markJudged, unstoredOf, ledOf, enterOf, ringOf, missingSt, step, run}
 use Rattle.read_line.specs.Parse.{Rest, oneOf, ledAt, bodyAt, missP, foundP, atomP, ringP, unionBy, unionP, unitBy, unitP, lineP, closeP, branchP, bodies, endP, parse}
 use Rattle.builder.specs.declared.build.Built.{Built}
 use Rattle.builder.specs.declared.build.Built.the-variants as built

@@ -8,6 +8,7 @@ use lib.ListN.{length, replicate}
 use lib.Dec.{ltb, eqb}
 use borrow.Author.Tests.{eq-eqb, ne-eqb, eqb-true, eqb-false}
 use Rattle.feature.specs.Pick.{pick}
+use Rattle.desk_numbers.specs.Numbers.{character}
 use Rattle.packing.specs.Words.{atomWords, bondWords}
 use Rattle.builder.specs.Limits.{textLimit, branchLimit, atomLimit, bondLimit, lesserOf}
 use Rattle.builder.specs.State.{Bld, bld, freshBuilder, refusedSt}
@@ -16,7 +17,7 @@ use Rattle.builder.specs.Build.{BuildOutcome, outcome, Tables, tables, buildOf}
 use Rattle.builder.specs.declared.build.Built.{Built}
 use Rattle.read_token.specs.declared.scanner.Missing.the-variants.{Character}
 use Rattle.read_line.specs.declared.lead.Lead.the-variants.{Dot}
-use Rattle.read_line.specs.Events.{Miss, on, character, missingSt, run}
+use Rattle.read_line.specs.Events.{Miss, on, missingSt, run}
 use Rattle.read_line.specs.Parse.{parse, endP}
 use Rattle.read_line.specs.Steps.{reachedAt, LineRead, ReadReady}
 use Rattle.read_line.proofs.Turn.{run-stuck, run-miss, run-end}

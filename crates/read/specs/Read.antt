@@ -3,10 +3,9 @@ use Prim.Native.Nat.{ℕ}
 use mathlib.Core.List.{List}
 use lib.Dec.{eqb}
 use Rattle.feature.specs.Pick.{pick}
-use Rattle.builder.specs.State.{inversion, atomRoom, bondRoom}
+use Rattle.desk_numbers.specs.Numbers.{inversion, atomRoom, bondRoom, endOfLine, character, nesting}
 use Rattle.builder.specs.declared.build.Built.{Built}
 use Rattle.builder.specs.declared.build.Built.the-variants as built
-use Rattle.read_line.specs.Events.{endOfLine, character, nesting}
 use Rattle.read.specs.declared.Answer.{Answer}
 use Rattle.read.specs.declared.Answer.the-variants.{Done, EndOfLine, Character, Join, Rnum, Inversion, AtomRoom, BondRoom, Nesting, NoAtom}
 

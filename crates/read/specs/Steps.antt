@@ -6,13 +6,14 @@ use mathlib.Core.List.{List}
 use lib.ListN.{length, replicate}
 use lib.Dec.{ltb, eqb}
 use Rattle.feature.specs.Pick.{pick}
+use Rattle.desk_numbers.specs.Numbers.{character}
 use Rattle.packing.specs.Words.{atomWords, bondWords}
 use Rattle.builder.specs.Limits.{textLimit, atomLimit, bondLimit, lesserOf, fewAtoms}
 use Rattle.builder.specs.Rings.{ringNumberCount}
 use Rattle.builder.specs.State.{Bld, bld, freshBuilder, refusedSt, entryWords}
 use Rattle.builder.specs.declared.builder.Builder.{Builder}
 use Rattle.builder.specs.Build.{BuildOutcome, tables, buildOf}
-use Rattle.read_line.specs.Events.{run, character}
+use Rattle.read_line.specs.Events.{run}
 use Rattle.read_line.specs.Parse.{parse}
 use Rattle.read_line.specs.declared.line.Reached.{Reached}
 use Rattle.read.specs.declared.Answer.the-variants.{TextTooLong}

@@ -12,6 +12,7 @@ use Rattle.feature.specs.Pick.{pick}
 use Rattle.feature.specs.Text.{byte, bytes}
 use Rattle.feature.specs.declared.atom_kind.AtomKind.{AtomKind}
 use Rattle.feature.specs.declared.bond_kind.BondKind.{BondKind}
+use Rattle.desk_numbers.specs.Numbers.{nesting}
 use Rattle.read_token.specs.Scan.{peekAt, missingAt, bondAt, atomAt, rnumAt}
 use Rattle.read_token.specs.declared.scanner.Found.the-variants.{Atom, Nothing, Lacks}
 use Rattle.read_token.specs.declared.scanner.Missing.{Missing}
@@ -23,7 +24,7 @@ use Rattle.builder.specs.State.{Bld, refusedSt, poppedSt, popOf}
 use Rattle.read_line.specs.declared.lead.Lead.{Lead}
 use Rattle.read_line.specs.declared.lead.Lead.the-variants.{Dot, Bond}
 use Rattle.read_line.specs.declared.lead.Led.{Led}
-use Rattle.read_line.specs.Events.{ReadEvent, Pop, Miss, Nest, on, nesting, enterOf, ringOf, missingSt, step, run}
+use Rattle.read_line.specs.Events.{ReadEvent, Pop, Miss, Nest, on, enterOf, ringOf, missingSt, step, run}
 use Rattle.read_line.specs.Parse.{Rest, ledAt, oneOf, bodyOf, bodyAt, missP, foundP, atomP, ringP, unionBy, unionP, unitBy, unitP, lineP, closeP, branchP, bodies}
 use Rattle.read_line.specs.Steps.{reachedAt, reachedMissing, reachedClosed, Counted, ReadReady, Moved, AtomRead, RingRead, UnionRead, UnitRead, RestRead, LineRead, BranchRead}
 use Rattle.read_line.proofs.Counts.{counted-more, enter-at, ring-at, pop-at, refused-at, missing-at, missing-not}

@@ -10,22 +10,13 @@ use Rattle.feature.specs.declared.atom_kind.AtomKind.{AtomKind}
 use Rattle.feature.specs.declared.atom_kind.Inverted.{Inverted}
 use Rattle.feature.specs.declared.atom_kind.Inverted.the-variants.{Turned, Refused}
 use Rattle.feature.specs.declared.bond_kind.BondKind.{BondKind}
+use Rattle.desk_numbers.specs.Numbers.{inversion, endOfLine, character, nesting}
 use Rattle.read_token.specs.declared.scanner.Missing.{Missing}
 use Rattle.read_token.specs.declared.scanner.Missing.the-variants.{EndOfLine, Character}
 use Rattle.builder.specs.declared.builder.Builder.{Builder}
-use Rattle.builder.specs.State.{Bld, bld, state, refusedSt, inversion, rootOf, extendOf, joinOf, popOf}
+use Rattle.builder.specs.State.{Bld, bld, state, refusedSt, rootOf, extendOf, joinOf, popOf}
 use Rattle.read_line.specs.declared.lead.Lead.{Lead}
 use Rattle.read_line.specs.declared.lead.Lead.the-variants.{Dot, Bond}
-
--- the desk's numbers
-abbrev pub endOfLine : ℕ
-endOfLine = 1
-
-abbrev pub character : ℕ
-character = 2
-
-abbrev pub nesting : ℕ
-nesting = 15
 
 -- an atom with what leads it in, at the place of its first byte; a ring number, at its first byte; so many atoms off the
 -- path; something missing; a branch too many

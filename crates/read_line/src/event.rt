@@ -9,19 +9,17 @@ ghost use Rattle.builder.specs.Steps.{SmallCounts};
 ghost use Rattle.read_line.specs.Events.{countedSt, unstoredOf, missingSt, enterOf, ringOf};
 use crate::lead::Lead;
 use builder::builder::Builder;
-use builder::builder::INVERSION;
 use builder::builder::extend;
 use builder::builder::join;
 use builder::builder::root;
+use desk_numbers::CHARACTER;
+use desk_numbers::END_OF_LINE;
+use desk_numbers::INVERSION;
 use feature::atom_kind::AtomKind;
 use feature::atom_kind::Inverted;
 use feature::atom_kind::invert;
 use feature::bond_kind::BondKind;
 use read_token::scanner::Missing;
-
-pub const END_OF_LINE: u32 = 1;
-
-pub const CHARACTER: u32 = 2;
 
 // One atom more, not stored.
 fn count(b: Builder) -> Builder

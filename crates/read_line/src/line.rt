@@ -15,6 +15,7 @@ use crate::lead::Lead;
 use crate::lead::body;
 use crate::lead::read_lead;
 use builder::builder::Builder;
+use desk_numbers::NESTING;
 use feature::bond_kind::BondKind;
 use read_atom::scanner::first_atom;
 use read_atom::scanner::missing_character;
@@ -22,9 +23,6 @@ use read_atom::scanner::peek;
 use read_token::read_rnum::Ring;
 use read_token::read_rnum::read_rnum;
 use read_token::scanner::Found;
-
-// The desk's number of a branch too many.
-pub const NESTING: u32 = 15;
 
 // Where a reading ended, how many atoms its line then has, and the builder.
 pub struct Reached {

@@ -1,13 +1,13 @@
 // Requests about a line: `read` and `readbytes`, its graph, and `readin A B`, the same into tables of A and B words.
 ghost use Prim.Native.Nat.{_≤_};
 ghost use lib.ListN.{length};
-use answer_text::desk::DONE;
 use answer_text::desk::print_said;
-use answer_text::said::of_read;
 use answer_text::tables::print_graph;
 use builder::limits::ATOMS;
 use builder::limits::BONDS;
 use check::same;
+use desk_answer::of_read;
+use desk_numbers::DONE;
 use oracle_form::byte::pass;
 use oracle_form::byte::put;
 use oracle_form::byte::put_word;

@@ -2,14 +2,14 @@
 // `writerin ROOM PIECES EVENTS`, the same with room for so many bytes and pieces. The first refused event ends them.
 ghost use Prim.Native.Nat.{_≤_};
 ghost use lib.ListN.{length};
-use answer_text::desk::DONE;
-use answer_text::desk::Said;
-use answer_text::desk::alone;
 use answer_text::desk::print_said;
-use answer_text::said::of_wrote;
 use builder::limits::ATOMS;
 use builder::limits::BONDS;
 use check::same;
+use desk_answer::Said;
+use desk_answer::alone;
+use desk_answer::of_writer;
+use desk_numbers::DONE;
 use oracle_form::byte::pass;
 use oracle_form::byte::put;
 use oracle_form::byte::put_word;
@@ -18,11 +18,6 @@ use oracle_form::event::Event;
 use oracle_form::number;
 use oracle_form::text;
 use writer::Writer;
-use writer::Wrote;
-use writer::event::extend;
-use writer::event::join;
-use writer::event::pop;
-use writer::event::root;
 
 // Room for the longest line of the largest graph, and one piece more than a writer may hold.
 const LINE: usize = 24 * ATOMS + 4 * BONDS;
@@ -41,10 +36,10 @@ struct Told {
     said: Said,
 }
 
-fn tell(w: Writer, wrote: Wrote) -> Told {
-    let said = of_wrote(wrote);
-    match wrote {
-        Wrote::Held(held) => Told { w: held, said },
+fn tell(w: Writer, answer: desk_writer::Said) -> Told {
+    let said = of_writer(answer);
+    match answer {
+        desk_writer::Said::Held(held) => Told { w: held, said },
         _ => Told { w, said },
     }
 }
@@ -64,15 +59,15 @@ fn take(line: &mut [u8], starts: &mut [u32], w: Writer, event: Event) -> Told {
         return unreadable(w);
     }
     match event {
-        Event::Root(k) => tell(w, root(line, starts, w, k)),
-        Event::Extend(b, k) => tell(w, extend(line, starts, w, b, k)),
+        Event::Root(k) => tell(w, desk_writer::root(line, starts, w, k)),
+        Event::Extend(b, k) => tell(w, desk_writer::extend(line, starts, w, b, k)),
         Event::Join(b, n) => {
             if HIGHEST < n {
                 return unreadable(w);
             }
-            tell(w, join(line, starts, w, b, n as u32))
+            tell(w, desk_writer::join(line, starts, w, b, n as u32))
         }
-        Event::Pop(d) => tell(w, pop(line, starts, w, d)),
+        Event::Pop(d) => tell(w, desk_writer::pop(line, starts, w, d)),
         Event::Bad => unreadable(w),
     }
 }

@@ -10,6 +10,7 @@ use borrow.Author.Tests.{le-ltb, ltb-true, ne-eqb}
 use Rattle.feature.proofs.Cases.{impossible}
 use Rattle.packing.specs.Words.{atomWords, bondWords}
 use Rattle.builder.specs.Limits.{textLimit, atomLimit, bondLimit, branchLimit, lesserOf}
+use Rattle.desk_numbers.specs.Numbers.{nesting}
 use Rattle.read_line.specs.Events as reader
 use Rattle.read_line.specs.Parse.{parse}
 use Rattle.writer.specs.Line.{Event, Join, Pop}
@@ -76,7 +77,7 @@ ends-at (a ∷ A) (y ∷ x) e =
 -- ---- a builder
 -- as much as comes before a branch too many is built, and then that branch is refused
 nest-refused : (d : Sketch) (x A B : List reader.ReadEvent) → runS d (A ++ B) .refusal ≡ 0 → unplaced x ≡ A ++ (reader.Nest 0 ∷ [])
-    → runS d x .refusal ≡ reader.nesting
+    → runS d x .refusal ≡ nesting
 unfolding stepS
 nest-refused d x A B h e =
     let r = ends-at A x e in
@@ -88,17 +89,17 @@ nest-refused d x A B h e =
     ∙ ap (λ (c : Sketch). c .refusal) (run-one (runS d (r .front)) (reader.Nest (r .place)) o)
 
 says-refused : (d : Sketch) {w room : ℕ} (D x : List reader.ReadEvent) → room < w → runS d D .refusal ≡ 0 → SaysWithin w room D x
-    → runS d x .refusal ≡ reader.nesting
+    → runS d x .refusal ≡ nesting
 says-refused d D x l h (all g e) = absurd (omega arith)
 says-refused d D x l h (cut A B g q e) =
     nest-refused d x A B (ap (λ (c : List reader.ReadEvent). runS d c .refusal) (sym q) ∙ h) e
 
 -- ---- the answer
-refused-answer : (s : List ℕ) (la lb : ℕ) → length s ≤ textLimit → sketchOf s la lb .refusal ≡ reader.nesting
+refused-answer : (s : List ℕ) (la lb : ℕ) → length s ≤ textLimit → sketchOf s la lb .refusal ≡ nesting
     → read.readText s la lb .answer ≡ answer.Nesting (sketchOf s la lb .carried)
 unfolding read.readText read.wholeOrRefused readRefusal
 refused-answer s la lb short e =
-    rw (le-ltb textLimit (length s) short, ne-eqb (sketchOf s la lb .refusal) 0 (λ z. let y : reader.nesting ≡ 0 = sym e ∙ z in omega arith), e)
+    rw (le-ltb textLimit (length s) short, ne-eqb (sketchOf s la lb .refusal) 0 (λ z. let y : nesting ≡ 0 = sym e ∙ z in omega arith), e)
 
 -- where more branches are open at once than the reader has room for, and the rest of the limits is kept, the answer is 15
 pub turns-too-deep : (room : ℕ) (atoms : List ℕ) (n : ℕ) (bonds : List ℕ) (m len : ℕ) (out : List ℕ) (la lb : ℕ)
@@ -115,7 +116,7 @@ turns-too-deep room atoms n bonds m len out la lb P e short deep ra rb =
     let k : branchLimit < depth es =
     ltb-true branchLimit (depth es) (sym (line-nests room atoms n bonds m len out P e) ∙ ap (λ (x : List ℕ). hasNest (parse x)) (sym l) ∙ deep) in
     let s = retold-line atomLimit es (walk-says room atoms n bonds m len out P e) (walk-told room atoms n bonds m len out P e) (walk-spelled room atoms n bonds m len out P e) (walk-accepted room atoms n bonds m len out P e) in
-    let r : runS b (parse (lineSaid es)) .refusal ≡ reader.nesting =
+    let r : runS b (parse (lineSaid es)) .refusal ≡ nesting =
     says-refused b (retold es) (parse (lineSaid es)) k (t .refusal) s in
     (_, refused-answer (take len out) la lb short (ap (λ (x : List ℕ). runS b (parse x) .refusal) l ∙ r))
 

@@ -21,7 +21,7 @@ use Rattle.feature.proofs.Cases.{by-eq}
 use Rattle.read_line.specs.declared.lead.Lead.the-variants.{Dot, Bond as Bonded}
 use Rattle.read_line.specs.Events.{ReadEvent, Enter, Join, Pop}
 use Rattle.writer.specs.Line as writer
-use Rattle.builder.specs.State.{atomRoom, bondRoom}
+use Rattle.desk_numbers.specs.Numbers.{atomRoom, bondRoom}
 use Rattle.builder_meaning.specs.Sketch.{To, Open, Node, Held, None, Sketch, edge, node, held, refused, atomAdded, joined, nextNumber, countOf, upd, edgesAt, addEdge, openKind, fill, lookup, ringFreed, rootS, bondedS, extendS, openedS, closedS, ringS, joinS, enterS, numberS, stepS, runS}
 use Rattle.builder_meaning.proofs.Rows.{count-append, count-add, count-fill, upd-length}
 use Rattle.walk_entry.specs.Graph.{BondEntry, Graph, entryTo}

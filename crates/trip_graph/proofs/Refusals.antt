@@ -10,13 +10,14 @@ use lib.ListN.{getD}
 use lib.Dec.{leb, eqb}
 use borrow.Author.Tests.{eqb-true, leb-true, leb-false}
 use Rattle.feature.specs.Pick.{both}
+use Rattle.desk_numbers.specs.Numbers.{unknownTarget, ringNumbers, inversion}
 use Rattle.join_pool.specs.declared.Given.{Given}
 use Rattle.join_pool.specs.declared.Given.the-variants.{Number, Full}
 use Rattle.walk_entry.specs.declared.entry.Way.{Way}
 use Rattle.walk_entry.specs.Graph.{BondEntry, Graph, kindAt, degreeAt, bondOf}
-use Rattle.walk_entry.specs.Ways.{isFixed, even, inversion}
+use Rattle.walk_entry.specs.Ways.{isFixed, even}
 use Rattle.walk.specs.declared.walker.Walker.{Walker}
-use Rattle.walk.specs.Walk.{Walk, Turn, quiet, withWalker, tookAt, leftIn, rootTurn, leaveOf, numberedOf, ringTurn, enteredOf, enterTurn, bondTurn, entryTurn, atomOf, turnOf, stepOf, walkTo, unknownTarget, ringNumbers}
+use Rattle.walk.specs.Walk.{Walk, Turn, quiet, withWalker, tookAt, leftIn, rootTurn, leaveOf, numberedOf, ringTurn, enteredOf, enterTurn, bondTurn, entryTurn, atomOf, turnOf, stepOf, walkTo}
 use Rattle.walk_laws.specs.Trek.{Room, fresh}
 use Rattle.feature.proofs.Cases.{by-test, both-first, clash}
 use Rattle.walk_laws.proofs.Moves.{turn-moves}

@@ -8,11 +8,12 @@ use native.Mathlib.Omega.{arith}
 use borrow.Author.Tests.{eq-eqb, ne-eqb}
 use Rattle.feature.specs.Pick.{pick, both}
 use Rattle.feature.specs.Bonds.{codeOf, reverseOf}
+use Rattle.desk_numbers.specs.Numbers.{inversion}
 use Rattle.feature.proofs.Cases.{by-eq}
 use Rattle.walk_entry.specs.declared.entry.Back.the-variants.{Found, Fixed}
 use Rattle.walk_entry.specs.declared.entry.Way.the-variants.{Enters, Refuses}
 use Rattle.walk_entry.specs.Graph.{Graph, kindAt, degreeAt, bondIn, bondOf}
-use Rattle.walk_entry.specs.Ways.{isFixed, even, scanIn, judgedBack, wayOf, inversion}
+use Rattle.walk_entry.specs.Ways.{isFixed, even, scanIn, judgedBack, wayOf}
 use Rattle.trip_graph.specs.Renumber.{Backed, Simple}
 use Rattle.trip_graph.proofs.Lists.{by-bool}
 

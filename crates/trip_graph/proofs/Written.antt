@@ -13,9 +13,8 @@ use Rattle.builder.specs.Limits.{atomLimit, bondLimit, lesserOf}
 use Rattle.read_line.specs.Events as reader
 use Rattle.builder_meaning.specs.Sketch.{Sketch, countOf, startS, runS}
 use Rattle.walk_entry.specs.Graph.{kindAt}
-use Rattle.walk_entry.specs.Ways.{halfBond, duplicateBond, incompatibleBond, inversion}
+use Rattle.desk_numbers.specs.Numbers.{halfBond, duplicateBond, incompatibleBond, inversion, unknownTarget, loop}
 use Rattle.walk.specs.declared.walker.Walker.{Walker}
-use Rattle.walk.specs.Walk.{unknownTarget, loop}
 use Rattle.table_check.specs.Judge.{badRecord}
 use Rattle.table_check.proofs.Records.{bad-most}
 use Rattle.write.specs.declared.answer.Written.{Written}

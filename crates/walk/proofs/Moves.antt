@@ -7,6 +7,7 @@ use native.Mathlib.Omega.{arith}
 use lib.ListN.{getD}
 use borrow.Author.Tests.{eq-eqb, ne-eqb}
 use Rattle.feature.specs.declared.bond_kind.BondKind.{BondKind}
+use Rattle.desk_numbers.specs.Numbers.{ringNumbers}
 use Rattle.feature.proofs.Cases.{impossible}
 use Rattle.join_pool.specs.declared.Pool.{Pool}
 use Rattle.join_pool.specs.declared.Given.{Given}
@@ -22,7 +23,7 @@ use Rattle.walk.specs.declared.walker.Walker.{Walker}
 use Rattle.join_pool.specs.Strokes.{answerApart}
 use Rattle.join_pool.specs.declared.lent.Told.the-variants as told
 use Rattle.walk.specs.declared.walker.Numbered.{Numbered}
-use Rattle.walk.specs.Walk.{Walk, walk, Turn, quiet, numberedIn, refusedAs, rootPassed, standingAt, backAt, atEnd, ringSaid, popsOf, popsThen, leftIn, numberedOf, ringTurn, ringNumbers}
+use Rattle.walk.specs.Walk.{Walk, walk, Turn, quiet, numberedIn, refusedAs, rootPassed, standingAt, backAt, atEnd, ringSaid, popsOf, popsThen, leftIn, numberedOf, ringTurn}
 use Rattle.walk.specs.Steps.{Did, TurnOnward, TurnGrows}
 
 -- ---- how far

@@ -8,6 +8,7 @@ use lib.ListN.{getD, set}
 use borrow.Author.Tests.{le-leb, lt-leb, eq-eqb, ne-eqb}
 use Rattle.feature.specs.declared.atom_kind.AtomKind.{AtomKind}
 use Rattle.feature.specs.declared.bond_kind.BondKind.{BondKind}
+use Rattle.desk_numbers.specs.Numbers.{unknownTarget, loop}
 use Rattle.writer.specs.Line.{Root, Extend}
 use Rattle.writer.specs.Tables.{Spoken, sayT, sayAll}
 use Rattle.walk_entry.specs.declared.entry.Way.{Way}
@@ -15,7 +16,7 @@ use Rattle.walk_entry.specs.declared.entry.Way.the-variants.{Enters, Refuses}
 use Rattle.walk_entry.specs.Graph.{BondEntry, Graph, kindAt, degreeAt, bondOf}
 use Rattle.walk_entry.specs.Ways.{saidAs, wayOf}
 use Rattle.walk.specs.declared.walker.Walker.{Walker}
-use Rattle.walk.specs.Walk.{Walk, walk, refusedAs, rootPassed, standingAt, metAt, tookAt, popsOf, leftIn, rootTurn, ringTurn, enteredOf, enterTurn, bondTurn, entryTurn, atomOf, turnOf, unknownTarget, loop}
+use Rattle.walk.specs.Walk.{Walk, walk, refusedAs, rootPassed, standingAt, metAt, tookAt, popsOf, leftIn, rootTurn, ringTurn, enteredOf, enterTurn, bondTurn, entryTurn, atomOf, turnOf}
 use Rattle.walk.specs.Steps.{Did}
 use Rattle.walk.proofs.Moves.{did-as, did-quiet, say-one, say-then}
 

@@ -11,6 +11,7 @@ use lib.ListN.{getD, set}
 use lib.Dec.{leb, eqb}
 use Rattle.feature.specs.Pick.{pick}
 use Rattle.feature.specs.declared.bond_kind.BondKind.{BondKind}
+use Rattle.desk_numbers.specs.Numbers.{unknownTarget, loop, ringNumbers}
 use Rattle.join_pool.specs.declared.Pool.{Pool}
 use Rattle.join_pool.specs.declared.Given.{Given}
 use Rattle.join_pool.specs.declared.Given.the-variants.{Number, Full}
@@ -23,16 +24,6 @@ use Rattle.walk_entry.specs.Graph.{BondEntry, Graph, kindAt, degreeAt, bondIn, 
 use Rattle.walk_entry.specs.Ways.{saidAs, wayOf}
 use Rattle.walk.specs.declared.walker.Walker.{Walker}
 use Rattle.walk.specs.declared.walker.Numbered.{Numbered}
-
--- the desk's numbers of the refusals that are met here; those of a new atom's entries stand in `Ways`
-abbrev pub unknownTarget : ℕ
-unknownTarget = 5
-
-abbrev pub loop : ℕ
-loop = 6
-
-abbrev pub ringNumbers : ℕ
-ringNumbers = 11
 
 -- ---- how far a walk has come
 -- at: the next root to try, the atom that stands, the atoms left since the last event, how many were met, the pool's numbers

@@ -9,13 +9,6 @@ use join_pool::Pool;
 use join_pool::lent;
 use join_pool::lent::Told;
 
-// The desk's numbers of the walk's refusals.
-pub const UNKNOWN_TARGET: u32 = 5;
-
-pub const LOOP: u32 = 6;
-
-pub const RING_NUMBERS: u32 = 11;
-
 pub struct Walker {
     // The next root to try.
     pub next: u32,

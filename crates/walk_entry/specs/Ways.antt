@@ -12,25 +12,13 @@ use Rattle.feature.specs.declared.atom_kind.AtomKind.{AtomKind}
 use Rattle.feature.specs.declared.atom_kind.Inverted.{Inverted}
 use Rattle.feature.specs.declared.atom_kind.Inverted.the-variants as inverted
 use Rattle.feature.specs.declared.bond_kind.BondKind.{BondKind}
+use Rattle.desk_numbers.specs.Numbers.{halfBond, duplicateBond, incompatibleBond, inversion}
 use Rattle.walk_entry.specs.declared.entry.Back.{Back}
 use Rattle.walk_entry.specs.declared.entry.Back.the-variants.{Found, Twice, Fixed}
 use Rattle.walk_entry.specs.declared.entry.Way.{Way}
 use Rattle.walk_entry.specs.declared.entry.Way.the-variants.{Enters, Refuses}
 use Rattle.walk_entry.specs.Graph.{Graph, kindAt, degreeAt, bondIn, bondOf}
 use Rattle.feature.specs.Kinds.{turnedOr}
-
--- the desk's numbers of the refusals
-abbrev pub halfBond : ℕ
-halfBond = 7
-
-abbrev pub duplicateBond : ℕ
-duplicateBond = 8
-
-abbrev pub incompatibleBond : ℕ
-incompatibleBond = 9
-
-abbrev pub inversion : ℕ
-inversion = 10
 
 -- ---- the mark of an atom
 -- whether its mark can't be turned

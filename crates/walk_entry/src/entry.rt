@@ -10,20 +10,15 @@ use crate::table::degree_at;
 use crate::table::kind_at;
 use crate::table::same_kind;
 use crate::table::target_at;
+use desk_numbers::DUPLICATE_BOND;
+use desk_numbers::HALF_BOND;
+use desk_numbers::INCOMPATIBLE_BOND;
+use desk_numbers::INVERSION;
 use feature::atom_kind::AtomKind;
 use feature::atom_kind::Inverted;
 use feature::atom_kind::invert;
 use feature::bond_kind::BondKind;
 use feature::bond_kind::reverse;
-
-// The desk's numbers of the refusals.
-pub const HALF_BOND: u32 = 7;
-
-pub const DUPLICATE_BOND: u32 = 8;
-
-pub const INCOMPATIBLE_BOND: u32 = 9;
-
-pub const INVERSION: u32 = 10;
 
 pub enum Back {
     // The place of the one entry back, from 1, or 0 for none.

@@ -14,6 +14,7 @@ use Rattle.feature.proofs.Cases.{by-test, by-eq}
 use Rattle.feature.specs.Pick.{pick}
 use Rattle.feature.specs.Bonds.{sameKind, reverseOf}
 use Rattle.feature.specs.declared.bond_kind.BondKind.{BondKind}
+use Rattle.desk_numbers.specs.Numbers.{unknownTarget, loop, ringNumbers}
 use Rattle.join_pool.specs.declared.Pool.{Pool}
 use Rattle.join_pool.specs.declared.Given.{Given}
 use Rattle.join_pool.specs.declared.Given.the-variants.{Number, Full}
@@ -26,7 +27,7 @@ use Rattle.walk_entry.specs.declared.entry.Way.the-variants.{Enters, Refuses}
 use Rattle.walk_entry.specs.Graph.{BondEntry, Graph, kindAt, degreeAt, bondIn, bondOf}
 use Rattle.walk_entry.specs.Ways.{saidAs, judgedBack, scanOf, wayOf}
 use Rattle.walk.specs.declared.walker.Walker.{Walker}
-use Rattle.walk.specs.Walk.{Walk, Turn, turn, quiet, refuseTurn, rootPassed, backAt, atEnd, withWalker, metAt, tookAt, pooled, popsThen, leftIn, rootTurn, leaveOf, numberedOf, ringTurn, enteredOf, enterTurn, bondTurn, entryTurn, atomOf, turnOf, stepOf, walkTo, eventsOf, turnsOf, unknownTarget, loop, ringNumbers}
+use Rattle.walk.specs.Walk.{Walk, Turn, turn, quiet, refuseTurn, rootPassed, backAt, atEnd, withWalker, metAt, tookAt, pooled, popsThen, leftIn, rootTurn, leaveOf, numberedOf, ringTurn, enteredOf, enterTurn, bondTurn, entryTurn, atomOf, turnOf, stepOf, walkTo, eventsOf, turnsOf}
 use Rattle.walk_laws.specs.Trek.{fresh, degrees, Finished, leastWalk, leastSaid}
 use Rattle.walk_laws.specs.Plain.{Trail, Outcome, Goes, Refused, Visit, andThen, numberFrom, numberIn, meets, leaves, joins, rings, enters, follows, entriesFrom, visitOf, rootsFrom, startTrail, plainWalk}
 use Rattle.walk_laws.specs.OneWalk.{trailOf, refusalIn, HoldTrail, OneWalk}

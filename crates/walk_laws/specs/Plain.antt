@@ -7,6 +7,7 @@ use lib.ListN.{set, replicate}
 use lib.Dec.{leb, eqb}
 use Rattle.feature.specs.Pick.{pick}
 use Rattle.feature.specs.declared.bond_kind.BondKind.{BondKind}
+use Rattle.desk_numbers.specs.Numbers.{unknownTarget, loop, ringNumbers}
 use Rattle.join_pool.specs.declared.Pool.{Pool}
 use Rattle.join_pool.specs.declared.Given.{Given}
 use Rattle.join_pool.specs.declared.Given.the-variants.{Number, Full}
@@ -16,7 +17,7 @@ use Rattle.walk_entry.specs.declared.entry.Way.{Way}
 use Rattle.walk_entry.specs.declared.entry.Way.the-variants.{Enters, Refuses}
 use Rattle.walk_entry.specs.Graph.{BondEntry, Graph, kindAt, degreeAt, bondOf}
 use Rattle.walk_entry.specs.Ways.{saidAs, wayOf}
-use Rattle.walk.specs.Walk.{unknownTarget, loop, ringNumbers, popsThen}
+use Rattle.walk.specs.Walk.{popsThen}
 
 -- What a walk has done: the atoms met, in walk order; for each atom the place, from 1, of its entry back to the atom that it was
 -- reached from, 0 for a root; the pool and its words; how many atoms were left since the last event; and the events said.

@@ -15,9 +15,9 @@ use Rattle.builder.specs.Build.{entryStarts, sumOf}
 use Rattle.table_check.specs.Judge.{badRecord}
 use Rattle.writer.specs.Line.{Event, lineOf, writeEvents}
 use Rattle.walk_entry.specs.Graph.{Graph, graph}
-use Rattle.walk_entry.specs.Ways.{halfBond, duplicateBond, incompatibleBond, inversion}
+use Rattle.desk_numbers.specs.Numbers.{halfBond, duplicateBond, incompatibleBond, inversion, unknownTarget, loop}
 use Rattle.walk.specs.declared.walker.Walker.{Walker}
-use Rattle.walk.specs.Walk.{Walk, walkTo, eventsOf, turnsOf, unknownTarget, loop}
+use Rattle.walk.specs.Walk.{Walk, walkTo, eventsOf, turnsOf}
 use Rattle.walk_laws.specs.Trek.{Room, fresh, leastWalk, leastSaid}
 use Rattle.walk_laws.specs.Steps.{longer, longerGraph, longerWalk, Lengths, ExactWalk}
 use Rattle.feature.proofs.Cases.{by-test}

@@ -14,8 +14,8 @@ use Rattle.builder.specs.Build.{entryStarts}
 use Rattle.table_check.specs.Judge.{badRecord}
 use Rattle.table_check.proofs.Records.{bad-most}
 use Rattle.walk.specs.declared.walker.Walker.{Walker}
-use Rattle.walk_entry.specs.Ways.{halfBond, duplicateBond, incompatibleBond, inversion}
-use Rattle.walk.specs.Walk.{turnsOf, unknownTarget, loop}
+use Rattle.desk_numbers.specs.Numbers.{halfBond, duplicateBond, incompatibleBond, inversion, unknownTarget, loop}
+use Rattle.walk.specs.Walk.{turnsOf}
 use Rattle.walk_laws.specs.Trek.{Room, AllAccepted, degrees, Finished}
 use Rattle.feature.proofs.Cases.{by-test}
 use Rattle.walk_laws.proofs.Accepted.{accepted}

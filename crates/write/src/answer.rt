@@ -1,13 +1,13 @@
 // The answer of the write call and of the walk order: a variant for each of the desk's numbers that they give.
 ghost use mathlib.Core.Path.{_≡_};
 ghost use Rattle.write.specs.Write.{writeRefusal};
-use walk::walker::LOOP;
-use walk::walker::UNKNOWN_TARGET;
+use desk_numbers::DUPLICATE_BOND;
+use desk_numbers::HALF_BOND;
+use desk_numbers::INCOMPATIBLE_BOND;
+use desk_numbers::INVERSION;
+use desk_numbers::LOOP;
+use desk_numbers::UNKNOWN_TARGET;
 use walk::walker::Walker;
-use walk_entry::entry::DUPLICATE_BOND;
-use walk_entry::entry::HALF_BOND;
-use walk_entry::entry::INCOMPATIBLE_BOND;
-use walk_entry::entry::INVERSION;
 
 pub enum Written {
     // Bytes written; of the walk order, atoms walked.

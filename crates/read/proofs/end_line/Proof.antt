@@ -8,7 +8,7 @@ use lib.Dec.{leb}
 use borrow.Author.Tests.{lt-ltb, le-ltb, leb-true, leb-false, eq-eqb, ne-eqb}
 use Rattle.builder.specs.State.{refusedSt}
 use Rattle.builder.specs.declared.builder.Builder.{Builder}
-use Rattle.read_line.specs.Events.{character}
+use Rattle.desk_numbers.specs.Numbers.{character}
 use Rattle.read_line.specs.declared.line.Reached.{Reached}
 use Rattle.read.specs.Steps.{endedSt}
 use borrow.Author.Needs.{needs}

@@ -8,6 +8,9 @@ use Rattle.desk_report.proofs.answer.of_built.Tie as tie
 enum-known-a : tie.Need-enum-known-a
 enum-known-a c = search needs
 
+cast-t8 : tie.Need-cast-t8
+cast-t8 c = search needs
+
 enum-known-a-2 : tie.Need-enum-known-a-2
 enum-known-a-2 c = search needs
 
@@ -50,6 +53,7 @@ of-built-spec =
     tie.close
     (tie.spec
     enum-known-a
+    cast-t8
     enum-known-a-2
     with-two-requires
     enum-known-a-3

@@ -4,9 +4,6 @@ use borrow.Author.Needs.{needs}
 use Rattle.desk_report.proofs.answer.of_event.Statement.{statement}
 use Rattle.desk_report.proofs.answer.of_event.Tie as tie
 
-cast-with-one : tie.Need-cast-with-one
-cast-with-one c = search needs
-
 with-one-requires : tie.Need-with-one-requires
 with-one-requires c κs = search needs
 
@@ -15,4 +12,4 @@ unfolding ofEvent
 returns c = simp (← c .with-one .ensures)
 
 pub of-event-spec : {M : Type 1} → statement M
-of-event-spec = tie.close (tie.spec cast-with-one with-one-requires returns)
+of-event-spec = tie.close (tie.spec with-one-requires returns)
