@@ -27,7 +27,7 @@ at-most true = omega arith
 at-most false = omega arith
 
 -- ---- what a state's bonds come to
--- what is counted stands somewhere
+-- what is counted is somewhere
 found : (e : List ℕ) (a k t m : ℕ) → 0 < bondsCounted e a k t m → (i : ℕ) × (i < m) × (isEntryTo e a k t i ≡ true)
 unfolding bondsCounted
 found e a k t zero h = absurd (omega arith)

@@ -60,7 +60,7 @@ module _ (e : List ℕ) (column a : ℕ) where
     go true is ih = ap f (last-here m is)
     go false is ih = ap f (last-not m is) ∙ ih ∙ omega (arith, step m, none m is)
 
--- ---- what stands in a column
+-- ---- what a column holds
 pub word-source : (e : List ℕ) (i : ℕ) → wordAt e 0 i ≡ sourceAt e i
 word-source e i = ap (λ (x : ℕ). getD e x 0) {x = i * entryWords + 0} {y = i * entryWords} (omega arith)
 

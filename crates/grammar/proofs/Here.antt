@@ -1,4 +1,4 @@
--- What stands at a place of a text, as the rest of the text from there on. Assumes nothing.
+-- What is at a place of a text, as the rest of the text from there on. Assumes nothing.
 use Prim.Native.Nat.{ℕ, _+_, _<_}
 use mathlib.Core.Path.{_≡_, sym, ap, _∙_}
 use mathlib.Core.List.{List, [], _∷_}

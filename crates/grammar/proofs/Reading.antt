@@ -1,4 +1,4 @@
--- The machine against the trees: sound, complete, a text has at most one tree, and each refusal stands in its place. Assumes
+-- The machine against the trees: sound, complete, a text has at most one tree, and each refusal is at its place. Assumes
 -- nothing.
 use mathlib.Core.Path.{_≡_, refl, sym, ap, _∙_}
 use mathlib.Core.List.{List, [], _∷_, _++_, append-assoc, append-nil}

@@ -1,4 +1,4 @@
--- Where a "(" stands in the spelling of a tree, the text before it is a line in the making, and what that tells the tree tells
+-- Where a "(" is in the spelling of a tree, the text before it is a line in the making, and what that tells the tree tells
 -- first. Assumes nothing.
 use Prim.Native.Nat.{ℕ}
 use mathlib.Core.Path.{_≡_, refl, sym, ap, _∙_}

@@ -1,5 +1,5 @@
--- Events that make a molecule meet nothing exactly if there is room for all its atoms and entries and no mark that has to be
--- turned can't be. Assumes nothing.
+-- Events that make a molecule meet nothing exactly if there is room for all its atoms and entries and each mark that has to be
+-- turned can be. Assumes nothing.
 use Prim.Native.Nat.{ℕ, zero, suc, _+_, _<_, _≤_}
 use mathlib.Core.Path.{_≡_, refl, sym, ap, _∙_, subst}
 use mathlib.Core.Bool.{Bool, true, false}

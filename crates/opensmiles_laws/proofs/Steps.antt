@@ -35,7 +35,7 @@ use Rattle.opensmiles_laws.proofs.Marks.{refused-unturnable, turned-tur
 abbrev pub moleculeIn : Sketch → Molecule
 moleculeIn d = molecule (d .nodes) (d .path) (d .opens) (d .joins)
 
--- a graph that goes on: its atoms are the molecule's, so many stand on the path
+-- a graph that goes on: its atoms are the molecule's, so many are on the path
 pub record Beside (p l : ℕ) (d : Sketch) (n depth : ℕ) : Type 0 where
   pub places : d .places ≡ p
   pub slots : d .slots ≡ l
@@ -166,7 +166,7 @@ module _ (p l : ℕ) (d : Sketch) (n depth : ℕ) (b : Beside p l d n depth) whe
   missed-step missing.EndOfLine = halts answer.EndOfLine (stops.ends (some (moleculeIn d)) n) (missed-told d)
   missed-step (missing.Character at) = halts (answer.Character at) (wrong (some (moleculeIn d)) n at) (wrong-told d at)
 
-  -- the next event, where an atom stands if one is needed
+  -- the next event, where there is a current atom if one is needed
   pub dot-step : (k : AtomKind) (at : ℕ) → Stepped p l (moleculeIn d) n (Enter Dot k at) (depth + 1) (stepS d (Enter Dot k at))
   unfolding stepS enterS
   dot-step k at = unfailed (Stepped p l (moleculeIn d) n (Enter Dot k at) (depth + 1)) (enterS d Dot k at) (root-step k at)

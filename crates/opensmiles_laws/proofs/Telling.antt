@@ -20,7 +20,7 @@ use Rattle.grammar.proofs.Link.{entry, toldAround, toldLine, toldWhere, toldAto
 use Rattle.opensmiles_laws.specs.Telling.{Making, branching, makingS, makingE, HasTold, nothing, so-far}
 use Rattle.opensmiles_laws.specs.Telling as making
 
--- ---- where a state stands
+-- ---- where a state is
 data Spot : Type 0 where
   nowhere : Spot
   spot : Around → Line → Spot
@@ -113,7 +113,7 @@ begun-last (body k c) = ([], sym (append-nil _))
 begun-last (percent k c x) = (bond?S x ++ (byte "%" ∷ []), simp append-assoc)
 begun-last (percent1 k c x d) = (bond?S x ++ (byte "%" ∷ digitS d ∷ []), simp append-assoc)
 
--- a state that stands there is its own last
+-- a state there is its own last
 here-atom : (w : Where) (q : Part) (o : Option Atom) → Ended q o → Stands (hereAtom w o) → (lastAtom w o ≡ hereAtom w o) × (spotS (hereAtom w o) ≡ whereS w ++ partS q)
 unfolding Stands hereAtom lastAtom spotS Ended
 here-atom w q none e h = absurd h

@@ -1,4 +1,4 @@
--- A bracket atom's text at a place of a line: where each field stands, and that it is read back there. Assumes nothing.
+-- A bracket atom's text at a place of a line: where each field is, and that it is read back there. Assumes nothing.
 use Prim.Native.Nat.{ℕ, _+_, _<_}
 use mathlib.Core.Path.{_≡_, refl, _∙_, ap}
 use mathlib.Core.List.{List, _∷_, _++_}
@@ -20,7 +20,7 @@ use Rattle.survive.proofs.Shift.{front, past}
 use Rattle.survive.proofs.Field.{got, Starts, joined, Here, back}
 use Rattle.survive.proofs.Fields.{isotope, symbol, configuration, hydrogens, charge, map, isotope-symbol, symbol-configuration, configuration-hydrogens, hydrogens-charge, charge-map}
 
--- ---- where the fields of a bracket that starts at n stand, n the place after its "["
+-- ---- where the fields of a bracket that starts at n are, n the place after its "["
 module _ (n : ℕ) (b : BracketAtom) where
   abbrev pub atSymbol : ℕ
   atSymbol = n + length (numberText (b .isotope))
@@ -40,7 +40,7 @@ module _ (n : ℕ) (b : BracketAtom) where
   abbrev pub atClose : ℕ
   atClose = atMap + length (mapText (b .map))
 
--- each field's text stands at its place, and "]" at the end
+-- each field's text is at its place, and "]" at the end
 pub record Bracketed (s : List ℕ) (n : ℕ) (b : BracketAtom) : Type 0 where
   pub isotope : Here isotope s n (b .isotope)
   pub symbol : Here symbol s (atSymbol n b) (b .symbol)

@@ -1,5 +1,5 @@
 -- A field of a bracket atom by its reader, its text, the values that survive and the bytes that may follow. A value that
--- survives is read where its text stands, and a value that is read survives. Assumes nothing.
+-- survives is read where its text is, and a value that is read survives. Assumes nothing.
 use Prim.Native.Nat.{ℕ, _+_, _<_}
 use mathlib.Core.Path.{_≡_, refl, _∙_, ap, sym, subst}
 use mathlib.Core.List.{List, [], _∷_, _++_}
@@ -22,12 +22,12 @@ use Rattle.survive.proofs.Shift.{onward, onward-got}
 abbrev pub got : Part → Step
 got p = Got (p .value) (p .next)
 
--- whether a value is read as it should be where its text stands with a byte after it
+-- whether a value is read as it should be where its text is with a byte after it
 abbrev pub test : (List ℕ → ℕ → Step) → (ℕ → List ℕ) → (ℕ → Bool) → List ℕ → ℕ → ℕ → Bool
 test read text stays t v x = agrees (stays v) (read (text v ++ (x ∷ t)) 0) v (length (text v))
 
 -- the reader, the text, the values that survive, how many values there are and which bytes may follow; the reader reads the
--- same of a rest wherever it stands, and each value that survives as itself, no other so
+-- same of a rest wherever it is, and each value that survives as itself, no other so
 pub record Field : Type 0 where
   pub read : List ℕ → ℕ → Step
   pub text : ℕ → List ℕ
@@ -59,12 +59,12 @@ module _ (F G : Field) where
   abbrev pub joins : Bool
   joins = everyEntry (λ v z. leads (F .after) (G .after) (G .text v)) 0 (replicate (G .limit) 0)
 
-  -- so field G may stand after field F
+  -- so field G may come after field F
   pub joined : T joins → (v : ℕ) (t : List ℕ) → v < G .limit → Starts (G .after) t → Starts (F .after) (G .text v ++ t)
   joined j v t l s =
       starts (F .after) (G .after) (G .text v) t (below (λ v. leads (F .after) (G .after) (G .text v)) (G .limit) j v l) s
 
--- ---- a value's text stands at a place, with a byte after it that may follow
+-- ---- a value's text is at a place, with a byte after it that may follow
 pub record Here (F : Field) (s : List ℕ) (n v : ℕ) : Type 0 where
   pub rest : List ℕ
   pub small : v < F .limit

@@ -1,4 +1,4 @@
--- An organic atom's text is read back wherever it stands. Assumes nothing.
+-- An organic atom's text is read back wherever it is. Assumes nothing.
 use Prim.Native.Nat.{ℕ, zero, suc, _+_, _<_}
 use mathlib.Core.Path.{_≡_, refl, _∙_, ap, sym, subst}
 use mathlib.Core.List.{List, [], _∷_, _++_}
@@ -101,7 +101,7 @@ module _ (rest : List ℕ) where
   unfolding organicAt aromaticOf peekAt kindText organicSymbols nameText names
   aromatic-reads = (refl, (refl, (refl, (refl, (refl, (refl, tt))))))
 
-  -- from what is read of the text to what is read where it stands
+  -- from what is read of the text to what is read where it is
   stands : (s : List ℕ) (n : ℕ) (k : AtomKind) → Reads k → drop n s ≡ kindText k ++ rest → organicAt s n ≡ Atom k (n + length (kindText k))
   stands s n k r e =
       ap (λ (m : ℕ). organicAt s m) (sym (add-zero n)) ∙ organic-shift s n 0 ∙ ap (λ (l : List ℕ). moved n (organicAt l 0)) e ∙ ap (moved n) r

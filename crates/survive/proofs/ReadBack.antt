@@ -63,7 +63,7 @@ module _ (s : List ℕ) (n : ℕ) (rest : List ℕ) where
       organic-kind (Aromatic m) (aromatic-back rest s n m (good (Aromatic m) (survives-ranged (Aromatic m) ok)) e)
   kind-back (Bracket b) ok c e = bracket-kind b ok e
 
-  -- the text of an atom that survives, standing at n of a line with nothing after it that changes its meaning, is read as
+  -- the text of an atom that survives, at n of a line with nothing after it that changes its meaning, is read as
   -- the atom, and the place after it is the text's end
   pub read-back-at : (k : AtomKind) → survives k ≡ true → canFollow rest ≡ true → drop n s ≡ atomText k ++ rest → atomAt s n ≡ Atom k (n + length (atomText k))
   read-back-at k ok c e =

@@ -1,4 +1,4 @@
--- Where in the text an event stood matters only to a builder that refuses it.
+-- The place of an event in the text matters only to a builder that refuses it.
 use mathlib.Core.Path.{_≡_, refl, sym, ap, _∙_}
 use mathlib.Core.List.{List, [], _∷_}
 use mathlib.Core.Option.{Option, none, some}

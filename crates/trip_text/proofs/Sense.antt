@@ -1,4 +1,4 @@
--- The sense of a piece of text: which events it is read as, wherever it stands and whatever may follow it. Assumes nothing.
+-- The sense of a piece of text: which events it is read as, wherever it is and whatever may follow it. Assumes nothing.
 use Prim.Native.Nat.{ℕ, zero, suc, _+_, _-_, _≤_, _<_, max}
 use mathlib.Core.Path.{_≡_, refl, _∙_, ap, sym, subst}
 use mathlib.Core.List.{List, [], _∷_, _++_, append-assoc}

@@ -1,4 +1,4 @@
--- A walk under way: what is left of it comes to the whole of it, and no number is near its end. Assumes nothing.
+-- A walk under way: what is left of it comes to the whole of it, and no count wraps. Assumes nothing.
 use Prim.Native.Nat.{ℕ, zero, suc, _+_, _-_, _*_, _≤_, _<_}
 use mathlib.Core.Path.{_≡_, refl, _∙_, ap, sym, subst}
 use mathlib.Core.Logic.{_≢_}

@@ -99,7 +99,7 @@ module _ (g : Graph) (z : Walker) (met walked back taken pairs : List ℕ) (s : 
   bond-met w line said m h e f d i =
       did-as (simp (lt-leb (g .size) (b .to) h, ne-eqb (b .to) s e, ne-eqb (getD met (b .to) 0) 0 (λ q. d (f ∙ q)))) i
 
--- ---- the atom a that stands
+-- ---- the current atom a
 module _ (g : Graph) (z : Walker) (met walked back taken pairs : List ℕ) (a i : ℕ) (here : i ≡ getD taken a 0) where
   pub atom-left : (line : Spoken) (r : Walker) (d : ℕ) → d ≡ degreeAt g a → d ≤ i → r ≡ leftIn (g .bonds) (g .first) back z a → Did (atomOf g (walk z met walked back taken pairs) a) (walk r met walked back taken pairs) line line
   unfolding atomOf

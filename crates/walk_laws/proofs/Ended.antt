@@ -37,14 +37,14 @@ done-stays g w r h =
     (λ z. by-test (λ (x : Turn). x .after ≡ w) (leb (g .size) (w .at .next)) (λ y. refl) (λ y. absurd (false≢true (sym y ∙ le-leb _ _ h)))))
     (λ q. refl)
 
--- where no atom stands and no root is left to try, every atom was met
+-- where there is no current atom and no root is left to try, every atom was met
 module _ {g : Graph} {w : Walk} {d : ℕ} (s : Sound g w d) where
   finished : w .at .standing ≡ false → g .size ≤ w .at .next → Finished g w
   finished r h =
       let all : (a : ℕ) → a < g .size → getD (w .met) a 0 ≢ 0 = λ a l. s .tried a (omega arith) in
       record { standing = r; next = h; met = all; count = omega (arith, s .counted, unmet-none (g .size) (w .met) all) }
 
-  -- with nothing left to do no atom stands
+  -- with nothing left to do there is no current atom
   nothing-left : toDo g w d ≤ 0 → Finished g w
   unfolding toDo
   nothing-left h = go (w .at .standing) refl

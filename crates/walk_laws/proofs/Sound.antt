@@ -1,5 +1,5 @@
 -- What holds of a walk at every turn: the marks and the count agree, every root tried was met, and the entries back lead from
--- the standing atom up to its root. Assumes nothing.
+-- the current atom up to its root. Assumes nothing.
 use Prim.Native.Nat.{ℕ, suc, _+_, _-_, _≤_, _<_}
 use mathlib.Core.Path.{_≡_, refl, sym, ap, _∙_, subst}
 use mathlib.Core.Logic.{_≢_}
@@ -50,7 +50,7 @@ up-kept {g} {met} {back} t v b z (above a d l m h u) =
     above a d l (rw (getD-set-other met t a v 0 ne) m) (rw f h)
     (subst (λ (i : ℕ). Up g (set met t v) (set back t b) (bondIn (g .bonds) (g .first) a (i - 1) .to) d) (sym f) (up-kept t v b z u))
 
--- d atoms stand on the way up
+-- d atoms are on the way up
 pub record Sound (g : Graph) (w : Walk) (d : ℕ) : Type 0 where
   pub room : Room g (length (w .met)) (length (w .back)) (length (w .taken))
   pub next : w .at .next ≤ g .size

@@ -88,7 +88,7 @@ entriesFrom g visit a b i zero s = Goes s
 entriesFrom g visit a b i (suc n) s =
     andThen (pick (eqb b (i + 1)) (Goes s) (follows g visit a (bondOf g a i) s)) (entriesFrom g visit a b (i + 1) n)
 
--- An atom a that was met is visited: all its entries, then it is left. `most` bounds how many atoms stand at once, so that the
+-- An atom a that was met is visited: all its entries, then it is left. `most` bounds how many are on the way at once, so that the
 -- recursion ends; each of them was met, and none twice, so the number of atoms is always enough.
 unfoldable pub visitOf : Graph → ℕ → Visit
 visitOf g zero a b s = Goes s
