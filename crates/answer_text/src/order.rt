@@ -7,11 +7,11 @@ use crate::tables::print_mark;
 use oracle_form::byte::put;
 use oracle_form::byte::put_word;
 use oracle_form::number;
-use packing::ATOM_WORDS;
 use packing::Loaded;
 use packing::load;
-use packing::look;
 use spell::spell_atom;
+use table::ATOM_WORDS;
+use table::look;
 use walk_entry::entry::said_as;
 
 // No atom's text is longer.

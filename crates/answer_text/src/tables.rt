@@ -4,19 +4,19 @@
 // Numbers that stand for no atom or no bond are shown as `?`. No graph that was read has any.
 ghost use Prim.Native.Nat.{_*_, _≤_};
 ghost use lib.ListN.{length};
-ghost use Rattle.packing.specs.Words.{bondWords};
+ghost use Rattle.table.specs.Records.{bondWords};
 use oracle_form::bond;
 use oracle_form::byte::put;
 use oracle_form::kind;
 use oracle_form::number;
-use packing::ATOM_WORDS;
-use packing::BOND_WORDS;
-use packing::DEGREE;
 use packing::Entry;
 use packing::Loaded;
 use packing::load;
 use packing::load_bond;
-use packing::look;
+use table::ATOM_WORDS;
+use table::BOND_WORDS;
+use table::DEGREE;
+use table::look;
 
 const UNKNOWN: u8 = b'?';
 

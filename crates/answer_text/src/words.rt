@@ -5,15 +5,15 @@
 ghost use Prim.Native.Nat.{_≤_};
 ghost use lib.ListN.{length};
 use crate::desk::print_named;
-use builder::limits::ATOMS;
-use builder::limits::BONDS;
-use builder::limits::BRANCHES;
-use builder::limits::TEXT;
 use desk_answer::Said;
 use oracle_form::byte::NOWHERE;
 use oracle_form::byte::put;
 use oracle_form::byte::put_word;
 use oracle_form::number;
+use table::limits::ATOMS;
+use table::limits::BONDS;
+use table::limits::BRANCHES;
+use table::limits::TEXT;
 
 // Words, a number and words.
 fn put_with(out: &mut [u8], at: usize, before: &[u8], n: usize, after: &[u8]) -> usize

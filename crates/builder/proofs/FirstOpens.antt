@@ -7,7 +7,7 @@ use native.Mathlib.Omega.{arith}
 use lib.ListN.{length, getD}
 use lib.Dec.{leb}
 use borrow.Author.Tests.{le-leb, lt-leb, leb-true, leb-false}
-use Rattle.packing.specs.Words.{bondWords}
+use Rattle.table.specs.Records.{bondWords}
 use Rattle.builder.specs.State.{unclosed}
 use Rattle.builder.specs.Build.{firstOpen}
 use Rattle.builder.specs.Steps.{FirstAt}

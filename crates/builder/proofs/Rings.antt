@@ -11,7 +11,8 @@ use lib.Dec.{eqb}
 use native.Mathlib.Numerals.{add-one}
 use borrow.Author.Tests.{eqb-true, eqb-false}
 use Rattle.feature.proofs.Lists.{sets-append, sets-nil, sets-cons}
-use Rattle.builder.specs.Rings.{ringNumberCount, front}
+use Rattle.table.specs.Limits.{ringNumberCount}
+use Rattle.builder.specs.Rings.{front}
 
 pub front-length : (n : ℕ) (l : List ℕ) → length (front n l) ≡ n
 unfolding front

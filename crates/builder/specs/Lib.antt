@@ -1,4 +1,3 @@
-pub mod Limits
 pub mod Rings
 pub mod State
 pub mod Build

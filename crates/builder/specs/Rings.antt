@@ -2,10 +2,8 @@
 use Prim.Native.Nat.{ℕ, zero, suc}
 use mathlib.Core.List.{List, [], _∷_}
 use lib.ListN.{set}
+use Rattle.table.specs.Limits.{ringNumberCount}
 use Rattle.builder.specs.declared.opens.Opens.{Opens}
-
-abbrev pub ringNumberCount : ℕ
-ringNumberCount = 100
 
 -- the first n numbers of a list, zeros where it ends before
 unfoldable pub front : ℕ → List ℕ → List ℕ

@@ -17,7 +17,8 @@ use Rattle.feature.specs.declared.bond_kind.BondKind.{BondKind}
 use Rattle.feature.specs.declared.bond_kind.Reconciled.{Reconciled}
 use Rattle.feature.specs.declared.bond_kind.Reconciled.the-variants.{Both, Fails}
 use Rattle.desk_numbers.specs.Numbers.{inversion, atomRoom, bondRoom, noAtom}
-use Rattle.packing.specs.Words.{atomWords, listOf}
+use Rattle.table.specs.Records.{atomWords}
+use Rattle.packing.specs.Words.{listOf}
 use Rattle.builder.specs.declared.builder.Builder.{Builder}
 
 -- the words of an entry in the making: source, kind, target

@@ -8,7 +8,7 @@ ghost use Prim.Native.Nat.{ℕ, _+_, _*_, _-_, _^_, _<_, _≤_};
 ghost use lib.ListN.{getD};
 ghost use lib.Seq.{sets};
 ghost use Rattle.feature.specs.Bonds.{codeOf, reconcileOf};
-ghost use Rattle.builder.specs.Rings.{ringNumberCount};
+ghost use Rattle.table.specs.Limits.{ringNumberCount};
 ghost use Rattle.builder.specs.State.{bld, freshBuilder, refusedSt, poppedSt, failedSt, joinedSt, entryWords, entryList, entered, rootOf, bonded, extendOf, openedOf, openingKind, closedBy, joinOf};
 ghost use Rattle.builder.specs.Steps.{SmallCounts};
 use crate::opens::rejoin;
@@ -25,10 +25,10 @@ use feature::bond_kind::code;
 use feature::bond_kind::reconcile;
 use feature::bond_kind::reverse;
 use feature::bond_kind::sure_kind;
-use packing::ATOM_WORDS;
-use packing::look;
-use packing::poke;
 use packing::store;
+use table::ATOM_WORDS;
+use table::look;
+use table::poke;
 
 // The words of an entry while a line is read.
 pub const ENTRY_WORDS: usize = 3;

@@ -3,12 +3,12 @@ ghost use mathlib.Core.Path.{_≡_};
 ghost use Prim.Native.Nat.{_<_, _≤_};
 ghost use lib.ListN.{length, set};
 ghost use lib.Seq.{sets};
-ghost use Rattle.builder.specs.Rings.{ringNumberCount, opensOf, joinedAt};
-
-pub const NUMBERS: usize = 100;
+ghost use Rattle.table.specs.Limits.{ringNumberCount};
+ghost use Rattle.builder.specs.Rings.{opensOf, joinedAt};
+use table::limits::RING_NUMBER_COUNT;
 
 pub struct Opens {
-    pub at: [u32; NUMBERS],
+    pub at: [u32; RING_NUMBER_COUNT],
 }
 
 impl Opens {
@@ -28,10 +28,10 @@ fn taken(rings: &[u32]) -> Opens
     ensures { λ r. ⌜ r ≡ opensOf (now (rings .entry)) ⌝ }
 {
     let mut o = Opens {
-        at: [0u32; NUMBERS],
+        at: [0u32; RING_NUMBER_COUNT],
     };
     let mut i: usize = 0;
-    while i < NUMBERS {
+    while i < RING_NUMBER_COUNT {
         o.at[i] = rings[i];
         i += 1;
     }
@@ -44,7 +44,7 @@ fn put_back(rings: &mut [u32], o: Opens)
     ensures { λ r. ⌜ now (rings .exit) ≡ sets (now (rings .entry)) 0 (o .at) ⌝ }
 {
     let mut i: usize = 0;
-    while i < NUMBERS {
+    while i < RING_NUMBER_COUNT {
         rings[i] = o.at[i];
         i += 1;
     }
@@ -56,8 +56,8 @@ pub fn rejoin(rings: &mut [u32], number: usize, value: u32)
     requires { ⌜ number < ringNumberCount ⌝ }
     ensures { λ r. ⌜ now (rings .exit) ≡ set (now (rings .entry)) number value ⌝ }
 {
-    if rings.len() < NUMBERS {
-        packing::poke(rings, number, value);
+    if rings.len() < RING_NUMBER_COUNT {
+        table::poke(rings, number, value);
         return;
     }
     let o = taken(rings);

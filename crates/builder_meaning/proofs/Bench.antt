@@ -11,7 +11,7 @@ use Rattle.feature.specs.declared.atom_kind.AtomKind.{AtomKind}
 use Rattle.feature.specs.declared.atom_kind.AtomKind.the-variants.{Aliphatic}
 use Rattle.feature.specs.declared.bond_kind.BondKind.the-variants.{Elided, Single, Double, Triple}
 use Rattle.read_token.specs.Scan.{peekAt, digitOf, digitAt, missingAt, bracketAt, aromaticOf, aliphaticOf, wantedAt, optionalAt, organicAt, starAt, orElse, otherAt, atomAt, signKind, markWidth, bondAt, percentAt, rnumAt}
-use Rattle.builder.specs.Limits.{lesserOf}
+use Rattle.table.specs.Limits.{lesserOf}
 use Rattle.read_line.specs.Parse.{ledAt, bodyOf, bodyAt, missP, foundP, atomP, ringP, unionBy, unionP, unitBy, unitP, lineP, closeP, branchP, bodies, endP, parse}
 use Rattle.builder.specs.declared.build.Built.the-variants as built
 use Rattle.builder_meaning.specs.Sketch.{To, Failed, Sketch, edge, node, nextNumber, countOf, upd, edgesAt, addEdge, waits, openKind, fillEdges, fill, lookup, ringFreed, rootS, bondedS, extendS, openedS, closedS, firstOf, ringS, joinS, judgedS, enterS, numberS, stepS, runS, sketchOf, openHere, openIn, firstOpenS, ringsSay, saysS, finishS, leads, isEdgeTo, bondsTo, BothEnds}

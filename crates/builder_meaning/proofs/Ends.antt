@@ -4,12 +4,11 @@ use mathlib.Core.Path.{sym, subst}
 use mathlib.Core.List.{List}
 use native.Mathlib.Omega.{arith}
 use lib.ListN.{replicate, length-replicate}
-use Rattle.packing.specs.Words.{atomWords}
-use Rattle.builder.specs.Limits.{atomLimit, bondLimit}
-use Rattle.builder.specs.Rings.{ringNumberCount}
+use Rattle.table.specs.Records.{atomWords}
+use Rattle.table.specs.Limits.{atomLimit, bondLimit, ringNumberCount}
 use Rattle.builder.specs.State.{Bld, bld, freshBuilder, entryWords}
 use Rattle.read_line.specs.Events.{ReadEvent, run}
-use Rattle.builder.proofs.Laws.{zero-at}
+use Rattle.table.proofs.Zeros.{zero-at}
 use Rattle.builder_meaning.specs.Sketch.{Sketch, BothEnds, startS, runS}
 use Rattle.builder_meaning.proofs.Same.{Same}
 use Rattle.builder_meaning.proofs.Twins.{twins-ends}

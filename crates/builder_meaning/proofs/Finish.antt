@@ -6,11 +6,12 @@ use mathlib.Core.Option.{Option, none, some}
 use native.Mathlib.Omega.{arith}
 use lib.ListN.{length, take}
 use lib.Seq.{sets}
-use Rattle.packing.specs.Words.{atomWords, bondWords}
+use Rattle.table.specs.Records.{atomWords, bondWords}
 use Rattle.builder.specs.State.{Bld, unclosed, entryWords}
 use Rattle.builder.specs.declared.build.Built.{Built}
 use Rattle.builder.specs.declared.build.Built.the-variants as built
-use Rattle.builder.specs.Build.{upto, tallied, firstOpen, Tables, tables, BuildOutcome, zeroed, buildOf, entriesTold}
+use Rattle.table.specs.Zeros.{zeroed}
+use Rattle.builder.specs.Build.{upto, tallied, firstOpen, Tables, tables, BuildOutcome, buildOf, entriesTold}
 use Rattle.builder.specs.Steps.{degree, Sources, BuildReady}
 use Rattle.builder.proofs.Degrees.{tallied-length, words-kept, upto-length}
 use Rattle.builder.proofs.Laws.{built-failed, total, degree-at, built-done, built-open}

@@ -17,7 +17,7 @@ use Rattle.feature.specs.declared.bond_kind.Reconciled.the-variants.{Both, Fail
 use Rattle.desk_numbers.specs.Numbers.{bondRoom, noAtom}
 use Rattle.feature.proofs.Bonds.{sure-code, Reversed, reconciled}
 use Rattle.feature.proofs.Cases.{impossible}
-use Rattle.builder.specs.Rings.{ringNumberCount}
+use Rattle.table.specs.Limits.{ringNumberCount}
 use Rattle.builder.specs.State.{Bld, bld, state, unclosed, entryWords, entryList, refuse, joinedSt, failedSt, lastOf, openedOf, openedAt, openingOf, openingKind, closedBy, joinOf}
 use Rattle.builder.specs.declared.builder.Builder.{Builder}
 use Rattle.builder.proofs.Joins.{first-failed, again-failed}

@@ -13,7 +13,8 @@ use Rattle.feature.specs.declared.atom_kind.AtomKind.{AtomKind}
 use Rattle.feature.specs.declared.atom_kind.AtomKind.the-variants.{Star}
 use Rattle.feature.specs.declared.bond_kind.BondKind.{BondKind}
 use Rattle.feature.proofs.Cases.{by-eq, impossible}
-use Rattle.packing.specs.Words.{atomWords, wordsOf, listOf}
+use Rattle.table.specs.Records.{atomWords}
+use Rattle.packing.specs.Words.{wordsOf, listOf}
 use Rattle.packing.proofs.Laws.{sets-beside, sets-in, sets-first}
 use Rattle.builder.specs.State.{entryWords, entryList}
 use Rattle.builder_meaning.specs.Sketch.{Target, To, Edge, Node, edge, node, countOf, upd, addEdge, fill, targetOf}

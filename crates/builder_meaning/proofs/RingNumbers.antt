@@ -12,7 +12,7 @@ use borrow.Author.Tests.{eq-eqb, ne-eqb}
 use Rattle.feature.specs.Pick.{pick}
 use Rattle.feature.specs.declared.bond_kind.BondKind.{BondKind}
 use Rattle.feature.proofs.Cases.{by-eq, impossible}
-use Rattle.builder.specs.Rings.{ringNumberCount}
+use Rattle.table.specs.Limits.{ringNumberCount}
 use Rattle.builder_meaning.specs.Sketch.{Target, To, Open, Held, lookup, ringFreed}
 use Rattle.builder_meaning.proofs.Rows.{Row, row, noRow, Opened}
 use Rattle.builder_meaning.proofs.Same.{At, Ring, Rings}

@@ -16,7 +16,7 @@ use Rattle.desk_numbers.specs.Numbers.{inversion, endOfLine, character, nesting
 use Rattle.feature.proofs.Cases.{impossible}
 use Rattle.read_token.specs.declared.scanner.Missing.{Missing}
 use Rattle.read_token.specs.declared.scanner.Missing.the-variants.{EndOfLine, Character}
-use Rattle.builder.specs.Rings.{ringNumberCount}
+use Rattle.table.specs.Limits.{ringNumberCount}
 use Rattle.builder.specs.State.{Bld, bld, freshBuilder, refuse, joinOf}
 use Rattle.read_line.specs.declared.lead.Lead.{Lead}
 use Rattle.read_line.specs.declared.lead.Lead.the-variants.{Dot, Bond}

@@ -9,9 +9,9 @@ use lib.ListN.{length, getD, take}
 use Rattle.feature.specs.declared.atom_kind.AtomKind.{AtomKind}
 use Rattle.feature.specs.declared.atom_kind.AtomKind.the-variants.{Star}
 use Rattle.feature.specs.declared.bond_kind.BondKind.{BondKind}
-use Rattle.packing.specs.Words.{atomWords, wordsOf}
-use Rattle.builder.specs.Limits.{atomLimit, bondLimit}
-use Rattle.builder.specs.Rings.{ringNumberCount}
+use Rattle.table.specs.Records.{atomWords}
+use Rattle.packing.specs.Words.{wordsOf}
+use Rattle.table.specs.Limits.{atomLimit, bondLimit, ringNumberCount}
 use Rattle.builder.specs.State.{Bld, entryWords}
 use Rattle.builder.specs.declared.builder.Builder.{Builder}
 use Rattle.builder_meaning.specs.Sketch.{To, Open, Node, Held, Failure, None, Failed, Sketch, countOf, lookup}

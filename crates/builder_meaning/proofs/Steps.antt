@@ -17,7 +17,8 @@ use Rattle.feature.specs.declared.atom_kind.Inverted.the-variants.{Turned, Refu
 use Rattle.feature.specs.declared.bond_kind.BondKind.{BondKind}
 use Rattle.desk_numbers.specs.Numbers.{atomRoom, inversion, noAtom, bondRoom}
 use Rattle.feature.proofs.Cases.{impossible}
-use Rattle.packing.specs.Words.{atomWords, listOf}
+use Rattle.table.specs.Records.{atomWords}
+use Rattle.packing.specs.Words.{listOf}
 use Rattle.builder.specs.State.{Bld, bld, entryWords, entryList, refuse, lastOf, entered, rootOf, bonded, extendedBy, extendOf, popOf}
 use Rattle.builder_meaning.specs.Sketch.{To, Node, Sketch, edge, node, refused, popped, atomAdded, nextNumber, countOf, upd, addEdge, rootS, bondedS, extendS, targetOf}
 use Rattle.builder_meaning.proofs.Rows.{Row, row, upd-length, upd-front, upd-last}

@@ -14,7 +14,8 @@ use Rattle.feature.specs.Pick.{pick}
 use Rattle.feature.specs.Bonds.{codeOf}
 use Rattle.feature.specs.declared.atom_kind.AtomKind.{AtomKind}
 use Rattle.feature.specs.declared.atom_kind.AtomKind.the-variants.{Star}
-use Rattle.packing.specs.Words.{atomWords, wordsOf, listOf}
+use Rattle.table.specs.Records.{atomWords}
+use Rattle.packing.specs.Words.{wordsOf, listOf}
 use Rattle.builder.specs.State.{unclosed}
 use Rattle.builder.specs.Build.{of, upto, firstOpen}
 use Rattle.builder.specs.Steps.{degree, Sources}

@@ -2,13 +2,10 @@
 use Prim.Native.Nat.{ℕ, _+_, _*_, _/_, _<_, _≤_}
 use mathlib.Core.Path.{_≡_, refl, _∙_, sym, subst}
 use mathlib.Core.List.{List, [], _∷_}
-use mathlib.Core.Bool.{Bool, true, false}
 use native.Mathlib.Omega.{arith}
 use lib.ListN.{length, getD, replicate, length-replicate}
 use lib.Seq.{length-sets}
 use lib.Dec.{ltb, leb, eqb}
-use borrow.Author.Tests.{ltb-true, ltb-false}
-use Rattle.feature.specs.Pick.{pick}
 use Rattle.feature.specs.Kinds.{invertOf}
 use Rattle.feature.specs.Bonds.{reconcileOf}
 use Rattle.feature.specs.declared.atom_kind.AtomKind.{AtomKind}
@@ -20,9 +17,10 @@ use Rattle.feature.specs.declared.bond_kind.Reconciled.the-variants.{Both, Fail
 use Rattle.feature.proofs.Cases.{by-either}
 use Rattle.read_token.specs.declared.scanner.Missing.{Missing}
 use Rattle.read_token.specs.declared.scanner.Missing.the-variants.{EndOfLine, Character}
-use Rattle.packing.specs.Words.{atomWords, bondWords, listOf}
-use Rattle.builder.specs.Limits.{atomLimit, bondLimit, lesserOf}
-use Rattle.builder.specs.Rings.{ringNumberCount}
+use Rattle.table.specs.Records.{atomWords, bondWords}
+use Rattle.packing.specs.Words.{listOf}
+use Rattle.table.specs.Limits.{atomLimit, bondLimit, lesserOf, ringNumberCount}
+use Rattle.table.proofs.Rooms.{lesser-most, lesser-held}
 use Rattle.builder.specs.State.{Bld, bld, freshBuilder, entryWords, refuse, entered, rootOf, bonded, extendedBy, extendOf, failedSt, lastOf, openedOf, openingOf, openingKind, closedBy, joinOf, popOf}
 use Rattle.builder.specs.declared.builder.Builder.{Builder}
 use Rattle.read_line.specs.declared.lead.Lead.{Lead}
@@ -121,21 +119,6 @@ unfolding run
 run-kept n l b [] kept = kept
 run-kept n l b (e ∷ es) kept =
     by-either (Kept n l) (eqb (b .st .refusal) 0) (run-kept n l (step b e) es (step-kept n l b kept e)) kept
-
--- ---- the room of tables
-pub lesser-most : (limit n : ℕ) → lesserOf limit n ≤ limit
-unfolding lesserOf
-lesser-most limit n = split (ltb n limit) refl where
-  split : (q : Bool) → ltb n limit ≡ q → pick q n limit ≤ limit
-  split true e = omega (arith, ltb-true n limit e)
-  split false e = omega arith
-
-pub lesser-held : (limit n : ℕ) → lesserOf limit n ≤ n
-unfolding lesserOf
-lesser-held limit n = split (ltb n limit) refl where
-  split : (q : Bool) → ltb n limit ≡ q → pick q n limit ≤ n
-  split true e = omega arith
-  split false e = ltb-false n limit e
 
 -- ---- a text
 -- a state says what a sketch says; tables of la and lb words

@@ -29,8 +29,9 @@ use Rattle.feature.specs.declared.bond_kind.Reconciled.the-variants.{Both, Fail
 use Rattle.desk_numbers.specs.Numbers.{inversion, atomRoom, bondRoom, noAtom, endOfLine, character, nesting}
 use Rattle.read_token.specs.declared.scanner.Missing.{Missing}
 use Rattle.read_token.specs.declared.scanner.Missing.the-variants.{EndOfLine, Character}
-use Rattle.packing.specs.Words.{atomWords, bondWords, listOf}
-use Rattle.builder.specs.Limits.{atomLimit, bondLimit, lesserOf}
+use Rattle.table.specs.Records.{atomWords, bondWords}
+use Rattle.packing.specs.Words.{listOf}
+use Rattle.table.specs.Limits.{atomLimit, bondLimit, lesserOf}
 use Rattle.builder.specs.State.{unclosed}
 use Rattle.read_line.specs.declared.lead.Lead.{Lead}
 use Rattle.read_line.specs.declared.lead.Lead.the-variants.{Dot, Bond}

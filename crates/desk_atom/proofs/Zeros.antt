@@ -1,12 +1,11 @@
--- An output that is cleared, and a text laid over zeros. Assumes nothing.
-use Prim.Native.Nat.{ℕ, zero, suc, _+_, _-_, _≤_, _<_}
+-- A text laid over zeros. Assumes nothing.
+use Prim.Native.Nat.{ℕ, _-_, _≤_, _<_}
 use mathlib.Core.Path.{_≡_, refl, ap, _∙_}
 use mathlib.Core.Bool.{Bool, true, false}
-use mathlib.Core.List.{List, _∷_, _++_, append-nil}
+use mathlib.Core.List.{List, _++_}
 use native.Mathlib.Omega.{arith}
-use native.Mathlib.Numerals.{add-one}
-use lib.ListN.{length, getD, set, drop, replicate, length-replicate, drop-of-length-le}
-use lib.Seq.{length-sets, drop-cons}
+use lib.ListN.{length, drop, length-replicate}
+use lib.Seq.{length-sets}
 use lib.Dec.{ltb}
 use borrow.Author.Tests.{lt-ltb, le-ltb, ltb-false}
 use Rattle.feature.proofs.Lists.{drop-zeros}
@@ -16,22 +15,9 @@ use Rattle.feature.specs.declared.atom_kind.AtomKind.{AtomKind}
 use Rattle.spell.specs.Spell.{Laid, atomText, rnumText}
 use Rattle.spell.proofs.Laws.{in-front}
 use Rattle.desk_atom.specs.declared.Spelt.the-variants.{Written, OutRoom, BadTable}
-use Rattle.desk_atom.specs.Texts.{zeros, Spells, spelt, texted, atomD, rnumD}
+use Rattle.table.specs.Zeros.{zeros}
+use Rattle.desk_atom.specs.Texts.{Spells, spelt, texted, atomD, rnumD}
 use Rattle.desk_atom.specs.Steps.{answeredLength}
-
--- ---- zeros one at a time
-
-set-zero : (n x : ℕ) (t : List ℕ) → set (replicate n 0 ++ (x ∷ t)) n 0 ≡ replicate (suc n) 0 ++ t
-set-zero zero x t = refl
-set-zero (suc n) x t = ap (λ (l : List ℕ). 0 ∷ l) (set-zero n x t)
-
-pub wipe-step : (t : List ℕ) (at : ℕ) → at < length t → set (replicate at 0 ++ drop at t) at 0 ≡ replicate (at + 1) 0 ++ drop (at + 1) t
-wipe-step t at h = rw (add-one, drop-cons t at 0 h) (set-zero at (getD t at 0) (drop (suc at) t))
-
-pub wipe-end : (t : List ℕ) (at : ℕ) → at ≤ length t → length t ≤ at → replicate at 0 ++ drop at t ≡ zeros (length t)
-wipe-end t at l h =
-    let e : at ≡ length t = omega arith in
-    rw (drop-of-length-le t h) (append-nil (replicate at 0) ∙ ap (λ (n : ℕ). replicate n 0) e)
 
 -- ---- a text over zeros
 pub length-short : (out m : List ℕ) (need : ℕ) → length out < need → m ≡ zeros (length out) → spelt (OutRoom need) m ≡ answeredLength out need

@@ -5,7 +5,8 @@ use lib.ListN.{length}
 use lib.Dec.{ltb}
 use Rattle.feature.specs.Pick.{pick}
 use Rattle.desk_atom.specs.declared.Spelt.the-variants.{Written, OutRoom}
-use Rattle.desk_atom.specs.Texts.{Spells, spelt, zeros}
+use Rattle.table.specs.Zeros.{zeros}
+use Rattle.desk_atom.specs.Texts.{Spells, spelt}
 
 -- an output after a text of so many bytes was written into it as far as there was room: cleared where there was too little
 unfoldable pub answeredLength : List ℕ → ℕ → Spells

@@ -6,19 +6,20 @@
 -- zeros.
 use Prim.Native.Nat.{ℕ, _-_}
 use mathlib.Core.List.{List, [], _∷_, _++_}
-use lib.ListN.{length, replicate}
+use lib.ListN.{length}
 use lib.Dec.{ltb}
 use Rattle.feature.specs.Pick.{pick}
 use Rattle.desk_numbers.specs.Numbers.{Told, told, done, endOfLine, character, outRoom, badTable}
 use Rattle.feature.specs.Kinds.{inRange}
 use Rattle.feature.specs.declared.atom_kind.AtomKind.{AtomKind}
-use Rattle.builder.specs.Rings.{ringNumberCount}
+use Rattle.table.specs.Limits.{ringNumberCount}
 use Rattle.read_token.specs.declared.scanner.Missing.{Missing}
 use Rattle.read_token.specs.declared.scanner.Missing.the-variants as missing
 use Rattle.read_token.specs.declared.scanner.Found.{Found}
 use Rattle.read_token.specs.declared.scanner.Found.the-variants as found
 use Rattle.read_token.specs.Scan.{missingAt, atomAt}
 use Rattle.spell.specs.Spell.{atomText, rnumText}
+use Rattle.table.specs.Zeros.{zeros}
 use Rattle.desk_atom.specs.declared.Begins.{Begins}
 use Rattle.desk_atom.specs.declared.Begins.the-variants as begins
 use Rattle.desk_atom.specs.declared.Spelt.{Spelt}
@@ -71,9 +72,6 @@ speltTold BadTable = told badTable (0 ∷ [])
 
 abbrev pub spelt : Spelt → List ℕ → Spells
 spelt r out = record { told = speltTold r; out = out }
-
-abbrev pub zeros : ℕ → List ℕ
-zeros n = replicate n 0
 
 -- a text in an output of n bytes
 unfoldable pub texted : List ℕ → ℕ → Spells

@@ -1,17 +1,18 @@
 // One atom as text, both ways, and the text of a bond and of a ring number, as single calls: any text and any numbers may be
 // handed in. A text that is refused leaves zeros in the output.
 ghost use mathlib.Core.Path.{_≡_};
-ghost use lib.ListN.{length, replicate};
+ghost use lib.ListN.{length};
 ghost use Rattle.spell.specs.Spell.{bondText};
 ghost use Rattle.desk_atom.specs.Texts.{lackedOf, tellsAtom, firstAtom, spelt, texted, atomD, rnumD};
 ghost use Rattle.desk_atom.specs.Steps.{answeredLength};
-use builder::opens::NUMBERS;
 use feature::atom_kind::AtomKind;
 use feature::atom_kind::in_range;
 use feature::bond_kind::BondKind;
 use read_token::scanner::Found;
 use read_token::scanner::Missing;
 use read_token::scanner::missing_character;
+use table::clear_bytes;
+use table::limits::RING_NUMBER_COUNT;
 
 pub enum Begins {
     // The kind, and the place after it.
@@ -49,23 +50,12 @@ pub fn read_atom(text: &[u8]) -> Begins
     }
 }
 
-// Zeros all through an output.
-pub fn wipe(out: &mut [u8])
-    ensures { λ _. ⌜ now (out .exit) ≡ replicate (length (now (out .entry))) 0 ⌝ }
-{
-    let mut at: usize = 0;
-    while at < out.len() {
-        out[at] = 0;
-        at += 1;
-    }
-}
-
 // What a text of so many bytes comes to, which was laid as far as there was room: none of it stays where there was too little.
 fn answer_length(out: &mut [u8], need: usize) -> Spelt
     ensures { λ r. ⌜ spelt r (now (out .exit)) ≡ answeredLength (now (out .entry)) need ⌝ }
 {
     if out.len() < need {
-        wipe(out);
+        clear_bytes(out);
         return Spelt::OutRoom(need);
     }
     Spelt::Written(need)
@@ -75,7 +65,7 @@ fn answer_length(out: &mut [u8], need: usize) -> Spelt
 pub fn spell_atom(out: &mut [u8], k: AtomKind) -> Spelt
     ensures { λ r. ⌜ spelt r (now (out .exit)) ≡ atomD k (length (now (out .entry))) ⌝ }
 {
-    wipe(out);
+    clear_bytes(out);
     if !in_range(k) {
         return Spelt::BadTable;
     }
@@ -87,7 +77,7 @@ pub fn spell_atom(out: &mut [u8], k: AtomKind) -> Spelt
 pub fn spell_bond(out: &mut [u8], k: BondKind) -> Spelt
     ensures { λ r. ⌜ spelt r (now (out .exit)) ≡ texted (bondText k) (length (now (out .entry))) ⌝ }
 {
-    wipe(out);
+    clear_bytes(out);
     let need = spell::spell_bond(out, k);
     answer_length(out, need)
 }
@@ -96,8 +86,8 @@ pub fn spell_bond(out: &mut [u8], k: BondKind) -> Spelt
 pub fn spell_rnum(out: &mut [u8], n: u32) -> Spelt
     ensures { λ r. ⌜ spelt r (now (out .exit)) ≡ rnumD n (length (now (out .entry))) ⌝ }
 {
-    wipe(out);
-    if NUMBERS <= n as usize {
+    clear_bytes(out);
+    if RING_NUMBER_COUNT <= n as usize {
         return Spelt::BadTable;
     }
     let need = spell::spell_rnum(out, n);

@@ -19,7 +19,7 @@ use Rattle.feature.specs.declared.bond_kind.BondKind.{BondKind}
 use Rattle.feature.specs.declared.bond_kind.Reconciled.{Reconciled}
 use Rattle.feature.specs.declared.bond_kind.Reconciled.the-variants.{Both, Fails}
 use Rattle.feature.proofs.Cases.{by-test, both-first}
-use Rattle.builder.specs.Rings.{ringNumberCount}
+use Rattle.table.specs.Limits.{ringNumberCount}
 use Rattle.builder.specs.State.{Bld, refuse, entered, rootOf, bonded, extendedBy, extendOf, openedOf, openingKind, failedSt, closedBy, joinOf, popOf}
 use Rattle.builder.specs.declared.builder.Builder.{Builder}
 use Rattle.desk_state.specs.Standing.{isState}

@@ -11,9 +11,10 @@ use Rattle.feature.specs.declared.atom_kind.AtomKind.the-variants.{Star}
 use Rattle.feature.specs.declared.bond_kind.BondKind.{BondKind}
 use Rattle.feature.specs.declared.bond_kind.BondKind.the-variants.{Elided, Double, Triple}
 use Rattle.packing.specs.Words.{pairOf, wordsOf, listOf, plainOf, bracketOf, loadOf, loadAt}
-use Rattle.builder.specs.Limits.{lesserOf}
+use Rattle.table.specs.Limits.{lesserOf}
 use Rattle.builder.specs.State.{Bld, bld, state, failedSt, refuse, lastOf, entered, rootOf, bonded, extendedBy, extendOf, openedOf, openedAt, openingOf, openingKind, closedBy, joinOf, popOf}
-use Rattle.builder.specs.Build.{blanked, degreesCounted, sumOf, entryStarts, entriesPlaced, cursorsMoved, firstOpen, gathered, atomsOf, entryCount, bondsOf, closedOf, buildOf}
+use Rattle.table.specs.Starts.{sumOf, entryStarts}
+use Rattle.builder.specs.Build.{blanked, degreesCounted, entriesPlaced, cursorsMoved, firstOpen, gathered, atomsOf, entryCount, bondsOf, closedOf, buildOf}
 use Rattle.feature.specs.Every.{every}
 use Rattle.packing.specs.Words.{isHeld, isAtom}
 use Rattle.desk_builder.specs.Events.{anew, judged, roomsOf, freshOf, startD, rootD, extendD, joinD, popD}

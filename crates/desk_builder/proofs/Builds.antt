@@ -8,10 +8,11 @@ use lib.ListN.{length, take, drop, replicate, length-drop, drop-of-length-le}
 use lib.Seq.{take-all}
 use borrow.Author.Tests.{not-true, not-false, lt-leb, le-leb}
 use borrow.Rule.Slice.PartMut.{midOf, putMid}
-use Rattle.packing.specs.Words.{atomWords, bondWords}
-use Rattle.builder.specs.Limits.{atomLimit}
+use Rattle.table.specs.Records.{atomWords, bondWords}
+use Rattle.table.specs.Limits.{atomLimit}
 use Rattle.builder.specs.State.{Bld}
-use Rattle.builder.specs.Build.{BuildOutcome, outcome, tables, zeroed, buildOf}
+use Rattle.table.specs.Zeros.{zeroed}
+use Rattle.builder.specs.Build.{BuildOutcome, outcome, tables, buildOf}
 use Rattle.builder.specs.declared.build.Built.{Built}
 use Rattle.desk_state.specs.Standing.{isState}
 use Rattle.desk_builder.specs.Build.{answerLeaves, builtAnswered, leftOf, trimmed, roomy, buildD}

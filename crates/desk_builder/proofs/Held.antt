@@ -14,10 +14,11 @@ use lib.Dec.{eqb, ltb}
 use borrow.Author.Tests.{leb-true, ltb-true, ltb-false}
 use Rattle.feature.specs.Pick.{pick, both}
 use Rattle.feature.specs.Bonds.{codeOf, reverseOf}
-use Rattle.packing.specs.Words.{atomWords, bondWords}
-use Rattle.builder.specs.Limits.{atomLimit}
+use Rattle.table.specs.Records.{atomWords, bondWords}
+use Rattle.table.specs.Limits.{atomLimit}
 use Rattle.builder.specs.State.{Bld, entryWords, unclosed}
-use Rattle.builder.specs.Build.{of, upto, BuildOutcome, Tables, tables, zeroed, firstOpen, entriesTold, buildOf}
+use Rattle.table.specs.Zeros.{zeroed}
+use Rattle.builder.specs.Build.{of, upto, BuildOutcome, Tables, tables, firstOpen, entriesTold, buildOf}
 use Rattle.builder.specs.Steps.{Sources, BuildReady}
 use Rattle.builder.proofs.Laws.{built-failed, built-done, built-open}
 use Rattle.feature.specs.Every.{every}

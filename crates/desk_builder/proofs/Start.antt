@@ -4,28 +4,24 @@ use mathlib.Core.Path.{_≡_, refl}
 use mathlib.Core.List.{List}
 use mathlib.Core.Bool.{Bool, true, false}
 use native.Mathlib.Omega.{arith}
-use lib.ListN.{length, getD, replicate, length-replicate}
+use lib.ListN.{length, length-replicate}
 use borrow.Author.Tests.{le-leb, lt-leb, eq-eqb}
 use Rattle.feature.specs.Pick.{pick}
 use Rattle.feature.specs.Every.{every}
 use Rattle.feature.proofs.Every.{every-all}
 use Rattle.desk_numbers.specs.Numbers.{badTable}
-use Rattle.builder.specs.Rings.{ringNumberCount}
+use Rattle.table.specs.Limits.{ringNumberCount, placesIn}
 use Rattle.builder.specs.State.{bld, freshBuilder, refusedSt}
 use Rattle.builder.specs.declared.builder.Builder.{Builder}
-use Rattle.builder.specs.Build.{zeroed}
-use Rattle.desk_state.specs.Standing.{placesIn, entrySlotsIn, isRing, openRings, joinsStand, countsStand, failureStands, isState}
+use Rattle.table.specs.Zeros.{zeroed}
+use Rattle.table.proofs.Zeros.{zero-at}
+use Rattle.desk_state.specs.Standing.{entrySlotsIn, isRing, openRings, joinsStand, countsStand, failureStands, isState}
 use Rattle.desk_builder.specs.Events.{roomsOf, freshOf, startD}
 
 -- ---- no event yet
 none-below : (f : ℕ → Bool) → every f 0 ≡ true
 unfolding every
 none-below f = refl
-
-zero-at : (n i : ℕ) → _≡_ {A = ℕ} (getD (replicate n 0) i 0) 0
-zero-at zero i = refl
-zero-at (suc n) zero = refl
-zero-at (suc n) (suc i) = zero-at n i
 
 free-ring : (s : Builder) (e r : List ℕ) (i : ℕ) → isRing s e (zeroed r) i ≡ true
 unfolding isRing

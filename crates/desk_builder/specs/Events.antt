@@ -11,11 +11,11 @@ use Rattle.feature.specs.Pick.{pick, both}
 use Rattle.feature.specs.Kinds.{inRange}
 use Rattle.feature.specs.declared.atom_kind.AtomKind.{AtomKind}
 use Rattle.feature.specs.declared.bond_kind.BondKind.{BondKind}
-use Rattle.builder.specs.Rings.{ringNumberCount}
+use Rattle.table.specs.Limits.{ringNumberCount, placesIn}
 use Rattle.builder.specs.State.{Bld, bld, freshBuilder, refuse, refusedSt, rootOf, extendOf, joinOf, popOf}
 use Rattle.builder.specs.declared.builder.Builder.{Builder}
-use Rattle.builder.specs.Build.{zeroed}
-use Rattle.desk_state.specs.Standing.{placesIn, entrySlotsIn, isState}
+use Rattle.table.specs.Zeros.{zeroed}
+use Rattle.desk_state.specs.Standing.{entrySlotsIn, isState}
 
 -- ---- the start
 -- no event yet, and room for as many atoms and entries as the tables hold, the limits at most

@@ -6,7 +6,7 @@ use lib.Dec.{ltb}
 use Rattle.feature.specs.Kinds.{inRange}
 use Rattle.feature.specs.declared.atom_kind.AtomKind.{AtomKind}
 use Rattle.feature.specs.declared.bond_kind.BondKind.{BondKind}
-use Rattle.builder.specs.Rings.{ringNumberCount}
+use Rattle.table.specs.Limits.{ringNumberCount}
 use Rattle.builder.specs.State.{Bld}
 use Rattle.desk_builder.specs.Events.{rootD, extendD, joinD, popD}
 

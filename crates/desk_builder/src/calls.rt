@@ -5,21 +5,21 @@ ghost use Rattle.builder.specs.State.{bld};
 ghost use Rattle.desk_builder.specs.Events.{startD, rootD, extendD, joinD, popD};
 ghost use Rattle.desk_builder.specs.Build.{answerLeaves, builtAnswered, buildD};
 use builder::build::Built;
-use builder::build::clear;
 use builder::builder::Builder;
 use builder::builder::ENTRY_WORDS;
-use builder::limits::ATOMS;
-use builder::limits::BONDS;
-use builder::limits::atom_room;
-use builder::limits::lesser;
-use builder::opens::NUMBERS;
 use desk_numbers::BAD_TABLE;
 use desk_state::state::is_state;
 use feature::atom_kind::AtomKind;
 use feature::atom_kind::in_range;
 use feature::bond_kind::BondKind;
-use packing::ATOM_WORDS;
-use packing::BOND_WORDS;
+use table::ATOM_WORDS;
+use table::BOND_WORDS;
+use table::clear;
+use table::limits::ATOMS;
+use table::limits::BONDS;
+use table::limits::RING_NUMBER_COUNT;
+use table::limits::atom_room;
+use table::limits::lesser;
 
 // What the desk says of a build. Its numbers, in order: 0, 3, 4, 17.
 pub enum Answer {
@@ -45,7 +45,7 @@ pub fn start(atoms: &[u32], entries: &[u32], path: &[u32], rings: &mut [u32]) ->
     if path.len() < places {
         return b.refused(BAD_TABLE, 0);
     }
-    if rings.len() < NUMBERS {
+    if rings.len() < RING_NUMBER_COUNT {
         return b.refused(BAD_TABLE, 0);
     }
     clear(rings);
@@ -110,7 +110,7 @@ pub fn join(
     ensures { λ r. ⌜ bld (now (atoms .entry)) (now (entries .exit)) (now (path .entry)) (now (rings .exit)) r
         ≡ joinD (bld (now (atoms .entry)) (now (entries .entry)) (now (path .entry)) (now (rings .entry)) b) k number ⌝ }
 {
-    if NUMBERS <= number {
+    if RING_NUMBER_COUNT <= number {
         return b.refused(BAD_TABLE, 0);
     }
     if !is_state(atoms, entries, path, rings, b) {

@@ -20,6 +20,7 @@ use Rattle.desk_pool.specs.Slots.{top, isFree, isOpen, keptFree, isSlot,
 use Rattle.feature.specs.Every.{every}
 use Rattle.feature.proofs.Every.{every-at, every-all}
 use Rattle.feature.proofs.Cases.{by-test, both-first, both-second, both-pass}
+use Rattle.table.proofs.Zeros.{zero-at}
 
 -- ---- the search for a pair
 -- no less and not the same
@@ -360,15 +361,9 @@ hit-kept p pairs a b h =
     (λ e. let l = ltb-true a b e in pair-kept p pairs a b (facts p pairs h) (omega arith))
     (λ e. pair-kept p pairs b a (facts p pairs h) (ltb-false a b e))
 
--- ---- a pool that has handed out nothing
-zeros-at : (n i : ℕ) → getD {A = ℕ} (replicate n 0) i 0 ≡ 0
-zeros-at zero i = refl
-zeros-at (suc n) zero = refl
-zeros-at (suc n) (suc i) = zeros-at n i
-
 empty-slot : (n i : ℕ) → isSlot emptyOf (replicate n 0) i ≡ true
 unfolding isSlot isFree
-empty-slot n i = rw (zeros-at n (i * slotWords), zeros-at n (i * slotWords + 1), zeros-at n (i * slotWords + 2))
+empty-slot n i = rw (zero-at n (i * slotWords), zero-at n (i * slotWords + 1), zero-at n (i * slotWords + 2))
 
 pub empty-stands : (n : ℕ) → top * slotWords ≤ n → isPool emptyOf (replicate n 0) ≡ true
 empty-stands n h =
@@ -378,5 +373,5 @@ empty-stands n h =
       counter = omega arith;
       spare = omega arith;
       each = λ (i : ℕ) (l : i < top + 1). empty-slot n i;
-      one = λ (i m lo hi : ℕ) (l : i < top + 1) (k : m < top + 1) (o : opens (replicate n 0) i lo hi ≡ true) (q : opens (replicate n 0) m lo hi ≡ true). absurd (let w = words-of (replicate n 0) i lo hi o in omega (arith, w .0, zeros-at n (i * slotWords)));
+      one = λ (i m lo hi : ℕ) (l : i < top + 1) (k : m < top + 1) (o : opens (replicate n 0) i lo hi ≡ true) (q : opens (replicate n 0) m lo hi ≡ true). absurd (let w = words-of (replicate n 0) i lo hi o in omega (arith, w .0, zero-at n (i * slotWords)));
     })

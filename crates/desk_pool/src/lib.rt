@@ -9,7 +9,7 @@ use join_pool::PAIRS;
 use join_pool::Pool;
 use join_pool::SLOT_WORDS;
 use join_pool::find;
-use packing::look;
+use table::look;
 
 // What the counter is kept at once there. A pair is looked for from the counter down, so the slot of this one is judged too.
 const TOP: u32 = 100;

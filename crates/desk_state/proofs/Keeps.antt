@@ -16,12 +16,12 @@ use Rattle.feature.specs.Bonds.{codeOf, reverseOf}
 use Rattle.feature.specs.declared.atom_kind.AtomKind.{AtomKind}
 use Rattle.feature.specs.declared.bond_kind.BondKind.{BondKind}
 use Rattle.feature.proofs.Cases.{by-eq}
-use Rattle.packing.specs.Words.{atomWords, listOf, loadAt, isHeld, isAtom}
+use Rattle.table.specs.Records.{atomWords}
+use Rattle.packing.specs.Words.{listOf, loadAt, isHeld, isAtom}
 use Rattle.packing.proofs.Laws.{load-stored, load-beside}
-use Rattle.builder.specs.Limits.{atomLimit, bondLimit}
-use Rattle.builder.specs.Rings.{ringNumberCount}
+use Rattle.table.specs.Limits.{atomLimit, bondLimit, ringNumberCount, placesIn}
 use Rattle.builder.specs.State.{unclosed, entryWords, entryList}
-use Rattle.desk_state.specs.Standing.{sourceAt, targetAt, openRings, placesIn, entrySlotsIn}
+use Rattle.desk_state.specs.Standing.{sourceAt, targetAt, openRings, entrySlotsIn}
 use Rattle.desk_state.proofs.Grown.{Plain, Pairs, least-below, plain-more, push, push-count, push-plain, push-before, push-target, fill, fill-count, fill-plain, fill-beside, pairs-two, pairs-open}
 
 -- ---- how many ring numbers are open

@@ -28,12 +28,11 @@ use Rattle.feature.proofs.Ranges.{good, ranged}
 use Rattle.feature.proofs.Bonds.{same-code, Reversed, reconciled, kind-back}
 use Rattle.packing.specs.Words.{isAtom, entryOfWords, entryCoded}
 use Rattle.packing.proofs.Laws.{bond-only}
-use Rattle.builder.specs.Limits.{atomLimit, bondLimit}
-use Rattle.builder.specs.Rings.{ringNumberCount}
+use Rattle.table.specs.Limits.{atomLimit, bondLimit, ringNumberCount, placesIn}
 use Rattle.builder.specs.State.{Bld, bld, unclosed, refuse, lastOf, entered, rootOf, bonded, extendedBy, extendOf, openedOf, openedAt, openingOf, openingKind, failedSt, closedBy, joinOf, popOf}
 use Rattle.builder.specs.Steps.{SmallCounts}
 use Rattle.builder.specs.declared.builder.Builder.{Builder}
-use Rattle.desk_state.specs.Standing.{isKind, sourceAt, entryKindAt, targetAt, isTarget, isBuilderEntry, bondsCounted, turnedOf, isOwn, isMatched, isPaired, leastOpen, isLater, isStep, isApart, isRing, openRings, joinsStand, placesIn, entrySlotsIn, countsStand, failureStands, isState}
+use Rattle.desk_state.specs.Standing.{isKind, sourceAt, entryKindAt, targetAt, isTarget, isBuilderEntry, bondsCounted, turnedOf, isOwn, isMatched, isPaired, leastOpen, isLater, isStep, isApart, isRing, openRings, joinsStand, entrySlotsIn, countsStand, failureStands, isState}
 use Rattle.desk_state.specs.Steps.{Between}
 use Rattle.desk_state.proofs.Counts.{counts}
 use Rattle.desk_state.proofs.Ends.{turned-code, to-matched, both-ends, even-ends}

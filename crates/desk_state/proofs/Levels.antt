@@ -18,7 +18,7 @@ use Rattle.feature.specs.declared.bond_kind.BondKind.{BondKind}
 use Rattle.feature.specs.declared.bond_kind.BondKind.the-variants as bonds
 use Rattle.feature.proofs.Cases.{by-eq, both-first, both-second}
 use Rattle.feature.proofs.Bonds.{reverse-twice, same-code}
-use Rattle.builder.specs.Limits.{atomLimit, bondLimit}
+use Rattle.table.specs.Limits.{atomLimit, bondLimit}
 use Rattle.builder.specs.State.{unclosed}
 use Rattle.desk_state.specs.Standing.{sourceAt, entryKindAt, targetAt, bondsCounted, turnedOf, isOwn, isMatched, isPaired}
 use Rattle.desk_state.specs.Steps.{isOf, lastAt, Linked, bondKindCount, cellOf, HasCount, Sound, ownAt, outCell, backCell, moreOf, putOf, canTake, takeOf, valAt, CountedAfter, Taken, NoneCounted, BondsMatch}

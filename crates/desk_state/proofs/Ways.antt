@@ -1,5 +1,5 @@
 -- The ways through the steps of the judge of pairs, each from what the calls on the way ensure. Assumes nothing.
-use Prim.Native.Nat.{ℕ, zero, suc, _+_, _*_, _-_, _<_, _≤_}
+use Prim.Native.Nat.{ℕ, suc, _+_, _*_, _-_, _<_, _≤_}
 use mathlib.Core.Path.{_≡_, refl, sym, ap, _∙_, subst}
 use mathlib.Core.Logic.{_≢_}
 use mathlib.Core.List.{List}
@@ -11,7 +11,8 @@ use borrow.Author.Tests.{eq-eqb, ne-eqb}
 use Rattle.feature.specs.Bonds.{kindOf, codeOf}
 use Rattle.feature.specs.Every.{every}
 use Rattle.feature.proofs.Cases.{by-eq}
-use Rattle.builder.specs.Limits.{atomLimit, bondLimit}
+use Rattle.table.specs.Limits.{atomLimit, bondLimit}
+use Rattle.table.proofs.Zeros.{zero-at}
 use Rattle.builder.specs.State.{unclosed}
 use Rattle.desk_state.specs.Standing.{sourceAt, entryKindAt, targetAt, turnedOf, isOwn, isPaired}
 use Rattle.desk_state.specs.Steps.{wordAt, Linked, Loose, bondKindCount, cellOf, Sound, ownAt, outCell, backCell, moreOf, putOf, canTake, takeOf, CountedAfter, Taken, NoneCounted, BondsMatch, Judged, Between, ChainsReady}
@@ -140,12 +141,6 @@ good-next e n a size before here x l =
 pub all-stand : {e : List ℕ} {n atoms : ℕ} {first before last after d : List ℕ} {a : ℕ} → ChainsReady e n atoms first before last after d → atoms ≤ a → ((x : ℕ) → x < a → BondsMatch e n x (length d)) → true ≡ every (isPaired e n) n
 all-stand {e} {n} {d = d} h l good =
     sym (all-good e n (length d) (ready-sound h) (λ i b c. good (sourceAt e i) (omega (arith, l, h .between .source i b))))
-
--- ---- the work room
-pub zero-at : (n i : ℕ) → _≡_ {A = ℕ} (getD (replicate n 0) i 0) 0
-zero-at zero i = refl
-zero-at (suc n) zero = refl
-zero-at (suc n) (suc i) = zero-at n i
 
 module _ {e : List ℕ} {n atoms : ℕ} (h : Between e n atoms) (x y : ℕ) (room : atoms ≤ x) (long : n ≤ y) where
   loose : (column : ℕ) → ((i : ℕ) → i < n → targetAt e i < unclosed → wordAt e column i < atoms) → Loose e column n (replicate x 0) (replicate y 0)

@@ -13,9 +13,8 @@ use Rattle.feature.specs.Pick.{pick, neither, both}
 use Rattle.feature.specs.Bonds.{codeOf, kindOf, reverseOf}
 use Rattle.feature.specs.declared.bond_kind.Coded.{Coded}
 use Rattle.feature.specs.declared.bond_kind.Coded.the-variants as coded
-use Rattle.packing.specs.Words.{atomWords, isAtom}
-use Rattle.builder.specs.Limits.{atomLimit, bondLimit, lesserOf}
-use Rattle.builder.specs.Rings.{ringNumberCount}
+use Rattle.packing.specs.Words.{isAtom}
+use Rattle.table.specs.Limits.{bondLimit, lesserOf, ringNumberCount, placesIn}
 use Rattle.builder.specs.State.{Bld, entryWords, unclosed}
 use Rattle.builder.specs.declared.builder.Builder.{Builder}
 
@@ -111,10 +110,7 @@ openRings r (suc n) = openRings r n + pick (eqb (getD r n 0) 0) 0 1
 unfoldable pub joinsStand : Builder → List ℕ → Bool
 joinsStand s r = leb (s .joins + openRings r ringNumberCount) (s .entries * 2)
 
--- for how many atoms and for how many entries tables of so many words have room
-abbrev pub placesIn : ℕ → ℕ
-placesIn la = lesserOf atomLimit (la / atomWords)
-
+-- how many entries in the making there is a slot for in a table of so many words
 abbrev pub entrySlotsIn : ℕ → ℕ
 entrySlotsIn le = lesserOf bondLimit (le / entryWords)
 

@@ -11,7 +11,7 @@ use Rattle.feature.specs.Every.{every}
 use Rattle.feature.specs.Pick.{pick, neither, both}
 use Rattle.feature.specs.Bonds.{codeOf, kindOf, reverseOf}
 use Rattle.feature.specs.declared.bond_kind.BondKind.{BondKind}
-use Rattle.builder.specs.Limits.{atomLimit, bondLimit}
+use Rattle.table.specs.Limits.{atomLimit, bondLimit}
 use Rattle.builder.specs.State.{entryWords, unclosed}
 use Rattle.desk_state.specs.Standing.{sourceAt, entryKindAt, targetAt, bondsCounted, turnedOf, isOwn, isPaired}
 
@@ -128,10 +128,6 @@ pub record Between (e : List ℕ) (n atoms : ℕ) : Type 0 where
   pub kind : (i : ℕ) → i < n → (k : BondKind) × (entryKindAt e i ≡ codeOf k)
   pub source : (i : ℕ) → i < n → sourceAt e i < atoms
   pub target : (i : ℕ) → i < n → targetAt e i < unclosed → targetAt e i < atoms
-
--- up to so many entries less work room is taken
-abbrev pub fewBonds : ℕ
-fewBonds = 256
 
 -- both chains linked, and the counts for so many atoms
 pub record ChainsReady (e : List ℕ) (n atoms : ℕ) (first before last after d : List ℕ) : Type 0 where

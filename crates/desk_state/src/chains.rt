@@ -2,13 +2,13 @@
 // the place of its last entry, `next` for each entry one more than the place of the one before it, and 0 ends a chain.
 ghost use mathlib.Core.Path.{_≡_};
 ghost use Prim.Native.Nat.{_≤_};
-ghost use Rattle.builder.specs.Limits.{bondLimit};
+ghost use Rattle.table.specs.Limits.{bondLimit};
 ghost use Rattle.desk_state.specs.Steps.{headWith, nextWith, Loose, Linked};
 use crate::state::TARGET;
 use builder::builder::ENTRY_WORDS;
 use builder::builder::OPEN;
-use packing::look;
-use packing::poke;
+use table::look;
+use table::poke;
 
 // Entry i put into the chain of the atom that stands in a column.
 fn link_one(entries: &[u32], column: usize, i: usize, head: &mut [u32], next: &mut [u32])

@@ -6,16 +6,15 @@ ghost use lib.Dec.{leb, eqb};
 ghost use mathlib.Core.Bool.{true};
 ghost use Rattle.feature.specs.Pick.{pick};
 ghost use Rattle.feature.specs.Every.{every};
-ghost use Rattle.builder.specs.Limits.{bondLimit};
-ghost use Rattle.builder.specs.Rings.{ringNumberCount};
+ghost use Rattle.table.specs.Limits.{bondLimit, ringNumberCount};
 ghost use Rattle.builder.specs.State.{unclosed};
 ghost use Rattle.desk_state.specs.Standing.{isLater, isApart, openRings, joinsStand};
 use crate::state::TARGET;
 use builder::builder::Builder;
 use builder::builder::ENTRY_WORDS;
 use builder::builder::OPEN;
-use builder::opens::NUMBERS;
-use packing::look;
+use table::limits::RING_NUMBER_COUNT;
+use table::look;
 
 // Whether a target is that of no open entry, or no less than the least it may be.
 fn is_later(least: usize, target: u32) -> bool
@@ -96,7 +95,7 @@ fn open_rings(rings: &[u32]) -> usize
 {
     let mut count: usize = 0;
     let mut n: usize = 0;
-    while n < NUMBERS {
+    while n < RING_NUMBER_COUNT {
         count += open_at(rings, n);
         n += 1;
     }

@@ -9,28 +9,27 @@ ghost use Prim.Native.Nat.{_*_, _<_, _≤_};
 ghost use lib.ListN.{length, getD};
 ghost use Rattle.feature.specs.Bonds.{kindOf};
 ghost use Rattle.feature.specs.Every.{every};
-ghost use Rattle.builder.specs.Limits.{atomLimit, bondLimit, fewAtoms};
+ghost use Rattle.table.specs.Steps.{fewAtoms, fewBonds};
+ghost use Rattle.table.specs.Limits.{atomLimit, bondLimit};
 ghost use Rattle.desk_state.specs.Standing.{turnedOf, isOwn, isPaired};
-ghost use Rattle.desk_state.specs.Steps.{outCell, moreOf, putOf, canTake, takeOf, Linked, Sound, CountedAfter, Taken, NoneCounted, BondsMatch, Judged, Between, ChainsReady, fewBonds};
+ghost use Rattle.desk_state.specs.Steps.{outCell, moreOf, putOf, canTake, takeOf, Linked, Sound, CountedAfter, Taken, NoneCounted, BondsMatch, Judged, Between, ChainsReady};
 use crate::chains::link;
 use crate::state::KIND;
 use crate::state::TARGET;
 use builder::builder::ENTRY_WORDS;
-use builder::limits::ATOMS;
-use builder::limits::BONDS;
-use builder::limits::FEW_ATOMS;
 use feature::bond_kind::Coded;
 use feature::bond_kind::code;
 use feature::bond_kind::decode;
 use feature::bond_kind::reverse;
-use packing::look;
-use packing::poke;
+use table::limits::ATOMS;
+use table::limits::BONDS;
+use table::limits::FEW_ATOMS;
+use table::limits::FEW_BONDS;
+use table::look;
+use table::poke;
 
 // The numbers of the kinds are 1 to 8.
 const KINDS: usize = 8;
-
-// So many entries are few.
-const FEW_BONDS: usize = 256;
 
 // The number of a kind from the other end.
 fn turned(n: u32) -> u32

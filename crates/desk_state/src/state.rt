@@ -3,9 +3,8 @@ ghost use mathlib.Core.Path.{_≡_};
 ghost use Prim.Native.Nat.{_≤_};
 ghost use lib.Dec.{ltb};
 ghost use Rattle.feature.specs.Bonds.{kindOf};
-ghost use Rattle.builder.specs.Limits.{atomLimit, bondLimit};
+ghost use Rattle.table.specs.Limits.{atomLimit, bondLimit, ringNumberCount};
 ghost use Rattle.builder.specs.State.{bld};
-ghost use Rattle.builder.specs.Rings.{ringNumberCount};
 ghost use Rattle.feature.specs.Every.{every};
 ghost use Rattle.packing.specs.Words.{isAtom};
 ghost use Rattle.desk_state.specs.Standing.{isKind, isTarget, isBuilderEntry, isStep, isRing, countsStand, failureStands, isState};
@@ -16,15 +15,15 @@ use crate::pairs::pairs_stand;
 use builder::builder::Builder;
 use builder::builder::ENTRY_WORDS;
 use builder::builder::OPEN;
-use builder::limits::ATOMS;
-use builder::limits::BONDS;
-use builder::limits::lesser;
-use builder::opens::NUMBERS;
 use feature::bond_kind::Coded;
 use feature::bond_kind::decode;
-use packing::ATOM_WORDS;
 use packing::is_atom;
-use packing::look;
+use table::ATOM_WORDS;
+use table::limits::ATOMS;
+use table::limits::BONDS;
+use table::limits::RING_NUMBER_COUNT;
+use table::limits::lesser;
+use table::look;
 
 // Where the words of an entry stand.
 pub const KIND: usize = 1;
@@ -135,7 +134,7 @@ fn rings_stand(b: Builder, entries: &[u32], rings: &[u32]) -> bool
     ensures { λ r. ⌜ r ≡ every (isRing b (now (entries .entry)) (now (rings .entry))) ringNumberCount ⌝ }
 {
     let mut n = 0;
-    while n < NUMBERS {
+    while n < RING_NUMBER_COUNT {
         if !is_ring(b, entries, rings, n) {
             return false;
         }
@@ -157,7 +156,7 @@ fn counts_stand(b: Builder, atoms: usize, entries: usize, path: usize, rings: us
     if path < b.places {
         return false;
     }
-    if rings < NUMBERS {
+    if rings < RING_NUMBER_COUNT {
         return false;
     }
     if b.places < b.atoms {

@@ -14,7 +14,8 @@ use Rattle.writer.specs.declared.Wrote.the-variants as wrote
 use Rattle.writer.specs.Line.{Event}
 use Rattle.writer.specs.Tables.{Spoken, spoken, eventOf, far}
 use Rattle.desk_writer.specs.declared.Said.the-variants as said
-use Rattle.desk_writer.specs.Pieces.{isWriter, clearedFrom, tailOf, wroteSaid, EventLeft, eventLeaves, toldLeaves, eventD}
+use Rattle.table.specs.Zeros.{clearedFrom}
+use Rattle.desk_writer.specs.Pieces.{isWriter, tailOf, wroteSaid, EventLeft, eventLeaves, toldLeaves, eventD}
 use Rattle.desk_writer.proofs.WriterKept as writer-kept
 use Rattle.desk_writer.proofs.Results.{one-answer}
 

@@ -21,7 +21,8 @@ use Rattle.writer.specs.Tables.{Spoken, spoken, writer, pieceRoom, bytesFrom, a
 use Rattle.writer.specs.Pieces.{pieceStarts, Holds}
 use Rattle.writer.proofs.Pieces.{length-starts, holds-step, room-held}
 use Rattle.desk_writer.specs.declared.Said.the-variants as said
-use Rattle.desk_writer.specs.Pieces.{isWriter, wroteSaid, saidTold, writerWords, clearedFrom, tailOf, eventLeaves, toldLeaves, eventD}
+use Rattle.table.specs.Zeros.{clearedFrom}
+use Rattle.desk_writer.specs.Pieces.{isWriter, wroteSaid, saidTold, writerWords, tailOf, eventLeaves, toldLeaves, eventD}
 use Rattle.desk_writer.specs.OnPieces.{piecesTo, piecesIn, fitsIn, eventAnswer, groundOf, piecesAfter, OnPieces, EventOnward}
 use Rattle.desk_writer.proofs.WriterKept.{Laid, facts, laid-before, starts-within}
 

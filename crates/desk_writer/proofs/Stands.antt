@@ -1,17 +1,15 @@
 -- A call on what stands for a writer's state and on what does not. Assumes nothing.
-use Prim.Native.Nat.{ℕ, zero, suc, _+_, _-_, _≤_, _<_}
-use mathlib.Core.Path.{_≡_, refl, sym, ap, _∙_}
+use Prim.Native.Nat.{ℕ, _≤_}
+use mathlib.Core.Path.{_≡_, refl, ap, _∙_}
 use mathlib.Core.Bool.{Bool, true, false}
-use mathlib.Core.List.{List, [], _∷_, _++_, append-nil, append-assoc}
+use mathlib.Core.List.{List}
 use native.Mathlib.Omega.{arith}
-use native.Mathlib.Numerals.{add-one}
-use lib.ListN.{length, getD, set, take, drop, replicate, length-append, length-take, length-replicate, drop-of-length-le, take-append-drop}
-use lib.Seq.{drop-cons, set-at}
+use lib.ListN.{length}
 use lib.Dec.{eqb, ltb, leb}
 use borrow.Author.Tests.{eq-eqb, ne-eqb, ltb-true, leb-true}
 use Rattle.feature.specs.Pick.{pick}
 use Rattle.feature.proofs.Cases.{both-first, both-second}
-use Rattle.builder.specs.Limits.{atomLimit, lesserOf}
+use Rattle.table.specs.Limits.{atomLimit}
 use Rattle.writer.specs.declared.Writer.{Writer}
 use Rattle.writer.specs.declared.Wrote.{Wrote}
 use Rattle.writer.specs.declared.Wrote.the-variants as wrote
@@ -20,14 +18,13 @@ use Rattle.writer.specs.Tables.{Spoken, toldWith, pieceRoom, eventOf, far}
 use Rattle.writer.specs.Steps.{LineNear}
 use Rattle.desk_writer.specs.declared.Said.{Said}
 use Rattle.desk_writer.specs.declared.Said.the-variants as said
-use Rattle.desk_writer.specs.Pieces.{isWriter, clearedFrom, tailOf, wroteSaid, eventLeaves, toldLeaves, eventD}
+use Rattle.table.specs.Zeros.{clearedFrom}
+use Rattle.table.proofs.Rooms.{lesser-most}
+use Rattle.desk_writer.specs.Pieces.{isWriter, tailOf, wroteSaid, eventLeaves, toldLeaves, eventD}
 
 room-most : (starts : List ℕ) → pieceRoom starts ≤ atomLimit
-unfolding pieceRoom lesserOf
-room-most starts = go (ltb (length starts) atomLimit) refl where
-  go : (q : Bool) → ltb (length starts) atomLimit ≡ q → pick (ltb (length starts) atomLimit) (length starts) atomLimit ≤ atomLimit
-  go true q = rw q (omega (arith, ltb-true (length starts) atomLimit q))
-  go false q = rw q (omega arith)
+unfolding pieceRoom
+room-most starts = lesser-most atomLimit (length starts)
 
 -- what the writer's events ask
 pub near : (s : Spoken) → isWriter s ≡ true → LineNear (s .at)
@@ -59,36 +56,6 @@ module _ (s : Spoken) (e : Event) where
       ∙ ap (λ (x : List ℕ). eventLeaves (wroteSaid t) x starts) (g .1)
       ∙ ap (toldLeaves (s .at)) d
       ∙ simp (h, ← w, f)
-
--- ---- an output cleared from a place on
-abbrev pub clearedTo : ℕ → ℕ → List ℕ → List ℕ
-clearedTo from at t = (take from t ++ replicate (at - from) 0) ++ drop at t
-
-zero-last : (n : ℕ) → _++_ {A = ℕ} (replicate n 0) (0 ∷ []) ≡ replicate (suc n) 0
-zero-last zero = refl
-zero-last (suc n) = ap (λ (l : List ℕ). 0 ∷ l) (zero-last n)
-
-pub cleared-start : (t : List ℕ) (from : ℕ) → t ≡ clearedTo from from t
-cleared-start t from =
-    let z : from - from ≡ 0 = omega arith in
-    sym (take-append-drop from t) ∙ rw (z, append-nil (take from t))
-
-pub cleared-step : (t : List ℕ) (from at : ℕ) → from ≤ at → at < length t → set (clearedTo from at t) at 0 ≡ clearedTo from (at + 1) t
-cleared-step t from at l h =
-    let long : length (take from t ++ replicate (at - from) 0) ≡ at = simp (length-append, length-take, length-replicate {A = ℕ}) (omega arith) in
-    let more : suc at - from ≡ suc (at - from) = omega arith in
-    rw (add-one, drop-cons t at 0 h)
-    (set-at (take from t ++ replicate (at - from) 0) (getD t at 0) (drop (suc at) t) 0 at long
-    ∙ sym (append-assoc (take from t ++ replicate (at - from) 0) (0 ∷ []) (drop (suc at) t))
-    ∙ ap (λ (x : List ℕ). x ++ drop (suc at) t)
-    (append-assoc (take from t) (replicate (at - from) 0) (0 ∷ [])
-    ∙ ap (λ (x : List ℕ). take from t ++ x) (zero-last (at - from) ∙ ap (λ (n : ℕ). replicate n 0) (sym more))))
-
-pub cleared-end : (t : List ℕ) (from at : ℕ) → from ≤ at → at ≤ length t + (from - length t) → length t ≤ at → clearedTo from at t ≡ clearedFrom from t
-unfolding clearedFrom
-cleared-end t from at l m h =
-    let e : at - from ≡ length t - from = omega arith in
-    rw (drop-of-length-le t h, e) (append-nil (take from t ++ replicate (length t - from) 0))
 
 -- ---- the answer to an event, and what is left of the output
 pub held-first : (before w : Writer) (o p : List ℕ) → before .pieces ≡ 0 → p ≡ clearedFrom (w .len) o → (said.Held w ≡ said.Held w) × (p ≡ pick (eqb (before .pieces) 0) (clearedFrom (w .len) o) o)

@@ -5,10 +5,10 @@
 -- Numbers stand for a writer's state if there is room for the pieces, their line is within the output and below 2^31, so that
 -- a start stays a number of a table, and the pieces make up that line: the first starts at 0 and each ends no sooner than it
 -- starts, which is where the next one starts, or where the line ends; with no piece the line is empty.
-use Prim.Native.Nat.{ℕ, _+_, _-_}
-use mathlib.Core.List.{List, [], _∷_, _++_}
+use Prim.Native.Nat.{ℕ, _+_}
+use mathlib.Core.List.{List, [], _∷_}
 use mathlib.Core.Bool.{Bool}
-use lib.ListN.{length, getD, take, replicate}
+use lib.ListN.{length, getD}
 use lib.Dec.{ltb, leb, eqb}
 use Rattle.feature.specs.Pick.{pick, both}
 use Rattle.writer.specs.declared.Writer.{Writer}
@@ -20,6 +20,7 @@ use Rattle.desk_writer.specs.declared.Said.{Said}
 use Rattle.desk_writer.specs.declared.Said.the-variants.{Held, AtomRoom, OutRoom, NoPiece, Overpop, BadTable}
 use Rattle.feature.specs.Every.{every}
 use Rattle.desk_numbers.specs.Numbers as desk
+use Rattle.table.specs.Zeros.{clearedFrom}
 
 -- ---- a writer's state
 -- where piece i ends
@@ -68,10 +69,6 @@ writerWords NoPiece = []
 writerWords Overpop = []
 
 -- ---- what is left of the output
--- zeros from the place n on
-unfoldable pub clearedFrom : ℕ → List ℕ → List ℕ
-clearedFrom n out = take n out ++ replicate (length out - n) 0
-
 -- the output after an event of a writer: zeros after the line where it held no piece, else as the event leaves it
 unfoldable pub tailOf : Writer → Wrote → List ℕ → List ℕ
 tailOf before (wrote.Held w) out = pick (eqb (before .pieces) 0) (clearedFrom (w .len) out) out

@@ -7,16 +7,18 @@ ghost use lib.Dec.{eqb, ltb};
 ghost use Rattle.feature.specs.Pick.{pick};
 ghost use Rattle.desk_writer.specs.declared.Said.the-variants.{Held};
 ghost use Rattle.feature.specs.Kinds.{inRange};
-ghost use Rattle.builder.specs.Rings.{ringNumberCount};
+ghost use Rattle.table.specs.Limits.{ringNumberCount};
 ghost use Rattle.writer.specs.Line.{Event};
 ghost use Rattle.writer.specs.Tables.{spoken};
 ghost use Rattle.feature.specs.Every.{every};
-ghost use Rattle.desk_writer.specs.Pieces.{isPiece, piecesStand, isWriter, clearedFrom, tailOf, wroteSaid, eventLeaves, eventD};
-use builder::opens::NUMBERS;
+ghost use Rattle.table.specs.Zeros.{clearedFrom};
+ghost use Rattle.desk_writer.specs.Pieces.{isPiece, piecesStand, isWriter, tailOf, wroteSaid, eventLeaves, eventD};
 use feature::atom_kind::AtomKind;
 use feature::atom_kind::in_range;
 use feature::bond_kind::BondKind;
-use packing::look;
+use table::clear_from;
+use table::limits::RING_NUMBER_COUNT;
+use table::look;
 use writer::Writer;
 use writer::Wrote;
 use writer::event;
@@ -90,17 +92,6 @@ fn is_writer(out: &[u8], starts: &[u32], w: Writer) -> bool
     pieces_stand(starts, w)
 }
 
-// Zeros from a place on.
-fn clear_from(out: &mut [u8], from: usize)
-    ensures { λ _. ⌜ now (out .exit) ≡ clearedFrom from (now (out .entry)) ⌝ }
-{
-    let mut at = from;
-    while at < out.len() {
-        out[at] = 0;
-        at += 1;
-    }
-}
-
 // A writer that an event has brought to another state. Where no piece was held, nothing is known of the bytes after the line,
 // so they are cleared. A later event lays none after the line that it makes and makes it no shorter, so they stay zeros: to
 // clear them each time would make a line cost its length times the output's.
@@ -159,7 +150,7 @@ pub fn extend(out: &mut [u8], starts: &mut [u32], w: Writer, b: BondKind, k: Ato
 pub fn join(out: &mut [u8], starts: &mut [u32], w: Writer, b: BondKind, n: u32) -> Said
     ensures { λ r. ⌜ eventLeaves r (now (out .exit)) (now (starts .exit)) ≡ eventD (ltb n ringNumberCount) (spoken w (now (out .entry)) (now (starts .entry))) (Event.Join b n) ⌝ }
 {
-    if NUMBERS <= n as usize {
+    if RING_NUMBER_COUNT <= n as usize {
         return Said::BadTable;
     }
     if !is_writer(out, starts, w) {

@@ -17,7 +17,8 @@ use Rattle.desk_builder.specs.declared.calls.Answer.the-variants as built
 use Rattle.packing.specs.Words.{listed}
 use Rattle.packing.specs.declared.Pair.{Pair}
 use Rattle.desk_atom.specs.declared.Begins.{Begins}
-use Rattle.desk_atom.specs.Texts.{zeros, kindsIn, tellsAtom, firstAtom}
+use Rattle.table.specs.Zeros.{zeros}
+use Rattle.desk_atom.specs.Texts.{kindsIn, tellsAtom, firstAtom}
 use Rattle.desk_writer.specs.declared.Said as lines
 use Rattle.desk_writer.specs.declared.Said.the-variants as said
 use Rattle.desk_writer.specs.Pieces.{writerWords}

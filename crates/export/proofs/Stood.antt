@@ -27,7 +27,7 @@ use Rattle.packing.specs.Words.{loadOf}
 use Rattle.packing.specs.declared.Loaded.{Loaded}
 use Rattle.packing.specs.declared.Loaded.the-variants as loaded
 use Rattle.packing.proofs.Laws.{only}
-use Rattle.builder.specs.Rings.{ringNumberCount}
+use Rattle.table.specs.Limits.{ringNumberCount}
 use Rattle.builder.specs.State.{Bld, bld, refuse, entered, rootOf, bonded, extendedBy, extendOf, openedOf, openingKind, failedSt, closedBy, joinOf, popOf}
 use Rattle.builder.specs.State as graph
 use Rattle.builder.specs.declared.builder.Builder.{Builder}

@@ -13,7 +13,8 @@ use Rattle.feature.specs.Bonds.{kindOf}
 use Rattle.packing.specs.Words.{pair, listed, wordsOf, loadOf}
 use Rattle.packing.specs.declared.Pair.{Pair}
 use Rattle.spell.specs.Spell.{bondText}
-use Rattle.desk_atom.specs.Texts.{AtomTold, Spells, zeros, firstAtom, texted, atomD}
+use Rattle.table.specs.Zeros.{zeros}
+use Rattle.desk_atom.specs.Texts.{AtomTold, Spells, firstAtom, texted, atomD}
 use Rattle.export.specs.Given.{onAtom, onBond}
 use Rattle.desk_report.specs.Report.{bad, telling, laidInto}
 

@@ -11,7 +11,7 @@ use Rattle.feature.specs.Bonds.{kindOf}
 use Rattle.packing.specs.Words.{loadOf}
 use Rattle.builder.specs.State.{Bld, bld}
 use Rattle.builder.specs.declared.builder.Builder.{Builder}
-use Rattle.builder.specs.Build.{zeroed}
+use Rattle.table.specs.Zeros.{zeroed}
 use Rattle.desk_builder.specs.Events.{startD, rootD, extendD, joinD, popD}
 use Rattle.desk_builder.specs.Build.{BuildLeft, buildD}
 use Rattle.export.specs.Given.{onAtom, onBond, onBuilder}

@@ -9,7 +9,7 @@ use lib.Dec.{ltb}
 use Rattle.feature.specs.Kinds.{inRange}
 use Rattle.feature.specs.Bonds.{kindOf}
 use Rattle.packing.specs.Words.{loadOf}
-use Rattle.builder.specs.Rings.{ringNumberCount}
+use Rattle.table.specs.Limits.{ringNumberCount}
 use Rattle.writer.specs.Line.{Event}
 use Rattle.writer.specs.Tables.{spoken}
 use Rattle.desk_writer.specs.Pieces.{EventLeft, eventD}

@@ -5,11 +5,10 @@ ghost use mathlib.Core.Path.{_≡_};
 ghost use lib.ListN.{length};
 ghost use lib.Seq.{sets};
 ghost use Rattle.packing.specs.Words.{listed};
-ghost use Rattle.desk_atom.specs.Texts.{zeros, kindsIn, rnumD};
+ghost use Rattle.table.specs.Zeros.{zeros};
+ghost use Rattle.desk_atom.specs.Texts.{kindsIn, rnumD};
 ghost use Rattle.export.specs.Atom.{reading, readKindWords, readAtomX, spelling, textReported, atomX, bondX};
-use builder::build::clear;
 use desk_atom::Begins;
-use desk_atom::wipe;
 use desk_report::answer::lay;
 use desk_report::answer::of_begins;
 use desk_report::answer::of_spelt;
@@ -19,8 +18,10 @@ use feature::bond_kind::decode;
 use packing::Loaded;
 use packing::Pair;
 use packing::kind;
-use packing::poke;
 use packing::words;
+use table::clear;
+use table::clear_bytes;
+use table::poke;
 
 // The words of a kind.
 const KIND_WORDS: usize = 2;
@@ -73,7 +74,7 @@ pub extern "C" fn mavisdrok_spell_atom(out: &mut [u8], first: u32, second: u32, 
 {
     let held = kind(first, second);
     let Loaded::Held(k) = held else {
-        wipe(out);
+        clear_bytes(out);
         refuse(report);
         return;
     };
@@ -87,7 +88,7 @@ pub extern "C" fn mavisdrok_spell_bond(out: &mut [u8], bond: u32, report: &mut [
 {
     let coded = decode(bond);
     let Coded::Kind(k) = coded else {
-        wipe(out);
+        clear_bytes(out);
         refuse(report);
         return;
     };

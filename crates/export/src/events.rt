@@ -3,7 +3,6 @@
 ghost use mathlib.Core.Path.{_≡_};
 ghost use Rattle.desk_report.specs.Report.{ofEvent, laidInto};
 ghost use Rattle.export.specs.Events.{cellsOfBuilder, builderKept, startX, builderRootX, builderExtendX, builderJoinX, builderPopX, made, buildX};
-use builder::build::clear;
 use builder::builder::Builder;
 use desk_builder::calls;
 use desk_report::answer::lay;
@@ -18,6 +17,7 @@ use feature::bond_kind::Coded;
 use feature::bond_kind::decode;
 use packing::Loaded;
 use packing::kind;
+use table::clear;
 
 // The new state, where an event was accepted.
 fn keep_state(state: &mut [u64], b: Builder)

@@ -17,7 +17,7 @@ use Rattle.grammar.specs.Grammar.{link, meaning, tells, enter, atomK, br
 use Rattle.grammar.proofs.Verdict.{read-tree}
 use Rattle.grammar.proofs.First.{after-line}
 use Rattle.grammar.proofs.Late.{late, latePart, eaten-late}
-use Rattle.builder.specs.Limits.{branchLimit}
+use Rattle.table.specs.Limits.{branchLimit}
 use Rattle.grammar.specs.Lines.{Fits, Eaten, Late, Ends, Bytes, WrongAt}
 use Rattle.grammar.specs.OpenSmiles.{openOrganics, openNames, OpenOrganic, OpenSymbol, uncounted, flat′, pair′, chiralS′, paired, SmallChiral, bracket′, neutral′, digit′, digits′, no-rings, Chain, first, branched, no-branches, digitsS, chargeS′, classS′, atomS′, ringsS, chainS, Small, SmallCharge, SmallAtom, Strict, StrictAtom, NoBranch, Terminator, space, tab, feed, return, terminatorS}
 use Rattle.grammar.proofs.Machine.{top, ending, digitOf, bondOf, begins, leads, bodyStep}

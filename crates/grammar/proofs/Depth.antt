@@ -10,7 +10,7 @@ use native.Mathlib.Omega.{arith}
 use borrow.Author.Tests.{ltb-true, ltb-false}
 use Rattle.feature.specs.Text.{byte}
 use Rattle.feature.proofs.Cases.{impossible}
-use Rattle.builder.specs.Limits.{branchLimit}
+use Rattle.table.specs.Limits.{branchLimit}
 use Rattle.grammar.specs.Grammar.{Atom, elided, bond, dot, Line, start, link, ring, branch}
 use Rattle.grammar.specs.Lines.{Fits}
 use Rattle.grammar.proofs.Machine.{digitOf, bondOf, Part, begins, partStep, partEnd, Around, top, inside, Where, begin, after, around, put, State, want, inAtom, body, percent, percent1, fromPart, shut, bodyStep, wantStep, atomStep, step, topmost, atomEnd, ending}

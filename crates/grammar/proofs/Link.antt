@@ -21,7 +21,7 @@ use Rattle.read_token.specs.declared.scanner.Missing.the-variants.{EndOfLine, C
 use Rattle.read_token.specs.declared.scanner.Found.the-variants as found
 use Rattle.read_token.specs.declared.read_rnum.Ring.{Ring}
 use Rattle.read_token.specs.declared.read_rnum.Ring.the-variants as rnum
-use Rattle.builder.specs.Limits.{branchLimit}
+use Rattle.table.specs.Limits.{branchLimit}
 use Rattle.read_line.specs.declared.lead.Lead.{Lead}
 use Rattle.read_line.specs.declared.lead.Lead.the-variants as lead
 use Rattle.read_line.specs.declared.lead.Led.{Led}

@@ -5,7 +5,7 @@ use mathlib.Core.Path.{_≡_, refl, sym, ap, _∙_}
 use mathlib.Core.List.{List, [], _∷_, _++_, append-assoc, append-nil}
 use native.Mathlib.Omega.{arith}
 use lib.ListN.{length}
-use Rattle.builder.specs.Limits.{branchLimit}
+use Rattle.table.specs.Limits.{branchLimit}
 use Rattle.read_line.specs.Events.{ReadEvent, Enter}
 use Rattle.read_line.specs.Parse.{parse}
 use Rattle.grammar.specs.Grammar.{Digit, flat, code1, code2, valid1, valid2, chiralK, okay1, okay2, neutral, num1, num2, isotopeK, mapK, chargeK, bracketK, Atom, atomS, atomK, Link, linkS, linkK, dot, Line, start, link, spell, enter, atoms, tells, meaning}

@@ -13,7 +13,7 @@ use Rattle.feature.specs.Pick.{pick, both}
 use Rattle.feature.proofs.Cases.{both-true, clash, impossible}
 use Rattle.read_token.specs.declared.scanner.Missing.{Missing}
 use Rattle.read_token.specs.declared.scanner.Missing.the-variants.{EndOfLine, Character}
-use Rattle.builder.specs.Limits.{branchLimit}
+use Rattle.table.specs.Limits.{branchLimit}
 use Rattle.read_line.specs.Events.{ReadEvent, Enter, Join, Pop, Miss, Nest}
 use Rattle.read_line.specs.Parse.{parse}
 use Rattle.grammar.specs.Grammar.{Atom, Link, dot, Line, start, link, ring, branch, spell, enter, joinEvent, tells, meaning}

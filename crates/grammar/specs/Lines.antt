@@ -7,7 +7,7 @@ use lib.ListN.{length}
 use Rattle.feature.specs.Text.{byte, bytes}
 use Rattle.read_token.specs.declared.scanner.Missing.{Missing}
 use Rattle.read_token.specs.declared.scanner.Missing.the-variants.{EndOfLine, Character}
-use Rattle.builder.specs.Limits.{branchLimit}
+use Rattle.table.specs.Limits.{branchLimit}
 use Rattle.read_line.specs.Events.{ReadEvent, Enter, Join, Pop, Miss, Nest}
 use Rattle.read_line.specs.Parse.{parse}
 use Rattle.grammar.specs.Grammar.{Line, start, link, ring, branch, spell, meaning}

@@ -2,11 +2,9 @@
 use Prim.Native.Nat.{ℕ, zero, suc, _+_, _-_, _*_, _≤_, _<_}
 use mathlib.Core.Path.{_≡_, refl, sym, ap, _∙_}
 use mathlib.Core.Bool.{true, false}
-use mathlib.Core.List.{List, _∷_, _++_, append-nil}
+use mathlib.Core.List.{List}
 use native.Mathlib.Omega.{arith}
-use native.Mathlib.Numerals.{add-one}
-use lib.ListN.{length, getD, set, drop, replicate, drop-of-length-le}
-use lib.Seq.{drop-cons}
+use lib.ListN.{getD, set}
 use lib.Dec.{eqb}
 use borrow.Author.Tests.{eq-eqb, ne-eqb, lt-ltb, le-ltb}
 use Rattle.join_pool.specs.declared.Pool.{Pool}
@@ -34,19 +32,6 @@ number-none pairs lo hi n e = rw e
 pub opens-last : (pairs : List ℕ) (n lo hi x y z : ℕ) → x ≡ getD pairs (n * slotWords) 0 → y ≡ getD pairs (n * slotWords + 1) 0 → z ≡ getD pairs (n * slotWords + 2) 0 → x ≡ 1 → y ≡ lo → eqb z hi ≡ opens pairs n lo hi
 unfolding opens
 opens-last pairs n lo hi x y z e f g a b = simp (eq-eqb _ _ (sym e ∙ a), eq-eqb _ _ (sym f ∙ b), g)
-
--- ---- the words cleared one after the other
-set-zero : (n x : ℕ) (t : List ℕ) → set (replicate n 0 ++ (x ∷ t)) n 0 ≡ replicate (suc n) 0 ++ t
-set-zero zero x t = refl
-set-zero (suc n) x t = ap (λ (l : List ℕ). 0 ∷ l) (set-zero n x t)
-
-pub clear-step : (t : List ℕ) (at : ℕ) → at < length t → set (replicate at 0 ++ drop at t) at 0 ≡ replicate (at + 1) 0 ++ drop (at + 1) t
-clear-step t at h = rw (add-one, drop-cons t at 0 h) (set-zero at (getD t at 0) (drop (suc at) t))
-
-pub clear-end : (t : List ℕ) (at : ℕ) → at ≤ length t → length t ≤ at → replicate at 0 ++ drop at t ≡ replicate (length t) 0
-clear-end t at l h =
-    let e : at ≡ length t = omega arith in
-    rw (drop-of-length-le t h) (append-nil (replicate at 0) ∙ ap (λ (n : ℕ). replicate n 0) e)
 
 -- ---- a call
 pub close-it : (p : Pool) (pairs : List ℕ) (n k : ℕ) (l : List ℕ) → l ≡ slot pairs n 0 0 0 → k ≡ counterOf p

@@ -6,10 +6,10 @@
 //
 // lent: the same of a pool that is lent.
 ghost use mathlib.Core.Path.{_≡_};
-ghost use lib.ListN.{length, replicate};
 ghost use Rattle.join_pool.specs.Pairs.{emptyOf, opens, openNumber, slot, counterOf, nextOf, hits, openOf, closeOf, hitPair, hitOf};
-use packing::look;
-use packing::poke;
+use table::limits::RING_NUMBER_COUNT;
+use table::look;
+use table::poke;
 
 pub mod lent;
 
@@ -18,7 +18,7 @@ pub const HIGHEST: u32 = 99;
 // The words of a number.
 pub const SLOT_WORDS: usize = 3;
 // The words of a pool's table: 0 is no ring number, and has a slot all the same.
-pub const PAIRS: usize = 100 * SLOT_WORDS;
+pub const PAIRS: usize = RING_NUMBER_COUNT * SLOT_WORDS;
 
 // The mark of a number.
 const FREE: u32 = 0;
@@ -74,17 +74,6 @@ fn put_slot(pairs: &mut [u32], number: u32, mark: u32, lower: u32, higher: u32)
     poke(pairs, at, mark);
     poke(pairs, at + 1, lower);
     poke(pairs, at + 2, higher);
-}
-
-// No number open, whatever was.
-pub fn clear(pairs: &mut [u32])
-    ensures { λ _. ⌜ now (pairs .exit) ≡ replicate (length (now (pairs .entry))) 0 ⌝ }
-{
-    let mut at: usize = 0;
-    while at < pairs.len() {
-        pairs[at] = FREE;
-        at += 1;
-    }
 }
 
 impl Pool {

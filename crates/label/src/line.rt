@@ -14,12 +14,12 @@ use crate::output::make_room;
 use crate::output::pass_on;
 use answer_text::words::print_caret;
 use answer_text::words::print_shown;
-use builder::limits::TEXT;
 use oracle_form::byte::NOWHERE;
 use oracle_form::byte::after;
 use oracle_form::byte::put;
 use oracle_form::byte::put_word;
 use oracle_form::number;
+use table::limits::TEXT;
 
 const TAB: u8 = b'\t';
 

@@ -8,15 +8,15 @@ use crate::line::open;
 use crate::line::start;
 use crate::line::step;
 use crate::output::flush;
-use builder::limits::ATOMS;
-use builder::limits::BONDS;
-use builder::limits::TEXT;
 use check::same;
 use io::print_decimal;
 use libc::STDERR_FILENO;
 use libc::STDIN_FILENO;
-use packing::ATOM_WORDS;
-use packing::BOND_WORDS;
+use table::ATOM_WORDS;
+use table::BOND_WORDS;
+use table::limits::ATOMS;
+use table::limits::BONDS;
+use table::limits::TEXT;
 
 // The words of tables for the largest graph.
 const ATOM_TABLE: usize = ATOMS * ATOM_WORDS;

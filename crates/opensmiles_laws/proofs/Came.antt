@@ -11,7 +11,7 @@ use lib.ListN.{length}
 use borrow.Author.Tests.{eq-eqb, ne-eqb, lt-ltb, le-ltb, ltb-true, ltb-false}
 use Rattle.feature.specs.Pick.{pick}
 use Rattle.feature.proofs.Cases.{impossible}
-use Rattle.builder.specs.Limits.{textLimit}
+use Rattle.table.specs.Limits.{textLimit, placesIn, bondSlotsIn}
 use Rattle.read_token.specs.declared.scanner.Missing.the-variants as missing
 use Rattle.read_line.specs.Events.{ReadEvent, Enter, Join, Pop, Miss, Nest}
 use Rattle.read_line.specs.Parse.{parse}
@@ -25,7 +25,7 @@ use Rattle.grammar.specs.Lines.{Bytes, Clean}
 use Rattle.opensmiles_laws.specs.Molecule.{Molecule, asHeld, moleculeTold, next, tellAll, moleculeOf, numbered, moleculeRinged, closed}
 use Rattle.grammar.proofs.Verdict.{sound, read-tree}
 use Rattle.opensmiles_laws.proofs.Held.{atomsIn}
-use Rattle.opensmiles_laws.specs.Stops.{placesIn, bondSlotsIn, Turnable, wrong, deep, Passes, Runs, Stops, Fails, fails, Disagree, begun}
+use Rattle.opensmiles_laws.specs.Stops.{Turnable, wrong, deep, Passes, Runs, Stops, Fails, fails, Disagree, begun}
 use Rattle.opensmiles_laws.specs.Stops as stops
 use Rattle.opensmiles_laws.specs.Answers.{Whole, Roomy, DoneAs, doneSaid, OpenAs, DisagreeAs}
 use Rattle.opensmiles_laws.proofs.Steps.{moleculeIn, Told}

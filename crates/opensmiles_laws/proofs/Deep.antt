@@ -12,7 +12,7 @@ use Rattle.feature.specs.Pick.{pick}
 use Rattle.feature.specs.Text.{byte}
 use Rattle.feature.proofs.Cases.{impossible}
 use Rattle.read_token.specs.declared.scanner.Missing.{Missing}
-use Rattle.builder.specs.Limits.{branchLimit}
+use Rattle.table.specs.Limits.{branchLimit}
 use Rattle.read_line.specs.Events.{ReadEvent, Enter, Join, Pop, Miss, Nest}
 use Rattle.read_line.specs.Parse.{parse}
 use Rattle.grammar.specs.Names.{has1}

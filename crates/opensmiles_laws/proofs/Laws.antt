@@ -7,7 +7,7 @@ use mathlib.Core.Logic.{_⊎_, inl, inr}
 use native.Mathlib.Omega.{arith}
 use lib.ListN.{length}
 use Rattle.feature.proofs.Cases.{impossible}
-use Rattle.builder.specs.Limits.{textLimit}
+use Rattle.table.specs.Limits.{textLimit, placesIn, bondSlotsIn}
 use Rattle.read_token.specs.declared.scanner.Missing.{Missing}
 use Rattle.read_token.specs.declared.scanner.Missing.the-variants as missing
 use Rattle.read_line.specs.Events.{ReadEvent, Enter, Join, Pop, Miss, Nest}
@@ -22,7 +22,7 @@ use Rattle.grammar.specs.Lines as lines
 use Rattle.grammar.specs.Grammar.{meaning}
 use Rattle.opensmiles_laws.specs.Molecule.{Molecule, asHeld, next}
 use Rattle.grammar.proofs.Verdict.{verdict, clean-meaning, read-tree, snoc-last, character-is, refused-is, late-told, end-is, ended-is, nest-is}
-use Rattle.opensmiles_laws.specs.Stops.{placesIn, bondSlotsIn, Meets, no-place, no-slots, not-turned, no-slot, not-turned-after, ends, wrong, deep, Passes, atomsNamed, Runs, Stops, begun}
+use Rattle.opensmiles_laws.specs.Stops.{Meets, no-place, no-slots, not-turned, no-slot, not-turned-after, ends, wrong, deep, Passes, atomsNamed, Runs, Stops, begun}
 use Rattle.opensmiles_laws.specs.Telling.{HasTold, Shallow, FirstDeep, Tells, a-line, to-wrong, to-end, to-deep, MissesAt, wrong-here, wrong-late, MissesMore, ends-here, ends-late}
 use Rattle.opensmiles_laws.specs.Answers.{Exactly, DoneAs, doneSaid, OpenAs, DisagreeAs, Free, WrongAs, EndsAs, NestsAs, StopsAs, When, AnsweredExactly, SaidAs, said-done, said-not, SaidExactly}
 use Rattle.opensmiles_laws.proofs.Deep.{deep-nests, tidy-parse, tidy-miss, tidy-nest}

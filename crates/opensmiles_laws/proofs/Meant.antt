@@ -10,7 +10,7 @@ use lib.Dec.{ltb}
 use lib.ListN.{length}
 use borrow.Author.Tests.{ltb-true, ltb-false}
 use Rattle.feature.proofs.Cases.{impossible}
-use Rattle.builder.specs.Limits.{textLimit, branchLimit}
+use Rattle.table.specs.Limits.{textLimit, branchLimit, placesIn, bondSlotsIn}
 use Rattle.read_line.specs.Events.{ReadEvent, Nest}
 use Rattle.read_line.specs.Parse.{parse}
 use Rattle.builder_meaning.specs.Sketch.{Edge, Node, countOf, firstOpenS, sketchOf}
@@ -29,7 +29,7 @@ use Rattle.grammar.proofs.Spelling.{spelled-bytes, chain-bytes}
 use Rattle.grammar.proofs.Verdict.{verdict}
 use Rattle.grammar.proofs.Open.{meaning-says, chain-fit, open-says, strict-open}
 use Rattle.opensmiles_laws.specs.Molecule.{Molecule, asHeld, tellAll, moleculeOf, neighbours, Allowed, Meant, HeldFor}
-use Rattle.opensmiles_laws.specs.Stops.{placesIn, bondSlotsIn, Meets, Runs, Stops, begun}
+use Rattle.opensmiles_laws.specs.Stops.{Meets, Runs, Stops, begun}
 use Rattle.opensmiles_laws.specs.Answers.{DoneAs, doneSaid, When, MeantIsRead, MeantSaid, done, too-long, too-deep, no-place, no-slot, not-turned, MeantIsAnswered, BigIsRefused, ReadIsMeant}
 use Rattle.opensmiles_laws.proofs.Held.{meant-held, held-meant}
 use Rattle.opensmiles_laws.proofs.Marks.{stops-marked}

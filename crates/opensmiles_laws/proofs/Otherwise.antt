@@ -15,7 +15,7 @@ use Rattle.feature.specs.declared.atom_kind.AtomKind.{AtomKind}
 use Rattle.feature.specs.declared.atom_kind.AtomKind.the-variants.{Star, Aliphatic, Aromatic, Bracket}
 use Rattle.feature.specs.declared.bond_kind.BondKind.the-variants.{Elided}
 use Rattle.read_token.specs.Scan.{peekAt, digitOf, digitAt, missingAt, bracketAt, aromaticOf, aliphaticOf, wantedAt, optionalAt, organicAt, starAt, orElse, otherAt, atomAt, markWidth, rnumAt, afterCharge, afterConfiguration, afterHydrogens, afterIsotope, afterMap, afterSymbol, chargeAt, closeAt, configurationAt, configured, digitStep, hydrogensAt, insideAt, isotopeAt, mapAt, numberAt, signedAt, slip, symbolAt, symbolOf, fifteenAt, shortAt, longAt, lateAt, squareAt, trigonalAt, octahedralAt, alleneAt, signKind, bondAt}
-use Rattle.builder.specs.Limits.{lesserOf}
+use Rattle.table.specs.Limits.{lesserOf}
 use Rattle.read_line.specs.Parse.{ledAt, bodyOf, bodyAt, missP, foundP, atomP, ringP, unionBy, unionP, unitBy, unitP, lineP, closeP, branchP, bodies, endP, parse}
 use Rattle.builder_meaning.specs.Sketch.{To, Edge, Node, edge, node, leads, nextNumber, countOf, upd, edgesAt, addEdge, waits, openKind, fillEdges, fill, lookup, ringFreed, rootS, bondedS, extendS, openedS, closedS, firstOf, ringS, joinS, enterS, numberS, judgedS, missedS, stepS, runS, sketchOf, openHere, openIn, firstOpenS, ringsSay, saysS, finishS, leftS}
 use Rattle.read.specs.Read.{Said, readRefusal, builtAnswer}

@@ -11,7 +11,7 @@ use Rattle.read_line.specs.Events.{ReadEvent, Enter, Join, Pop, Miss, Nest}
 use Rattle.read_token.specs.declared.scanner.Missing.the-variants as missing
 use Rattle.read_line.specs.Parse.{parse}
 use Rattle.grammar.specs.Grammar.{Line, spell}
-use Rattle.builder.specs.Limits.{branchLimit}
+use Rattle.table.specs.Limits.{branchLimit}
 use Rattle.grammar.specs.Lines.{Bytes, Fits, Spelled, Viable, WrongAt, TooDeep, Ends}
 use Rattle.grammar.proofs.Machine.{top, begin, State, want, step, ending}
 use Rattle.grammar.proofs.Sound.{sofar, Told, ending-ok}

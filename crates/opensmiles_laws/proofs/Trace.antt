@@ -16,7 +16,8 @@ use Rattle.builder_meaning.specs.Sketch.{None, Failed, Sketch, startS, stepS, r
 use Rattle.read.specs.declared.Answer.{Answer}
 use Rattle.read.proofs.Never.{Sound, parse-sound}
 use Rattle.opensmiles_laws.specs.Molecule.{Molecule, asHeld, moleculeTold, next, tellAll}
-use Rattle.opensmiles_laws.specs.Stops.{placesIn, bondSlotsIn, Meets, Passes, atomsNamed, countAll, Runs, Stops, Fails, fails, Disagree, begun}
+use Rattle.table.specs.Limits.{placesIn, bondSlotsIn}
+use Rattle.opensmiles_laws.specs.Stops.{Meets, Passes, atomsNamed, countAll, Runs, Stops, Fails, fails, Disagree, begun}
 use Rattle.opensmiles_laws.proofs.Marks.{meets-one}
 use Rattle.opensmiles_laws.proofs.Steps.{moleculeIn, Beside, Broken, Told, Stepped, halts, passes, breaks, Numb, dot-step, bond-step, number-step, pop-step, miss-step, nest-step, numb-step}
 use Rattle.opensmiles_laws.proofs.Steps as numb
@@ -189,5 +190,5 @@ module _ (p l : ℕ) where
 
 -- THE READING OF A TEXT, event by event
 pub text-ran : (s : List ℕ) (la lb : ℕ) → Ran (placesIn la) (bondSlotsIn lb) begun 0 (parse s) (sketchOf s la lb)
-unfolding sketchOf placesIn bondSlotsIn Going
+unfolding sketchOf Going
 text-ran s la lb = all-run (placesIn la) (bondSlotsIn lb) (parse s) (startS (placesIn la) (bondSlotsIn lb)) 0 0 (record { places = refl; slots = refl; going = refl; sound = refl; seen = refl; number = refl; level = refl }) (parse-sound s)

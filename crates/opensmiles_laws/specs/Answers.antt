@@ -7,7 +7,7 @@ use mathlib.Core.Path.{_≡_}
 use mathlib.Core.List.{List}
 use mathlib.Core.Option.{none, some}
 use lib.ListN.{length}
-use Rattle.builder.specs.Limits.{textLimit, branchLimit}
+use Rattle.table.specs.Limits.{textLimit, branchLimit, placesIn, bondSlotsIn}
 use Rattle.read_line.specs.Events.{ReadEvent}
 use Rattle.builder_meaning.specs.Sketch.{Node, countOf, firstOpenS, atomTable, bondTable, padded}
 use Rattle.read.specs.declared.Answer.{Answer}
@@ -18,7 +18,7 @@ use Rattle.grammar.specs.Grammar.{Line, spell, meaning}
 use Rattle.grammar.specs.Lines.{Bytes, Fits, TooDeep}
 use Rattle.grammar.specs.OpenSmiles.{Chain, chainS, says, Small, FitsChain, Strict}
 use Rattle.opensmiles_laws.specs.Molecule.{Molecule, asHeld, moleculeOf, Allowed, Meant, HeldFor}
-use Rattle.opensmiles_laws.specs.Stops.{placesIn, bondSlotsIn, Turnable, Marked, Runs, Stops, Disagree, begun}
+use Rattle.opensmiles_laws.specs.Stops.{Turnable, Marked, Runs, Stops, Disagree, begun}
 use Rattle.opensmiles_laws.specs.Telling.{HasTold, Shallow, FirstDeep, Tells, MissesAt, MissesMore}
 
 -- each of two things implies the other

@@ -1,6 +1,6 @@
 -- Where the reading of a line stops: what each event of a line meets after the events before it, in the words of OpenSMILES'
 -- molecule. No reading here, and no table.
-use Prim.Native.Nat.{ℕ, _+_, _/_, _<_, _≤_}
+use Prim.Native.Nat.{ℕ, _+_, _<_, _≤_}
 use mathlib.Core.Path.{_≡_}
 use mathlib.Core.List.{List, [], _∷_, _++_}
 use mathlib.Core.Option.{Option, none, some}
@@ -9,8 +9,6 @@ use Rattle.feature.specs.declared.atom_kind.AtomKind.{AtomKind}
 use Rattle.feature.specs.declared.atom_kind.AtomKind.the-variants.{Bracket}
 use Rattle.feature.specs.declared.atom_kind.BracketAtom.{BracketAtom}
 use Rattle.feature.specs.declared.bond_kind.BondKind.{BondKind}
-use Rattle.packing.specs.Words.{atomWords, bondWords}
-use Rattle.builder.specs.Limits.{atomLimit, bondLimit, lesserOf}
 use Rattle.read_token.specs.declared.scanner.Missing.the-variants as missing
 use Rattle.read_line.specs.declared.lead.Lead.{Lead}
 use Rattle.read_line.specs.declared.lead.Lead.the-variants.{Bond}
@@ -19,14 +17,6 @@ use Rattle.builder_meaning.specs.Sketch.{Held, countOf, lookup, openKind, edges
 use Rattle.read.specs.declared.Answer.{Answer}
 use Rattle.read.specs.declared.Answer.the-variants as answer
 use Rattle.opensmiles_laws.specs.Molecule.{Molecule, molecule, agreed, asHeld, moleculeTold, next, tellAll}
-
--- ---- ROOM
--- how many atoms there is a place for in a table of so many words, and how many bond entries there is a slot for
-unfoldable pub placesIn : ℕ → ℕ
-placesIn la = lesserOf atomLimit (la / atomWords)
-
-unfoldable pub bondSlotsIn : ℕ → ℕ
-bondSlotsIn lb = lesserOf bondLimit (lb / bondWords)
 
 -- ---- MARKS
 -- a mark other than TH1 and TH2 on an atom that bears hydrogen: it can't be turned

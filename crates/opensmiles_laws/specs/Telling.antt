@@ -4,7 +4,7 @@ use mathlib.Core.Path.{_≡_}
 use mathlib.Core.List.{List, [], _∷_, _++_}
 use lib.ListN.{length}
 use Rattle.feature.specs.Text.{byte}
-use Rattle.builder.specs.Limits.{branchLimit}
+use Rattle.table.specs.Limits.{branchLimit}
 use Rattle.read_token.specs.declared.scanner.Missing.the-variants.{EndOfLine, Character}
 use Rattle.read_line.specs.Events.{ReadEvent}
 use Rattle.grammar.specs.Grammar.{Link, linkS, dot, Line, spell, tells, meaning}

@@ -13,17 +13,12 @@ use Rattle.feature.specs.declared.atom_kind.BracketAtom.{BracketAtom}
 use Rattle.feature.specs.declared.bond_kind.BondKind.{BondKind}
 use Rattle.feature.specs.declared.bond_kind.Coded.{Coded}
 use Rattle.feature.specs.declared.bond_kind.Coded.the-variants as coded
+use Rattle.table.specs.Records.{atomWords}
 use Rattle.packing.specs.declared.Pair.{Pair}
 use Rattle.packing.specs.declared.Loaded.{Loaded}
 use Rattle.packing.specs.declared.Loaded.the-variants.{Held, Bad}
 use Rattle.packing.specs.declared.Entry.{Entry}
 use Rattle.packing.specs.declared.Entry.the-variants as entry
-
-abbrev pub atomWords : ℕ
-atomWords = 3
-
-abbrev pub bondWords : ℕ
-bondWords = 2
 
 -- the first number of each sort of kind
 abbrev pub star : ℕ

@@ -4,7 +4,6 @@
 // store past a table changes nothing. So no call here asks what a table holds.
 ghost use mathlib.Core.Path.{_≡_};
 ghost use Prim.Native.Nat.{_^_, _<_};
-ghost use lib.ListN.{getD, set};
 ghost use lib.Seq.{sets};
 ghost use Rattle.feature.specs.Steps.{GoodKind, Within};
 ghost use Rattle.packing.specs.Words.{isAtom, bracketPair, pairOf, wordsOf, listOf, plainOf, bracketOf, loadOf, loadAt, bondList, entryStored, entryOfWords};
@@ -13,13 +12,9 @@ use feature::atom_kind::BracketAtom;
 use feature::atom_kind::CONFIGURATIONS;
 use feature::bond_kind::BondKind;
 use feature::bond_kind::Coded;
-
-// An atom's record: two words for its kind, and the number of its bond entries.
-pub const ATOM_WORDS: usize = 3;
-// Where the number of entries stands in it.
-pub const DEGREE: usize = 2;
-// A bond entry's record: the number of its kind, and its target.
-pub const BOND_WORDS: usize = 2;
+use table::ATOM_WORDS;
+use table::look;
+use table::poke;
 
 // The first number of each sort of kind.
 const STAR: u32 = 1;
@@ -52,25 +47,6 @@ pub enum Loaded {
 pub enum Entry {
     Bond(BondKind, u32),
     Bad,
-}
-
-// The word at a place, or 0 past the end.
-pub fn look(t: &[u32], at: usize) -> u32
-    ensures { λ r. ⌜ r ≡ getD (now (t .entry)) at 0 ⌝ }
-{
-    if at < t.len() {
-        return t[at];
-    }
-    0
-}
-
-// A word put at a place; past the end nothing changes.
-pub fn poke(t: &mut [u32], at: usize, word: u32)
-    ensures { λ r. ⌜ now (t .exit) ≡ set (now (t .entry)) at word ⌝ }
-{
-    if at < t.len() {
-        t[at] = word;
-    }
 }
 
 // A bracket atom's words by mixed radix: each number counts in units of the room of those before it.

@@ -7,20 +7,21 @@ use lib.ListN.{length, getD, replicate, length-replicate}
 use lib.Dec.{ltb, eqb}
 use Rattle.feature.specs.Pick.{pick}
 use Rattle.feature.proofs.Cases.{by-either, impossible}
-use Rattle.builder.specs.Limits.{textLimit, atomLimit, bondLimit, fewAtoms, lesserOf}
-use Rattle.packing.specs.Words.{atomWords, bondWords}
-use Rattle.builder.specs.Rings.{ringNumberCount}
+use Rattle.table.specs.Steps.{fewAtoms, fewBonds}
+use Rattle.table.specs.Limits.{textLimit, atomLimit, bondLimit, lesserOf, ringNumberCount}
+use Rattle.table.specs.Records.{atomWords, bondWords}
 use Rattle.builder.specs.State.{Bld, entryWords}
 use Rattle.desk_numbers.specs.Numbers.{inversion, atomRoom, bondRoom, endOfLine, character, nesting}
 use Rattle.builder.specs.declared.build.Built.{Built}
 use Rattle.builder.specs.declared.build.Built.the-variants as built
 use Rattle.builder_meaning.specs.Sketch.{Sketch, BothEnds, sketchOf, finishS, atomTable, bondTable, padded, leftS}
-use Rattle.builder.proofs.Laws.{zero-at}
-use Rattle.builder_meaning.proofs.Text.{Reads, text-reads, lesser-most, lesser-held}
+use Rattle.table.proofs.Zeros.{zero-at}
+use Rattle.table.proofs.Rooms.{lesser-most, lesser-held}
+use Rattle.builder_meaning.proofs.Text.{Reads, text-reads}
 use Rattle.read.specs.declared.Answer.{Answer}
 use Rattle.read.specs.declared.Answer.the-variants.{Done, TextTooLong}
 use Rattle.read.specs.Read.{Said, said, readRefusal, builtAnswer}
-use Rattle.read.specs.Steps.{builtSaid, stateOf, stateSaid, within, readOf, Few, fewBonds}
+use Rattle.read.specs.Steps.{builtSaid, stateOf, stateSaid, within, readOf, Few}
 use Rattle.read.specs.Line.{readRefusing, wholeOf, wholeOrRefused, readText}
 
 -- a state and a sketch that agree are answered alike

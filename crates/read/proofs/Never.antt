@@ -26,7 +26,7 @@ use Rattle.read_token.specs.declared.scanner.Missing.{Missing}
 use Rattle.read_token.specs.declared.scanner.Missing.the-variants.{EndOfLine, Character}
 use Rattle.read_token.specs.declared.read_rnum.Ring.{Ring}
 use Rattle.read_token.specs.declared.read_rnum.Ring.the-variants as ring
-use Rattle.builder.specs.Limits.{textLimit, branchLimit}
+use Rattle.table.specs.Limits.{textLimit, branchLimit}
 use Rattle.builder.specs.State.{Bld, bld, state, refusedSt, refuse, entered, bonded, rootOf, extendedBy, extendOf, openedOf, lastOf, openingOf, openingKind, failedSt, closedBy, joinOf, popOf}
 use Rattle.builder.specs.declared.builder.Builder.{Builder}
 use Rattle.read_line.specs.declared.lead.Lead.{Lead}

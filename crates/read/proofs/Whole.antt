@@ -9,8 +9,8 @@ use lib.Dec.{ltb, eqb}
 use borrow.Author.Tests.{eq-eqb, ne-eqb, eqb-true, eqb-false}
 use Rattle.feature.specs.Pick.{pick}
 use Rattle.desk_numbers.specs.Numbers.{character}
-use Rattle.packing.specs.Words.{atomWords, bondWords}
-use Rattle.builder.specs.Limits.{textLimit, branchLimit, atomLimit, bondLimit, lesserOf}
+use Rattle.table.specs.Records.{atomWords, bondWords}
+use Rattle.table.specs.Limits.{textLimit, branchLimit, atomLimit, bondLimit, lesserOf}
 use Rattle.builder.specs.State.{Bld, bld, freshBuilder, refusedSt}
 use Rattle.builder.specs.declared.builder.Builder.{Builder}
 use Rattle.builder.specs.Build.{BuildOutcome, outcome, Tables, tables, buildOf}

@@ -9,7 +9,7 @@ use mathlib.Core.List.{List}
 use lib.ListN.{length, replicate}
 use lib.Dec.{ltb, eqb}
 use Rattle.feature.specs.Pick.{pick}
-use Rattle.builder.specs.Limits.{textLimit}
+use Rattle.table.specs.Limits.{textLimit}
 use Rattle.builder_meaning.specs.Sketch.{Sketch, nextNumber, countOf, sketchOf, finishS, atomTable, bondTable, leftS}
 use Rattle.read.specs.declared.Answer.{Answer}
 use Rattle.read.specs.declared.Answer.the-variants.{TextTooLong}

@@ -7,9 +7,9 @@ use lib.ListN.{length, replicate}
 use lib.Dec.{ltb, eqb}
 use Rattle.feature.specs.Pick.{pick}
 use Rattle.desk_numbers.specs.Numbers.{character}
-use Rattle.packing.specs.Words.{atomWords, bondWords}
-use Rattle.builder.specs.Limits.{textLimit, atomLimit, bondLimit, lesserOf, fewAtoms}
-use Rattle.builder.specs.Rings.{ringNumberCount}
+use Rattle.table.specs.Records.{atomWords, bondWords}
+use Rattle.table.specs.Steps.{fewAtoms, fewBonds}
+use Rattle.table.specs.Limits.{textLimit, atomLimit, bondLimit, lesserOf, ringNumberCount}
 use Rattle.builder.specs.State.{Bld, bld, freshBuilder, refusedSt, entryWords}
 use Rattle.builder.specs.declared.builder.Builder.{Builder}
 use Rattle.builder.specs.Build.{BuildOutcome, tables, buildOf}
@@ -52,10 +52,6 @@ unfoldable pub readOf : List ℕ → ℕ → ℕ → Said
 readOf s la lb =
     pick (ltb textLimit (length s)) (said (TextTooLong (length s)) (replicate la 0) (replicate lb 0))
     (within s (replicate la 0) lb (replicate (bondLimit * entryWords) 0) (replicate atomLimit 0) (replicate ringNumberCount 0))
-
--- up to so many bond entries the read call takes less work room
-abbrev pub fewBonds : ℕ
-fewBonds = 256
 
 -- a text within the limit, and tables of zeros
 pub record Cleared (s atoms bonds : List ℕ) : Type 0 where

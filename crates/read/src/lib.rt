@@ -3,7 +3,7 @@ ghost use mathlib.Core.Path.{_≡_};
 ghost use Prim.Native.Nat.{_≤_, _<_};
 ghost use mathlib.Core.Bool.{true};
 ghost use lib.ListN.{length, replicate};
-ghost use Rattle.builder.specs.Limits.{textLimit};
+ghost use Rattle.table.specs.Limits.{textLimit};
 ghost use Rattle.read.specs.Read.{said, readRefusal, builtAnswer};
 ghost use Rattle.read.specs.Steps.{endedSt, within, Cleared, Few};
 ghost use Rattle.builder_meaning.specs.Sketch.{sketchOf};
@@ -11,29 +11,30 @@ ghost use Rattle.read.specs.Line.{wholeOrRefused, readText};
 ghost use Rattle.read.specs.Numbers.{readInNumbers};
 use builder::build::Built;
 use builder::build::build;
-use builder::build::clear;
 use builder::builder::Builder;
 use builder::builder::ENTRY_WORDS;
-use builder::limits::ATOMS;
-use builder::limits::BONDS;
-use builder::limits::BRANCHES;
-use builder::limits::FEW_ATOMS;
-use builder::limits::TEXT;
-use builder::limits::atom_room;
-use builder::limits::bond_room;
-use builder::opens::NUMBERS;
 use desk_numbers::ATOM_ROOM;
 use desk_numbers::BOND_ROOM;
 use desk_numbers::CHARACTER;
 use desk_numbers::END_OF_LINE;
 use desk_numbers::INVERSION;
 use desk_numbers::NESTING;
-use packing::ATOM_WORDS;
-use packing::BOND_WORDS;
 use read_atom::scanner::is_done;
 use read_line::lead::Lead;
 use read_line::line::Reached;
 use read_line::line::read_line;
+use table::ATOM_WORDS;
+use table::BOND_WORDS;
+use table::clear;
+use table::limits::ATOMS;
+use table::limits::BONDS;
+use table::limits::BRANCHES;
+use table::limits::FEW_ATOMS;
+use table::limits::FEW_BONDS;
+use table::limits::RING_NUMBER_COUNT;
+use table::limits::TEXT;
+use table::limits::atom_room;
+use table::limits::bond_room;
 
 // What the desk says of a line. Its numbers, in order: 0, 1, 2, 3, 4, 10, 12, 13, 14, 15, 18.
 pub enum Answer {
@@ -140,9 +141,7 @@ fn read_within(
     built(r, b)
 }
 
-// So many bond entries are few. A line's graph has no more atoms and entries than its tables have room for.
-const FEW_BONDS: usize = 256;
-
+// With work room for few atoms and entries: a line's graph has no more of them than its tables have room for.
 fn read_few(text: &[u8], atoms: &mut [u32], bonds: &mut [u32]) -> Answer
     requires { ⌜ Cleared (now text) (now atoms) (now bonds) × Few (length (now atoms)) (length (now bonds)) ⌝ }
     ensures { λ r. ⌜ said r (now (atoms .exit)) (now (bonds .exit))
@@ -150,7 +149,7 @@ fn read_few(text: &[u8], atoms: &mut [u32], bonds: &mut [u32]) -> Answer
 {
     let mut entries = [0u32; FEW_BONDS * ENTRY_WORDS];
     let mut path = [0u32; FEW_ATOMS];
-    let mut rings = [0u32; NUMBERS];
+    let mut rings = [0u32; RING_NUMBER_COUNT];
     read_within(text, atoms, bonds, &mut entries, &mut path, &mut rings)
 }
 
@@ -162,7 +161,7 @@ fn read_many(text: &[u8], atoms: &mut [u32], bonds: &mut [u32]) -> Answer
 {
     let mut entries = [0u32; BONDS * ENTRY_WORDS];
     let mut path = [0u32; ATOMS];
-    let mut rings = [0u32; NUMBERS];
+    let mut rings = [0u32; RING_NUMBER_COUNT];
     read_within(text, atoms, bonds, &mut entries, &mut path, &mut rings)
 }
 

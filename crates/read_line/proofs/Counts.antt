@@ -16,7 +16,7 @@ use Rattle.feature.proofs.Cases.{by-either}
 use Rattle.read_token.specs.declared.scanner.Missing.{Missing}
 use Rattle.read_token.specs.declared.scanner.Missing.the-variants.{EndOfLine, Character}
 use Rattle.builder.specs.declared.builder.Builder.{Builder}
-use Rattle.builder.specs.Limits.{textLimit}
+use Rattle.table.specs.Limits.{textLimit}
 use Rattle.builder.specs.State.{Bld, refuse, refusedSt, entered, bonded, rootOf, extendOf, extendedBy, openedOf, openingOf, openingKind, lastOf, failedSt, closedBy, joinOf, poppedSt}
 use Rattle.builder.specs.Steps.{SmallCounts}
 use Rattle.read_line.specs.declared.lead.Lead.{Lead}

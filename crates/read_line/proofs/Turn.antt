@@ -19,7 +19,7 @@ use Rattle.read_token.specs.declared.scanner.Missing.{Missing}
 use Rattle.read_token.specs.declared.read_rnum.Ring.the-variants as ring
 use Rattle.read_token.proofs.Within.{byte-in, ring-in, bond-in, atom-in}
 use Rattle.builder.specs.declared.builder.Builder.{Builder}
-use Rattle.builder.specs.Limits.{textLimit}
+use Rattle.table.specs.Limits.{textLimit}
 use Rattle.builder.specs.State.{Bld, refusedSt, poppedSt, popOf}
 use Rattle.read_line.specs.declared.lead.Lead.{Lead}
 use Rattle.read_line.specs.declared.lead.Lead.the-variants.{Dot, Bond}

@@ -10,7 +10,7 @@ use Rattle.feature.specs.Text.{byte}
 use Rattle.feature.specs.declared.bond_kind.BondKind.{BondKind}
 use Rattle.read_token.specs.Scan.{peekAt, missingAt, rnumAt}
 use Rattle.builder.specs.declared.builder.Builder.{Builder}
-use Rattle.builder.specs.Limits.{textLimit}
+use Rattle.table.specs.Limits.{textLimit}
 use Rattle.builder.specs.State.{Bld, poppedSt}
 use Rattle.read_line.specs.declared.lead.Lead.{Lead}
 use Rattle.read_line.specs.declared.line.Reached.{Reached}

@@ -3,7 +3,7 @@
 ghost use mathlib.Core.Path.{_≡_};
 ghost use mathlib.Core.List.{List};
 ghost use Prim.Native.Nat.{ℕ, _+_, _<_};
-ghost use Rattle.builder.specs.Rings.{ringNumberCount};
+ghost use Rattle.table.specs.Limits.{ringNumberCount};
 ghost use Rattle.builder.specs.State.{bld};
 ghost use Rattle.builder.specs.Steps.{SmallCounts};
 ghost use Rattle.read_line.specs.Events.{countedSt, unstoredOf, missingSt, enterOf, ringOf};

@@ -6,7 +6,7 @@ ghost use lib.ListN.{length};
 ghost use Rattle.feature.specs.Text.{byte};
 ghost use Rattle.read_token.specs.Scan.{peekAt};
 ghost use Rattle.builder.specs.State.{bld};
-ghost use Rattle.builder.specs.Limits.{textLimit};
+ghost use Rattle.table.specs.Limits.{textLimit};
 ghost use Rattle.read_line.specs.Steps.{reachedAt, reachedMissing, reachedClosed, ReadReady, AtomRead, RingRead, UnionRead, UnitRead, RestRead, LineRead, BranchRead};
 use crate::event::put_atom;
 use crate::event::put_missing;

@@ -10,9 +10,6 @@ use builder::builder::ENTRY_WORDS;
 use builder::builder::extend;
 use builder::builder::join;
 use builder::builder::root;
-use builder::limits::ATOMS;
-use builder::limits::BONDS;
-use builder::opens::NUMBERS;
 use check::same;
 use desk_answer::Said;
 use desk_answer::alone;
@@ -23,9 +20,12 @@ use oracle_form::byte::put_word;
 use oracle_form::event;
 use oracle_form::event::Event;
 use oracle_form::number;
-use packing::ATOM_WORDS;
-use packing::BOND_WORDS;
 use read::built;
+use table::ATOM_WORDS;
+use table::BOND_WORDS;
+use table::limits::ATOMS;
+use table::limits::BONDS;
+use table::limits::RING_NUMBER_COUNT;
 
 // What no count of a builder exceeds.
 const ENOUGH: usize = 1_000_000;
@@ -58,7 +58,7 @@ fn take(
         Event::Root(k) => root(atoms, path, b, k, held),
         Event::Extend(bond, k) => extend(atoms, entries, path, b, bond, k, held),
         Event::Join(bond, n) => {
-            if NUMBERS <= n {
+            if RING_NUMBER_COUNT <= n {
                 return b.refused(UNREADABLE, 0);
             }
             join(entries, path, rings, b, bond, n, held)
@@ -137,7 +137,7 @@ pub fn answer(operation: &[u8], arguments: &[u8], out: &mut [u8]) -> usize
     let mut bonds = [0u32; BONDS * BOND_WORDS];
     let mut entries = [0u32; BONDS * ENTRY_WORDS];
     let mut path = [0u32; ATOMS];
-    let mut rings = [0u32; NUMBERS];
+    let mut rings = [0u32; RING_NUMBER_COUNT];
     let start = Builder::start(ATOMS, BONDS);
     let ran = run(
         arguments,

@@ -3,8 +3,6 @@ ghost use Prim.Native.Nat.{_≤_};
 ghost use lib.ListN.{length};
 use answer_text::desk::print_said;
 use answer_text::tables::print_graph;
-use builder::limits::ATOMS;
-use builder::limits::BONDS;
 use check::same;
 use desk_answer::of_read;
 use desk_numbers::DONE;
@@ -13,10 +11,12 @@ use oracle_form::byte::put;
 use oracle_form::byte::put_word;
 use oracle_form::number;
 use oracle_form::text;
-use packing::ATOM_WORDS;
-use packing::BOND_WORDS;
 use read::Answer;
 use read::read;
+use table::ATOM_WORDS;
+use table::BOND_WORDS;
+use table::limits::ATOMS;
+use table::limits::BONDS;
 
 // Tables of the largest size, and one record more.
 const ATOM_TABLE: usize = (ATOMS + 1) * ATOM_WORDS;

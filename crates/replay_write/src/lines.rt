@@ -9,8 +9,6 @@ use crate::tables::ATOM_TABLE;
 use crate::tables::BOND_TABLE;
 use crate::words;
 use answer_text::desk::print_said;
-use builder::limits::ATOMS;
-use builder::limits::BONDS;
 use check::same;
 use desk_answer::Said;
 use desk_answer::of_read;
@@ -22,6 +20,8 @@ use oracle_form::byte::put_word;
 use oracle_form::number;
 use oracle_form::text;
 use read::read;
+use table::limits::ATOMS;
+use table::limits::BONDS;
 use write::write;
 
 // The longest line of the largest graph: 24 bytes an atom and 4 a bond entry.

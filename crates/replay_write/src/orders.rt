@@ -7,13 +7,13 @@ use crate::tables::ATOM_TABLE;
 use crate::tables::BOND_TABLE;
 use answer_text::desk::print_said;
 use answer_text::order::print_order;
-use builder::limits::ATOMS;
 use check::same;
 use desk_answer::Said;
 use desk_answer::of_written;
 use desk_numbers::DONE;
 use oracle_form::byte::put;
 use oracle_form::byte::put_word;
+use table::limits::ATOMS;
 use write::order::order;
 
 // What the tables hold before a walk.

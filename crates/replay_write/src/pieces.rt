@@ -3,8 +3,6 @@
 ghost use Prim.Native.Nat.{_≤_};
 ghost use lib.ListN.{length};
 use answer_text::desk::print_said;
-use builder::limits::ATOMS;
-use builder::limits::BONDS;
 use check::same;
 use desk_answer::Said;
 use desk_answer::alone;
@@ -17,6 +15,8 @@ use oracle_form::event;
 use oracle_form::event::Event;
 use oracle_form::number;
 use oracle_form::text;
+use table::limits::ATOMS;
+use table::limits::BONDS;
 use writer::Writer;
 
 // Room for the longest line of the largest graph, and one piece more than a writer may hold.

@@ -5,8 +5,6 @@ use crate::tables::ATOM_TABLE;
 use crate::tables::BOND_TABLE;
 use answer_text::words::place_of;
 use answer_text::words::print_words;
-use builder::limits::ATOMS;
-use builder::limits::BONDS;
 use check::same;
 use desk_answer::Said;
 use desk_answer::of_read;
@@ -17,6 +15,8 @@ use oracle_form::byte::put;
 use oracle_form::number;
 use oracle_form::text;
 use read::read;
+use table::limits::ATOMS;
+use table::limits::BONDS;
 use write::write;
 
 // Room for the longest line.

@@ -1,8 +1,6 @@
 // A graph parsed into tables: atoms separated by `;`, each its kind and then its bonds, each after a blank, a bond being
 // its kind and the number of its target. The empty text is the empty graph. A `?` is a record of zeros, which stands for
 // no atom and no bond.
-use builder::limits::ATOMS;
-use builder::limits::BONDS;
 use oracle_form::bond;
 use oracle_form::bond::Bond;
 use oracle_form::byte::NOWHERE;
@@ -12,12 +10,14 @@ use oracle_form::byte::peek;
 use oracle_form::kind;
 use oracle_form::kind::Kind;
 use oracle_form::number;
-use packing::ATOM_WORDS;
-use packing::BOND_WORDS;
-use packing::DEGREE;
-use packing::poke;
 use packing::store;
 use packing::store_bond;
+use table::ATOM_WORDS;
+use table::BOND_WORDS;
+use table::DEGREE;
+use table::limits::ATOMS;
+use table::limits::BONDS;
+use table::poke;
 
 // Tables of the largest size, and one record more.
 pub const ATOM_TABLE: usize = (ATOMS + 1) * ATOM_WORDS;

@@ -3,7 +3,7 @@ use oracle_form::byte::NOWHERE;
 use oracle_form::byte::pass;
 use oracle_form::byte::peek;
 use oracle_form::number;
-use packing::poke;
+use table::poke;
 
 // The highest word.
 const HIGHEST: usize = 4294967295;

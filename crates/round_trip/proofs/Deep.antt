@@ -8,8 +8,8 @@ use native.Mathlib.Omega.{arith}
 use lib.ListN.{length, take}
 use borrow.Author.Tests.{le-ltb, ltb-true, ne-eqb}
 use Rattle.feature.proofs.Cases.{impossible}
-use Rattle.packing.specs.Words.{atomWords, bondWords}
-use Rattle.builder.specs.Limits.{textLimit, atomLimit, bondLimit, branchLimit, lesserOf}
+use Rattle.table.specs.Records.{atomWords, bondWords}
+use Rattle.table.specs.Limits.{textLimit, atomLimit, bondLimit, branchLimit, lesserOf}
 use Rattle.desk_numbers.specs.Numbers.{nesting}
 use Rattle.read_line.specs.Events as reader
 use Rattle.read_line.specs.Parse.{parse}

@@ -9,15 +9,16 @@ use lib.ListN.{length, take}
 use lib.Dec.{ltb}
 use lib.Seq.{take-append-seam}
 use borrow.Author.Tests.{le-ltb, ltb-false, eq-eqb}
-use Rattle.packing.specs.Words.{atomWords, bondWords}
-use Rattle.builder.specs.Limits.{textLimit, atomLimit, bondLimit, branchLimit, lesserOf}
+use Rattle.table.specs.Records.{atomWords, bondWords}
+use Rattle.table.specs.Limits.{textLimit, atomLimit, bondLimit, branchLimit, lesserOf}
 use Rattle.read_line.specs.Parse.{parse}
 use Rattle.builder_meaning.specs.Sketch.{countOf, sketchOf, leftS}
 use Rattle.read.specs.Read.{Said, builtAnswer}
 use Rattle.read.specs.Line as read
 use Rattle.walk.specs.Walk.{turnsOf}
 use Rattle.write.specs.declared.answer.Written.the-variants.{Done}
-use Rattle.write.specs.Write.{zeros, pairWords, graphOf, walkOf, saidIn, walkEvents, lineSaid, writeLeaves, writeOf}
+use Rattle.table.specs.Zeros.{zeros}
+use Rattle.write.specs.Write.{pairWords, graphOf, walkOf, saidIn, walkEvents, lineSaid, writeLeaves, writeOf}
 use Rattle.walk_laws.specs.Trek.{Room, AllAccepted}
 use Rattle.walk_laws.proofs.Accepted.{accepted}
 use Rattle.trip_text.specs.Steps.{Sayable, Spellable, retold, depth}

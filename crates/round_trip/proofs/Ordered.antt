@@ -13,8 +13,8 @@ use Rattle.walk_entry.specs.Graph.{Graph}
 use Rattle.walk.specs.Walk.{Walk, Turn, popsOf, popsThen, rootTurn, turnOf, stepOf, eventsOf}
 use Rattle.walk_laws.specs.Trek.{Room, fresh}
 use Rattle.feature.proofs.Cases.{by-test}
+use Rattle.table.proofs.Zeros.{zero-at}
 use Rattle.walk_laws.proofs.Moves.{Move, still, skip, root, ends, leaves, takes, refuses, joins, enters, turn-moves}
-use Rattle.walk_laws.proofs.Sums.{zeros-at}
 use Rattle.walk_laws.proofs.Sound.{Sound, up-some, sound-start, step-sound}
 use Rattle.trip_text.specs.Steps.{Sayable}
 
@@ -69,4 +69,4 @@ first-said g (suc t) w l r s h m =
     rw (eq-eqb (w .at .refusal) 0 r, s, lt-leb (g .size) (w .at .next) h, eq-eqb (getD (w .met) (w .at .next) 0) 0 m) (omega arith)
 
 pub some-said : (g : Graph) (lm lw lb lt : ℕ) (pairs : List ℕ) → 1 ≤ g .size → g .size ≤ lm → (t : ℕ) → 1 ≤ t → 0 < length (eventsOf g t (fresh lm lw lb lt pairs))
-some-said g lm lw lb lt pairs some r t l = first-said g t (fresh lm lw lb lt pairs) l refl refl (omega arith) (zeros-at lm 0)
+some-said g lm lw lb lt pairs some r t l = first-said g t (fresh lm lw lb lt pairs) l refl refl (omega arith) (zero-at lm 0)

@@ -6,8 +6,8 @@ use mathlib.Core.List.{List}
 use mathlib.Core.Bool.{true, false}
 use native.Mathlib.Omega.{arith}
 use lib.ListN.{length, take}
-use Rattle.packing.specs.Words.{atomWords, bondWords}
-use Rattle.builder.specs.Limits.{textLimit, atomLimit, bondLimit, lesserOf}
+use Rattle.table.specs.Records.{atomWords, bondWords}
+use Rattle.table.specs.Limits.{textLimit, atomLimit, bondLimit, lesserOf}
 use Rattle.read_line.specs.Parse.{parse}
 use Rattle.read.specs.declared.Answer.the-variants as answer
 use Rattle.read.specs.Line.{readText}

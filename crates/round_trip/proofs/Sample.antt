@@ -16,9 +16,9 @@ use Rattle.spell.specs.Spell as spell
 use Rattle.read_token.specs.Scan as scan
 use Rattle.survive.specs.Survive as survive
 use Rattle.survive.proofs.ReadBack.{alone}
-use Rattle.builder.specs.Limits.{lesserOf}
+use Rattle.table.specs.Limits.{lesserOf}
 use Rattle.read_line.specs.Parse as parse
-use Rattle.builder.specs.Build.{entryStarts, sumOf}
+use Rattle.table.specs.Starts.{entryStarts, sumOf}
 use Rattle.builder_meaning.specs.Sketch.{To, edge, node, atomTable, targetOf, edgeTable, bondTable, padded}
 use Rattle.read.specs.declared.Answer.the-variants as answer
 use Rattle.read.specs.Read.{said}

@@ -5,7 +5,7 @@ use Rattle.feature.specs.Names.{placeOf, names, begins}
 use Rattle.feature.specs.Kinds.{invertOf, turnedOr}
 use Rattle.feature.specs.Bonds.{codeOf, reverseOf, isDirectional, reconcileOf}
 use Rattle.read_token.specs.Scan.{peekAt, digitOf, digitAt, missingAt, bracketAt, aromaticOf, aliphaticOf, optionalAt, organicAt, starAt, orElse, otherAt, atomAt, signKind, markWidth, bondAt, rnumAt, afterCharge, afterConfiguration, afterHydrogens, afterIsotope, afterMap, afterSymbol, chargeAt, closeAt, configurationAt, configured, digitStep, hydrogensAt, insideAt, isotopeAt, mapAt, numberAt, signedAt, slip, symbolAt, symbolOf, fifteenAt, shortAt, longAt, lateAt}
-use Rattle.builder.specs.Limits.{lesserOf}
+use Rattle.table.specs.Limits.{lesserOf}
 use Rattle.read_line.specs.Parse.{ledAt, bodyOf, bodyAt, missP, foundP, atomP, ringP, unionBy, unionP, unitBy, unitP, lineP, closeP, branchP, bodies, endP, parse}
 use Rattle.builder_meaning.specs.Sketch.{nextNumber, countOf, upd, edgesAt, addEdge, waits, openKind, fillEdges, fill, lookup, ringFreed, rootS, bondedS, extendS, openedS, closedS, firstOf, ringS, joinS, enterS, numberS, missedS, stepS, runS, sketchOf, openHere, openIn, firstOpenS, ringsSay, saysS, finishS, leftS}
 use Rattle.builder_meaning.specs.Sketch.{atomTable, bondTable, edgeTable, targetOf, padded}
@@ -13,7 +13,7 @@ use Rattle.feature.specs.Kinds.{inRange, bracketInRange, invertBracket}
 use Rattle.feature.specs.Bonds.{kindOf, sureKind}
 use Rattle.packing.specs.Words as words
 use Rattle.spell.specs.Spell as spell
-use Rattle.builder.specs.Build.{sumOf, entryStarts}
+use Rattle.table.specs.Starts.{sumOf, entryStarts}
 use Rattle.join_pool.specs.Pairs as pool
 use Rattle.writer.specs.Line.{lineOf, dotText, addPiece, onLast, wrapped, popPieces, writeEvent, writeEvents}
 use Rattle.walk_entry.specs.Graph.{kindOr, kindIn, degreeIn, bondIn}

@@ -7,7 +7,8 @@ use Rattle.feature.specs.Pick.{pick}
 use Rattle.feature.specs.Text.{bytes}
 use Rattle.read.specs.Read.{Said}
 use Rattle.read.specs.Line.{readText}
-use Rattle.write.specs.Write.{WriteLeft, zeros, pairWords}
+use Rattle.table.specs.Zeros.{zeros}
+use Rattle.write.specs.Write.{WriteLeft, pairWords}
 use Rattle.write.specs.Plain.{writePlain}
 use Rattle.join_pool.specs.declared.Pool.{Pool}
 use Rattle.join_pool.specs.declared.Given.{Given}

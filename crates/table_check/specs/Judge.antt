@@ -9,7 +9,8 @@ use lib.Dec.{ltb, leb}
 use Rattle.feature.specs.Pick.{pick}
 use Rattle.packing.specs.declared.Entry.{Entry}
 use Rattle.packing.specs.declared.Entry.the-variants as entry
-use Rattle.packing.specs.Words.{atomWords, bondWords, isAtom, entryStored}
+use Rattle.table.specs.Records.{atomWords, bondWords}
+use Rattle.packing.specs.Words.{isAtom, entryStored}
 use Rattle.table_check.specs.declared.Judged.{Judged}
 use Rattle.table_check.specs.declared.Judged.the-variants.{Bad, Holds}
 

@@ -2,13 +2,13 @@
 ghost use mathlib.Core.Path.{_≡_};
 ghost use Prim.Native.Nat.{_+_, _^_, _≤_, _<_};
 ghost use Rattle.table_check.specs.Judge.{bondStands, atomsFrom, firstBadBond, badRecord};
-use packing::ATOM_WORDS;
-use packing::BOND_WORDS;
-use packing::DEGREE;
 use packing::Entry;
 use packing::is_atom;
 use packing::load_bond;
-use packing::look;
+use table::ATOM_WORDS;
+use table::BOND_WORDS;
+use table::DEGREE;
+use table::look;
 
 // The first bad atom, or how many entries the atoms hold.
 pub enum Judged {

@@ -5,8 +5,8 @@ use mathlib.Core.List.{List}
 use Prim.Native.Nat.{ℕ, _/_, _≤_, _<_}
 use native.Mathlib.Omega.{arith}
 use lib.ListN.{length}
-use Rattle.packing.specs.Words.{atomWords, bondWords}
-use Rattle.builder.specs.Limits.{atomLimit, bondLimit, lesserOf}
+use Rattle.table.specs.Records.{atomWords, bondWords}
+use Rattle.table.specs.Limits.{atomLimit, bondLimit, lesserOf}
 use Rattle.read_line.specs.Events.{ReadEvent}
 use Rattle.read_line.specs.Parse.{parse}
 use Rattle.builder_meaning.specs.Sketch.{nextNumber, countOf, startS, runS, sketchOf, atomTable, bondTable, padded}

@@ -12,11 +12,11 @@ use lib.Dec.{ltb, eqb}
 use borrow.Author.Tests.{eq-eqb, ne-eqb, eqb-true, lt-ltb, le-ltb, ltb-true, ltb-false}
 use Rattle.feature.specs.Pick.{pick}
 use Rattle.feature.proofs.Cases.{both-first, both-second, by-eq, clash}
+use Rattle.table.proofs.Zeros.{zero-at}
 use Rattle.join_pool.specs.declared.Pool.{Pool}
 use Rattle.join_pool.specs.declared.Given.the-variants.{Number}
 use Rattle.join_pool.specs.Pairs.{highest, slotWords, pool, opens, openNumber, slot, counterNext, counterOf, nextOf, hits, openOf, closeOf, openOrClose, hitPair, hitOf}
 use Rattle.join_pool.proofs.Slots.{slot-length, slot-beside, slot-open, slot-lower, slot-higher}
-use Rattle.walk_laws.proofs.Sums.{zeros-at}
 use Rattle.trip_graph.specs.Opened.{sameNumber, Pair, ringPair, pairIs, look, del, numIn, Distinct, Opens, full, number, Serves}
 use Rattle.trip_graph.proofs.Lists.{same-eq, same-ne, eq-of-same, by-bool, or-true-left, or-elim}
 use Rattle.trip_graph.proofs.View.{some-inj, pair-a, pair-b}
@@ -255,7 +255,7 @@ pool-serves = record {
     low = omega arith;
     high = omega arith;
     slots = λ x i. clash (in-num x [] i) refl;
-    free = λ n h. zeros-at 300 (n * slotWords);
+    free = λ n h. zero-at 300 (n * slotWords);
     below = λ n h. clash h refl;
     spare = λ h. absurd (h refl);
   };

@@ -18,12 +18,13 @@ use Rattle.packing.specs.declared.Loaded.{Loaded}
 use Rattle.packing.specs.declared.Loaded.the-variants as loaded
 use Rattle.packing.specs.Words as words
 use Rattle.packing.proofs.Laws.{load-words, only}
-use Rattle.builder.specs.Limits.{atomLimit}
-use Rattle.builder.specs.Build as build
-use Rattle.builder.proofs.Degrees.{entry-starts-at}
+use Rattle.table.specs.Limits.{atomLimit}
 use Rattle.builder_meaning.specs.Sketch.{To, Edge, Node, edge, node, countOf, atomTable, targetOf, edgeTable, bondTable, padded}
 use Rattle.walk_entry.specs.Graph.{BondEntry, Graph, kindAt, degreeAt, bondOf, entryTo, entryAt, kindOr, kindIn, degreeIn, bondIn}
-use Rattle.write.specs.Write.{zeros, graphOf}
+use Rattle.table.specs.Zeros.{zeros}
+use Rattle.table.specs.Starts.{sumOf}
+use Rattle.table.proofs.EntryStarts.{entry-starts-at}
+use Rattle.write.specs.Write.{graphOf}
 use Rattle.walk_laws.specs.Trek.{degrees}
 use Rattle.trip_graph.specs.Renumber.{numberedAs, Numbering, Renumbers}
 use Rattle.trip_graph.specs.Renumbered.{entriesOf, edgeOf, nodeOf, Numbers, firstAtoms, renumbered}
@@ -106,8 +107,9 @@ bond-table (n ∷ ns) z (suc v) i h k =
     let b : (length (n .edges) + before ns v + i) * 2 + 1 ≡ length (edgeTable (n .edges)) + ((before ns v + i) * 2 + 1) = omega (arith, edge-length (n .edges)) in
     (ap₂ (λ (l : List ℕ) (j : ℕ). getD l j 0) s a ∙ getD-append-add (edgeTable (n .edges)) (bondTable ns ++ z) ((before ns v + i) * 2) 0 ∙ r .0, ap₂ (λ (l : List ℕ) (j : ℕ). getD l j 0) s b ∙ getD-append-add (edgeTable (n .edges)) (bondTable ns ++ z) ((before ns v + i) * 2 + 1) 0 ∙ r .1)
 
-sum-is : (ns : List Node) (z : List ℕ) (v : ℕ) → v ≤ length ns → countOf ns < 2 ^ 32 → build.sumOf v (atomTable ns ++ z) ≡ before ns v
-unfolding build.sumOf
+-- where the entries of an atom start
+sum-is : (ns : List Node) (z : List ℕ) (v : ℕ) → v ≤ length ns → countOf ns < 2 ^ 32 → sumOf v (atomTable ns ++ z) ≡ before ns v
+unfolding sumOf
 sum-is ns z zero h k = go ns
   where
     go : (ns : List Node) → 0 ≡ before ns 0
@@ -188,7 +190,7 @@ module _ (g : Graph) (p : Numbers) (N : Numbering g p) (T : (a : ℕ) → a < g 
       let e : getD (getD (renumbered g p) v noNode .edges) i noEdge ≡ edgeOf (p .number) x =
       ap (λ (y : List Edge). getD y i noEdge) (edges-at v q) ∙ at-map (edgeOf (p .number)) es i (entryTo Elided 0) noEdge le in
       let s : getD (h .first) v 0 ≡ before (renumbered g p) v =
-      entry-starts-at (g .size) v (padded la (atomTable (renumbered g p))) (zeros atomLimit) q (rw (length-replicate {A = ℕ} atomLimit 0) (omega (arith, limit, q)))
+      entry-starts-at (g .size) v (padded la (atomTable (renumbered g p))) (zeros atomLimit) q (rw (length-replicate {A = ℕ} atomLimit 0) (omega (arith, q, limit)))
       ∙ sum-is (renumbered g p) (replicate (la - length (atomTable (renumbered g p))) 0) v (omega (arith, in-nodes v q)) (omega arith) in
       ap (λ (y : ℕ). entryAt (padded lb (bondTable (renumbered g p))) ((y + i) * 2)) s
       ∙ ap₂ (λ (y z : ℕ). entryTo (sureKind (kindOf y)) z) (r .0 ∙ ap (λ (y : Edge). codeOf (y .kind)) e) (r .1 ∙ ap (λ (y : Edge). targetOf (y .target)) e)

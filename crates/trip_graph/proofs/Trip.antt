@@ -9,6 +9,7 @@ use native.Mathlib.Omega.{arith}
 use lib.ListN.{length, getD, replicate, length-append, length-map, length-replicate, List·getD-append}
 use lib.Seq.{getD-append-seam}
 use Rattle.feature.proofs.Cases.{by-eq, clash}
+use Rattle.table.proofs.Zeros.{zero-at}
 use Rattle.join_pool.specs.declared.Pool.{Pool}
 use Rattle.writer.specs.Line.{Event, Root, Extend, Join, Pop}
 use Rattle.builder_meaning.specs.Sketch.{To, Edge, Sketch, node, startS, runS, countOf, openHere, openIn, firstOpenS, ringsSay, saysS, finishS}
@@ -17,7 +18,6 @@ use Rattle.walk.specs.Walk.{Walk, Turn, stepOf, turnOf, walkTo, eventsOf, turns
 use Rattle.write.specs.Write.{pairWords}
 use Rattle.walk_laws.specs.Trek.{Room, fresh, degrees, Finished}
 use Rattle.walk_laws.proofs.Moves.{turn-moves}
-use Rattle.walk_laws.proofs.Sums.{zeros-at}
 use Rattle.walk_laws.proofs.Sound.{Sound, sound-start, step-sound}
 use Rattle.walk_laws.proofs.Ended as walk-laws
 use Rattle.walk.proofs.Going.{walk-off, step-on}
@@ -84,7 +84,7 @@ module _ (H : Pool → List ℕ → List Pair → Type 0) (Q : Serves H) (g : Gr
 
   done-start : (v : ℕ) → doneIn g (w0 .back) (w0 .taken) v ≡ []
   unfolding doneIn
-  done-start v = rw (zeros-at lb v, zeros-at lt v) (done-nothing g v)
+  done-start v = rw (zero-at lb v, zero-at lt v) (done-nothing g v)
 
   has-start : (v x : ℕ) → hasT x (doneIn g (w0 .back) (w0 .taken) v) ≡ false
   unfolding hasT
@@ -95,15 +95,15 @@ module _ (H : Pool → List ℕ → List Pair → Type 0) (Q : Serves H) (g : Gr
   sta-start = record {
     nod = nil;
     count = refl;
-    met = λ x. zeros-at lm x;
+    met = λ x. zero-at lm x;
     order = refl;
     wide = rw (length-replicate {A = ℕ} lw 0) wide;
     small = λ x h. clash h refl;
-    unback = λ v h. zeros-at lb v;
-    untaken = λ v h. zeros-at lt v;
+    unback = λ v h. zero-at lb v;
+    untaken = λ v h. zero-at lt v;
     seen = λ v x h. clash h (has-start v x);
-    backs = λ v. rw (zeros-at lb v) (omega arith);
-    takes = λ v. rw (zeros-at lt v) (omega arith);
+    backs = λ v. rw (zero-at lb v) (omega arith);
+    takes = λ v. rw (zero-at lt v) (omega arith);
     left = λ v m k. clash m refl;
     held = λ v m. clash m refl;
     line = λ q. clash q refl;

@@ -2,14 +2,12 @@
 -- text build the graph renumbered in walk order.
 use mathlib.Core.Path.{_≡_, sym, ap, _∙_, subst}
 use mathlib.Core.List.{List, _++_}
-use mathlib.Core.Bool.{false}
-use Prim.Native.Nat.{ℕ, _+_, _-_, _/_, _≤_, _<_}
+use Prim.Native.Nat.{ℕ, _+_, _-_, _≤_, _<_}
 use native.Mathlib.Omega.{arith}
 use lib.ListN.{length}
 use lib.Dec.{ltb, eqb}
-use borrow.Author.Tests.{ltb-true, ltb-false, eqb-true}
-use Rattle.packing.specs.Words.{atomWords, bondWords}
-use Rattle.builder.specs.Limits.{atomLimit, bondLimit, lesserOf}
+use borrow.Author.Tests.{ltb-false, eqb-true}
+use Rattle.table.specs.Limits.{atomLimit, bondLimit}
 use Rattle.read_line.specs.Events as reader
 use Rattle.builder_meaning.specs.Sketch.{Sketch, countOf, startS, runS}
 use Rattle.walk_entry.specs.Graph.{kindAt}
@@ -19,9 +17,11 @@ use Rattle.table_check.specs.Judge.{badRecord}
 use Rattle.table_check.proofs.Records.{bad-most}
 use Rattle.write.specs.declared.answer.Written.{Written}
 use Rattle.write.specs.declared.answer.Written.the-variants.{Done, AtomRoom, BondRoom, OutRoom, BadTable}
-use Rattle.write.specs.Write.{zeros, graphOf, walkIn, saidIn, walkOf, walkEvents, lineSaid, writeRefusal, atomPlaces, bondSlots, WriteLeft, writeLeaves, lineRefusing, putLine, lineConcluded, graphWritten, writeOf}
+use Rattle.table.specs.Zeros.{zeros}
+use Rattle.write.specs.Write.{graphOf, walkIn, saidIn, walkOf, walkEvents, lineSaid, writeRefusal, atomPlaces, bondSlots, WriteLeft, writeLeaves, lineRefusing, putLine, lineConcluded, graphWritten, writeOf}
 use Rattle.walk_laws.specs.Trek.{Room, degrees}
 use Rattle.feature.proofs.Cases.{by-test, impossible}
+use Rattle.write.proofs.Said.{few-atoms, few-bonds}
 use Rattle.walk_laws.proofs.Judged.{judged-degrees}
 use Rattle.trip_graph.specs.Renumber.{Simple, Known, Numbering}
 use Rattle.trip_graph.specs.Steps.{Built}
@@ -76,19 +76,6 @@ module _ (atoms bonds : List ℕ) (n m : ℕ) (few : n ≤ atomLimit) (good : ba
       subst (λ (d : Sketch). Built d (renumbered (graphOf n atoms bonds) (byWalk (walkOf atoms n bonds m)))) (sym (same ∙ ap (runS (startS places slots)) e)) b
 
 -- ---- what a write that is done says
-few-atoms : (atoms : List ℕ) (n : ℕ) → ltb (atomPlaces atoms) n ≡ false → n ≤ atomLimit
-unfolding atomPlaces lesserOf
-few-atoms atoms n =
-    by-test (λ (x : ℕ). ltb x n ≡ false → n ≤ atomLimit) (ltb (length atoms / atomWords) atomLimit)
-    (λ q h. omega (arith, ltb-false (length atoms / atomWords) n h, ltb-true (length atoms / atomWords) atomLimit q))
-    (λ q h. ltb-false atomLimit n h)
-
-few-bonds : (bonds : List ℕ) (m : ℕ) → ltb (bondSlots bonds) m ≡ false → m ≤ bondLimit
-unfolding bondSlots lesserOf
-few-bonds bonds m =
-    by-test (λ (x : ℕ). ltb x m ≡ false → m ≤ bondLimit) (ltb (length bonds / bondWords) bondLimit)
-    (λ q h. omega (arith, ltb-false (length bonds / bondWords) m h, ltb-true (length bonds / bondWords) bondLimit q))
-    (λ q h. ltb-false bondLimit m h)
 
 -- a refused walk is not done
 never-done : (z : Walker) (len : ℕ) → writeRefusal z ≡ Done len → ⊥

@@ -11,7 +11,7 @@ use Rattle.feature.specs.declared.atom_kind.AtomKind.{AtomKind}
 use Rattle.feature.proofs.Cases.{impossible}
 use Rattle.spell.specs.Spell.{atomText}
 use Rattle.survive.specs.Survive.{canFollow}
-use Rattle.builder.specs.Limits.{branchLimit}
+use Rattle.table.specs.Limits.{branchLimit}
 use Rattle.read_line.specs.Events as reader
 use Rattle.read_line.specs.Parse.{bodies, endP, parse}
 use Rattle.writer.specs.Line.{Event, Root, Extend, Join, Pop, lineOf, dotText, addPiece, writeEvent, writeEvents}

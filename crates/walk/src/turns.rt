@@ -9,7 +9,7 @@ use crate::turn::Turned;
 use crate::turn::turn;
 use crate::walker::Walker;
 use join_pool::Pool;
-use join_pool::clear;
+use table::clear;
 use writer::Writer;
 
 // Each atom is tried as a root and left once, and each entry is taken once: so many turns are a whole walk.

@@ -5,7 +5,7 @@ use mathlib.Core.List.{List}
 use lib.ListN.{getD}
 use Rattle.feature.specs.Bonds.{kindOf, sureKind}
 use Rattle.feature.specs.declared.bond_kind.BondKind.{BondKind}
-use Rattle.packing.specs.Words.{bondWords}
+use Rattle.table.specs.Records.{bondWords}
 use Rattle.walk_entry.specs.Graph.{entryTo, bondIn}
 
 module _ (bonds first : List ℕ) (a i e : ℕ) (there : e ≡ (getD first a 0 + i) * bondWords) where

@@ -9,7 +9,8 @@ use Rattle.feature.specs.declared.atom_kind.AtomKind.the-variants.{Star}
 use Rattle.feature.specs.declared.bond_kind.BondKind.{BondKind}
 use Rattle.packing.specs.declared.Loaded.{Loaded}
 use Rattle.packing.specs.declared.Loaded.the-variants as loaded
-use Rattle.packing.specs.Words.{atomWords, bondWords, loadAt}
+use Rattle.table.specs.Records.{atomWords, bondWords}
+use Rattle.packing.specs.Words.{loadAt}
 
 -- a bond entry: its kind and its target
 pub record BondEntry : Type 0 where

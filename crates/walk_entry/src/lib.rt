@@ -1,6 +1,6 @@
 // What a walk asks of a graph's tables: purr's walk.rs, its questions to a new atom.
 //
-// table: atoms and bonds.
+// graph: atoms and bonds.
 // entry: a new atom's entries back to the atom that it is reached from, and what they make of its mark.
 pub mod entry;
-pub mod table;
+pub mod graph;

@@ -19,26 +19,21 @@ use Rattle.walk_entry.specs.declared.entry.Back.the-variants.{Found, Twice, Fix
 use Rattle.walk_entry.specs.declared.entry.Way.{Way}
 use Rattle.walk_entry.specs.declared.entry.Way.the-variants.{Enters, Refuses}
 use Rattle.walk_entry.specs.Graph.{BondEntry, Graph, entryAt, bondIn, bondOf, kindAt, degreeAt}
-use Rattle.packing.specs.Words.{bondWords}
+use Rattle.table.specs.Records.{bondWords}
 use Rattle.walk_entry.specs.Ways.{saidAs, scanIn, scanOf, judgedBack, wayOf}
 use Rattle.walk.specs.declared.walker.Walker.{Walker}
 use Rattle.walk.specs.Walk.{Walk, Turn, turn, quiet, rootPassed, withWalker, metAt, tookAt, popsThen, leftIn, rootTurn, leaveOf, numberedOf, ringTurn, enteredOf, enterTurn, bondTurn, entryTurn, atomOf, turnOf, stepOf, walkTo, eventsOf}
 use Rattle.walk_laws.specs.Trek.{Room, fresh, Accepts, AllAccepted, leastWalk}
 use Rattle.walk_laws.specs.Steps.{longer, longerGraph, longerWalk, Alike, Lengths, AnyLength, ExactWalk}
 use Rattle.feature.proofs.Cases.{by-test}
+use Rattle.table.proofs.Zeros.{zero-at}
 use Rattle.walk_laws.proofs.Moves.{Move, still, skip, root, ends, leaves, takes, refuses, joins, enters, turn-moves}
 use Rattle.walk_laws.proofs.Sound.{Sound, up-within, sound-start, step-sound}
 use Rattle.walk_laws.proofs.Fits.{count-below}
 
--- ---- one table
-getD-zeros : (j i : ℕ) → _≡_ {A = ℕ} (getD (replicate j 0) i 0) 0
-getD-zeros zero i = refl
-getD-zeros (suc j) zero = refl
-getD-zeros (suc j) (suc i) = getD-zeros j i
-
 -- it looks the same everywhere
 pub getD-longer : (j : ℕ) (l : List ℕ) (i : ℕ) → getD (longer j l) i 0 ≡ getD l i 0
-getD-longer j [] i = getD-zeros j i
+getD-longer j [] i = zero-at j i
 getD-longer j (x ∷ l) zero = refl
 getD-longer j (x ∷ l) (suc i) = getD-longer j l i
 

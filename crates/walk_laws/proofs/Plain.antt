@@ -14,6 +14,7 @@ use Rattle.feature.proofs.Cases.{by-test, by-eq}
 use Rattle.feature.specs.Pick.{pick}
 use Rattle.feature.specs.Bonds.{sameKind, reverseOf}
 use Rattle.feature.specs.declared.bond_kind.BondKind.{BondKind}
+use Rattle.table.proofs.Zeros.{zero-at}
 use Rattle.desk_numbers.specs.Numbers.{unknownTarget, loop, ringNumbers}
 use Rattle.join_pool.specs.declared.Pool.{Pool}
 use Rattle.join_pool.specs.declared.Given.{Given}
@@ -32,7 +33,7 @@ use Rattle.walk_laws.specs.Trek.{fresh, degrees, Finished, leastWalk, le
 use Rattle.walk_laws.specs.Plain.{Trail, Outcome, Goes, Refused, Visit, andThen, numberFrom, numberIn, meets, leaves, joins, rings, enters, follows, entriesFrom, visitOf, rootsFrom, startTrail, plainWalk}
 use Rattle.walk_laws.specs.OneWalk.{trailOf, refusalIn, HoldTrail, OneWalk}
 use Rattle.walk_laws.proofs.Moves.{EntersBy, way-back}
-use Rattle.walk_laws.proofs.Sums.{unmet, unmet-set, unmet-all, zeros-at}
+use Rattle.walk_laws.proofs.Sums.{unmet, unmet-set, unmet-all}
 use Rattle.walk_laws.proofs.Ended.{ended}
 use Rattle.walk_laws.proofs.Longer.{least-exact}
 use Rattle.walk.proofs.Going.{walk-off, say-off}
@@ -574,7 +575,7 @@ module _ (g : Graph) where
         second = refl;
         stands = refl;
         held = none;
-        unused = λ t q. zeros-at (g .size) t;
+        unused = λ t q. zero-at (g .size) t;
         room =
             record {
               met = omega (arith, length-replicate {A = ℕ} (g .size) 0);
@@ -584,7 +585,7 @@ module _ (g : Graph) where
             };
         deep = omega arith;
         counted = omega (arith, unmet-all (g .size) (g .size));
-        tables = record { count = refl; walked = refl; met = λ a. zeros-at (g .size) a; back = refl; pool = refl; pairs = refl };
+        tables = record { count = refl; walked = refl; met = λ a. zero-at (g .size) a; back = refl; pool = refl; pairs = refl };
       }
 
   whole-start : (pairs : List ℕ) → whole 0 [] (Goes (startTrail (g .size) pairs)) ≡ plainWalk g pairs

@@ -9,6 +9,7 @@ use lib.Seq.{getD-set-same, getD-set-other}
 use lib.Dec.{eqb}
 use borrow.Author.Tests.{ne-eqb}
 use Rattle.feature.specs.Pick.{pick}
+use Rattle.table.proofs.Zeros.{zero-at}
 use Rattle.feature.proofs.Cases.{by-eq}
 use Rattle.walk_entry.specs.Graph.{Graph, degreeAt}
 use Rattle.walk_laws.specs.Trek.{degrees}
@@ -54,16 +55,10 @@ unmet-none zero met h = refl
 unmet-none (suc n) met h =
     simp (ne-eqb (getD met n 0) 0 (h n (omega arith))) (omega (arith, unmet-none n met (λ a l. h a (omega arith))))
 
--- zeros are zeros
-pub zeros-at : (n i : ℕ) → getD {A = ℕ} (replicate n 0) i 0 ≡ 0
-zeros-at zero i = refl
-zeros-at (suc n) zero = refl
-zeros-at (suc n) (suc i) = zeros-at n i
-
 pub unmet-all : (n l : ℕ) → unmet n (replicate l 0) ≡ n
 unfolding unmet sumTo oneIf
 unmet-all zero l = refl
-unmet-all (suc n) l = simp (zeros-at l n) (omega (arith, unmet-all n l))
+unmet-all (suc n) l = simp (zero-at l n) (omega (arith, unmet-all n l))
 
 -- ---- the entries not taken
 pub entriesLeft : Graph → List ℕ → ℕ
@@ -81,7 +76,7 @@ left-taken g taken a l r h =
 degrees-sum : (g : Graph) (n l : ℕ) → sumTo (λ a. degreeAt g a - getD (replicate l 0) a 0) n ≡ degrees g n
 unfolding sumTo degrees
 degrees-sum g zero l = refl
-degrees-sum g (suc n) l = simp (zeros-at l n) (omega (arith, degrees-sum g n l))
+degrees-sum g (suc n) l = simp (zero-at l n) (omega (arith, degrees-sum g n l))
 
 pub left-all : (g : Graph) (l : ℕ) → entriesLeft g (replicate l 0) ≡ degrees g (g .size)
 unfolding entriesLeft

@@ -3,11 +3,12 @@ use Prim.Native.Nat.{ℕ, _+_, _/_, _≤_, _<_}
 use mathlib.Core.Path.{_≡_, _∙_, ap}
 use mathlib.Core.List.{List}
 use lib.ListN.{length, length-replicate}
-use Rattle.packing.specs.Words.{atomWords, bondWords}
-use Rattle.builder.specs.Limits.{RoomOf, atomLimit, bondLimit}
+use Rattle.table.specs.Records.{atomWords, bondWords}
+use Rattle.table.specs.Limits.{RoomOf, atomLimit, bondLimit}
 use Rattle.table_check.specs.Judge.{badRecord}
 use Rattle.write.specs.declared.answer.Written.the-variants.{AtomRoom, BondRoom, BadTable}
-use Rattle.write.specs.Write.{zeros, atomPlaces, WriteLeft, writeLeaves, lineRefusing, graphWritten, writeOf}
+use Rattle.table.specs.Zeros.{zeros}
+use Rattle.write.specs.Write.{atomPlaces, WriteLeft, writeLeaves, lineRefusing, graphWritten, writeOf}
 use Rattle.write.specs.Order as made
 use Rattle.write.proofs.Ends.{left-zeros, tables-zero}
 use Rattle.write.proofs.Judging.{atom-room-is, admit-13, admit-14, admit-17, admit-all}

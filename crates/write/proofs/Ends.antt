@@ -12,8 +12,8 @@ use lib.Dec.{ltb, eqb}
 use borrow.Author.Tests.{lt-ltb, le-ltb, eq-eqb, ne-eqb, ltb-false}
 use Rattle.feature.proofs.Lists.{drop-zeros}
 use Rattle.feature.specs.Pick.{pick}
-use Rattle.builder.specs.Limits.{atomLimit, bondLimit, lesserOf}
-use Rattle.builder.specs.Build.{entryStarts}
+use Rattle.table.specs.Limits.{atomLimit, bondLimit, lesserOf}
+use Rattle.table.specs.Starts.{entryStarts}
 use Rattle.writer.specs.declared.Writer.{Writer}
 use Rattle.writer.specs.Line.{Event, lineOf, writeEvents}
 use Rattle.writer.specs.Tables.{Spoken, spoken, writer, sayAll, pieceRoom}
@@ -26,7 +26,8 @@ use Rattle.walk_laws.specs.Trek.{fresh}
 use Rattle.feature.proofs.Cases.{by-test}
 use Rattle.write.specs.declared.answer.Written.{Written}
 use Rattle.write.specs.declared.answer.Written.the-variants.{Done, OutRoom}
-use Rattle.write.specs.Write.{zeros, pairWords, startIn, walkIn, writeRefusal, WriteLeft, writeLeaves, lineRefusing, putLine, outputEnded, lineConcluded, graphWritten}
+use Rattle.table.specs.Zeros.{zeros}
+use Rattle.write.specs.Write.{pairWords, startIn, walkIn, writeRefusal, WriteLeft, writeLeaves, lineRefusing, putLine, outputEnded, lineConcluded, graphWritten}
 use Rattle.write.specs.Order as made
 use Rattle.write.specs.Steps.{WorkCleared, graphIn, smallWalk, smallSaid, smallWritten}
 use Rattle.write.proofs.Lengths.{small-written}

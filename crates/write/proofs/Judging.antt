@@ -5,8 +5,8 @@ use mathlib.Core.List.{List}
 use native.Mathlib.Omega.{arith}
 use lib.ListN.{length}
 use borrow.Author.Tests.{lt-ltb, le-ltb}
-use Rattle.packing.specs.Words.{atomWords, bondWords}
-use Rattle.builder.specs.Limits.{RoomOf, atomLimit, bondLimit, lesserOf}
+use Rattle.table.specs.Records.{atomWords, bondWords}
+use Rattle.table.specs.Limits.{RoomOf, atomLimit, bondLimit, lesserOf}
 use Rattle.table_check.specs.Judge.{badRecord}
 use Rattle.write.specs.declared.answer.Written.{Written}
 use Rattle.write.specs.declared.answer.Written.the-variants.{AtomRoom, BondRoom, BadTable}

@@ -4,14 +4,14 @@ use mathlib.Core.Path.{_≡_, refl, sym, ap, ap₂, _∙_}
 use mathlib.Core.List.{List, [], _∷_, _++_}
 use mathlib.Core.Bool.{Bool, true, false}
 use native.Mathlib.Omega.{arith}
-use lib.ListN.{length, getD, set, length-set, length-replicate}
+use lib.ListN.{length, getD, set, length-replicate}
 use lib.Seq.{take-at}
 use lib.Dec.{ltb, eqb}
-use borrow.Author.Tests.{le-ltb, ltb-true, ltb-false}
+use borrow.Author.Tests.{le-ltb, ltb-true}
 use Rattle.feature.specs.Pick.{pick}
-use Rattle.packing.specs.Words.{atomWords}
-use Rattle.builder.specs.Limits.{atomLimit, lesserOf}
-use Rattle.builder.specs.Build.{entryStarts, sumOf}
+use Rattle.table.specs.Records.{atomWords}
+use Rattle.table.specs.Limits.{atomLimit, lesserOf}
+use Rattle.table.specs.Starts.{entryStarts, sumOf}
 use Rattle.table_check.specs.Judge.{badRecord}
 use Rattle.writer.specs.Line.{Event, lineOf, writeEvents}
 use Rattle.walk_entry.specs.Graph.{Graph, graph}
@@ -25,23 +25,21 @@ use Rattle.walk_laws.proofs.Accepted.{accepted}
 use Rattle.walk_laws.proofs.Longer.{getD-longer, set-longer, longer-zeros, least-exact, any-length, pieces-alike}
 use Rattle.write.specs.declared.answer.Written.{Written}
 use Rattle.write.specs.declared.answer.Written.the-variants.{Done}
-use Rattle.write.specs.Write.{zeros, pairWords, graphOf, walkIn, walkOf, saidIn, walkEvents, lineSaid, writeRefusal, atomPlaces, bondSlots, WriteLeft, putLine, lineConcluded, graphWritten, writeOf}
+use Rattle.table.specs.Zeros.{zeros}
+use Rattle.table.proofs.EntryStarts.{entry-starts-length}
+use Rattle.table.proofs.Rooms.{lesser-both}
+use Rattle.write.specs.Write.{pairWords, graphOf, walkIn, walkOf, saidIn, walkEvents, lineSaid, writeRefusal, atomPlaces, bondSlots, WriteLeft, putLine, lineConcluded, graphWritten, writeOf}
 use Rattle.write.specs.Order as made
 use Rattle.write.specs.Steps.{cutTo, Handed, Looks, asOrder, graphIn, smallWalk, smallSaid, smallWritten}
 use Rattle.write.proofs.Tables.{length-lowered}
 
 -- ---- the starts
-length-starts : (n : ℕ) (atoms c : List ℕ) → length (entryStarts n atoms c) ≡ length c
-unfolding entryStarts
-length-starts zero atoms c = refl
-length-starts (suc n) atoms c = length-set (entryStarts n atoms c) n (sumOf n atoms) ∙ length-starts n atoms c
-
 starts-longer : (n : ℕ) (atoms c : List ℕ) (j : ℕ) → n ≤ length c → entryStarts n atoms (longer j c) ≡ longer j (entryStarts n atoms c)
 unfolding entryStarts
 starts-longer zero atoms c j h = refl
 starts-longer (suc n) atoms c j h =
     ap (λ (x : List ℕ). set x n (sumOf n atoms)) (starts-longer n atoms c j (omega (arith, h)))
-    ∙ set-longer j (entryStarts n atoms c) n (sumOf n atoms) (omega (arith, h, length-starts n atoms c))
+    ∙ set-longer j (entryStarts n atoms c) n (sumOf n atoms) (omega (arith, h, entry-starts-length n atoms c))
 
 -- ---- numbers lowered
 lowered-zeros : (j : ℕ) → made.lowered (zeros j) ≡ zeros j
@@ -177,13 +175,6 @@ lesser-room r l n h =
     by-test (λ (x : ℕ). ltb x n ≡ ltb r n) (ltb l r)
     (λ q. le-ltb l n h ∙ sym (le-ltb r n (omega (arith, h, ltb-true l r q))))
     (λ q. refl)
-
-pub lesser-both : (r l n : ℕ) → ltb (lesserOf r l) n ≡ false → (n ≤ r) × (n ≤ l)
-unfolding lesserOf
-lesser-both r l n =
-    by-test (λ (x : ℕ). ltb x n ≡ false → (n ≤ r) × (n ≤ l)) (ltb l r)
-    (λ q e. (omega (arith, ltb-true l r q, ltb-false l n e), ltb-false l n e))
-    (λ q e. (ltb-false r n e, omega (arith, ltb-false l r q, ltb-false r n e)))
 
 order-room : (lw ln lb n : ℕ) (atoms : List ℕ) → n ≤ lw → n ≤ ln → n ≤ lb → ltb (made.orderRoom lw ln lb atoms) n ≡ ltb (atomPlaces atoms) n
 unfolding made.orderRoom

@@ -9,9 +9,9 @@ use lib.Seq.{ext-getD}
 use lib.Dec.{ltb}
 use borrow.Author.Tests.{ltb-false, eq-eqb, ne-eqb}
 use Rattle.feature.specs.Pick.{pick}
-use Rattle.packing.specs.Words.{atomWords}
-use Rattle.builder.specs.Limits.{atomLimit}
-use Rattle.builder.specs.Build.{entryStarts}
+use Rattle.table.specs.Records.{atomWords}
+use Rattle.table.specs.Limits.{atomLimit}
+use Rattle.table.specs.Starts.{entryStarts}
 use Rattle.table_check.specs.Judge.{badRecord}
 use Rattle.writer.specs.Line.{Event}
 use Rattle.walk_entry.specs.Graph.{Graph, graph}
@@ -25,11 +25,13 @@ use Rattle.walk_laws.proofs.Judged.{judged-few}
 use Rattle.walk_laws.proofs.Longer.{least-exact, any-length}
 use Rattle.walk_laws.proofs.Plain.{one-walk, all-met}
 use Rattle.write.specs.declared.answer.Written.the-variants.{Done}
-use Rattle.write.specs.Write.{zeros, pairWords, graphOf, walkIn, saidIn, lineSaid, writeRefusal, atomPlaces, bondSlots, lineRefusing, putLine, lineConcluded, graphWritten, writeOf}
+use Rattle.table.specs.Zeros.{zeros}
+use Rattle.table.proofs.Rooms.{lesser-both}
+use Rattle.write.specs.Write.{pairWords, graphOf, walkIn, saidIn, lineSaid, writeRefusal, atomPlaces, bondSlots, lineRefusing, putLine, lineConcluded, graphWritten, writeOf}
 use Rattle.write.specs.Order as made
 use Rattle.write.specs.Plain.{outcomeOf, answerTo, outcomeWritten, writePlain, numbersFrom, outcomeOrdered, orderPlain}
 use Rattle.write.proofs.Tables.{length-lowered}
-use Rattle.write.proofs.Lengths.{lowered-longer, look-lowered, lesser-both, has-room}
+use Rattle.write.proofs.Lengths.{lowered-longer, look-lowered, has-room}
 
 -- two choices by one test that differ only where it fails
 same-but : {A : Type 0} (b : Bool) (x : A) {y z : A} → (b ≡ false → y ≡ z) → pick b x y ≡ pick b x z

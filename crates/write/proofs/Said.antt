@@ -7,10 +7,10 @@ use mathlib.Core.Bool.{false}
 use native.Mathlib.Omega.{arith}
 use lib.ListN.{length}
 use lib.Dec.{ltb, eqb}
-use borrow.Author.Tests.{ltb-true, ltb-false}
-use Rattle.packing.specs.Words.{atomWords}
-use Rattle.builder.specs.Limits.{atomLimit, lesserOf}
-use Rattle.builder.specs.Build.{entryStarts}
+use borrow.Author.Tests.{ltb-false}
+use Rattle.table.specs.Records.{atomWords, bondWords}
+use Rattle.table.specs.Limits.{atomLimit, bondLimit}
+use Rattle.table.specs.Starts.{entryStarts}
 use Rattle.table_check.specs.Judge.{badRecord}
 use Rattle.table_check.proofs.Records.{bad-most}
 use Rattle.walk.specs.declared.walker.Walker.{Walker}
@@ -25,15 +25,18 @@ use Rattle.walk_laws.proofs.Judged.{judged-degrees}
 use Rattle.write.specs.declared.answer.Written.{Written}
 use Rattle.write.specs.declared.answer.Written.the-variants.{UnknownTarget, Loop, HalfBond, DuplicateBond, IncompatibleBond, Inversion, RingNumbers, AtomRoom, BondRoom, BadTable}
 use Rattle.write.specs.Bound.{lineBound, bytesOf, Short}
-use Rattle.write.specs.Write.{zeros, pairWords, graphOf, walkIn, walkOf, saidIn, walkEvents, lineSaid, writeRefusal, atomPlaces, bondSlots, WriteLeft, lineRefusing, putLine, lineConcluded, graphWritten, writeOf}
+use Rattle.table.specs.Zeros.{zeros}
+use Rattle.table.proofs.Rooms.{lesser-both}
+use Rattle.write.specs.Write.{pairWords, graphOf, walkIn, walkOf, saidIn, walkEvents, lineSaid, writeRefusal, atomPlaces, bondSlots, WriteLeft, lineRefusing, putLine, lineConcluded, graphWritten, writeOf}
 
 -- ---- a graph that was admitted
-few-atoms : (atoms : List ℕ) (n : ℕ) → ltb (atomPlaces atoms) n ≡ false → n ≤ atomLimit
-unfolding atomPlaces lesserOf
-few-atoms atoms n =
-    by-test (λ (x : ℕ). ltb x n ≡ false → n ≤ atomLimit) (ltb (length atoms / atomWords) atomLimit)
-    (λ q h. omega (arith, ltb-false (length atoms / atomWords) n h, ltb-true (length atoms / atomWords) atomLimit q))
-    (λ q h. ltb-false atomLimit n h)
+pub few-atoms : (atoms : List ℕ) (n : ℕ) → ltb (atomPlaces atoms) n ≡ false → n ≤ atomLimit
+unfolding atomPlaces
+few-atoms atoms n h = lesser-both atomLimit (length atoms / atomWords) n h .0
+
+pub few-bonds : (bonds : List ℕ) (m : ℕ) → ltb (bondSlots bonds) m ≡ false → m ≤ bondLimit
+unfolding bondSlots
+few-bonds bonds m h = lesser-both bondLimit (length bonds / bondWords) m h .0
 
 module _ (atoms bonds : List ℕ) (n m : ℕ) (few : n ≤ atomLimit) where
   room : Room (graphOf n atoms bonds) atomLimit atomLimit atomLimit

@@ -6,12 +6,13 @@ use mathlib.Core.List.{List, [], _∷_}
 use lib.ListN.{length}
 use lib.Dec.{eqb}
 use Rattle.feature.specs.Pick.{pick}
-use Rattle.builder.specs.Limits.{lesserOf}
+use Rattle.table.specs.Limits.{lesserOf}
 use Rattle.walk.specs.declared.walker.Walker.{Walker}
 use Rattle.walk.specs.Walk.{Walk}
 use Rattle.write.specs.declared.answer.Written.{Written}
 use Rattle.write.specs.declared.answer.Written.the-variants.{Done}
-use Rattle.write.specs.Write.{zeros, walkIn, writeRefusal, admitted, atomPlaces}
+use Rattle.table.specs.Zeros.{zeros}
+use Rattle.write.specs.Write.{walkIn, writeRefusal, admitted, atomPlaces}
 
 -- marks are one more than a number in walk order, or 0
 unfoldable pub lowered : List ℕ → List ℕ

@@ -5,7 +5,8 @@ use Rattle.walk.specs.Walk.{startWalker, refusedAs}
 use Rattle.walk_laws.specs.Plain.{Outcome, Goes, Refused, numberIn, plainWalk}
 use Rattle.write.specs.declared.answer.Written.{Written}
 use Rattle.write.specs.declared.answer.Written.the-variants.{Done}
-use Rattle.write.specs.Write.{zeros, pairWords, graphOf, lineSaid, writeRefusal, admitted, atomPlaces, WriteLeft, lineRefusing, putLine}
+use Rattle.table.specs.Zeros.{zeros}
+use Rattle.write.specs.Write.{pairWords, graphOf, lineSaid, writeRefusal, admitted, atomPlaces, WriteLeft, lineRefusing, putLine}
 use Rattle.write.specs.Order as made
 
 -- the plain walk of the graph of n atoms that tables hold

@@ -5,9 +5,10 @@ use Prim.Native.Nat.{ℕ, _≤_, _-_}
 use mathlib.Core.Path.{_≡_}
 use mathlib.Core.List.{List, [], _++_}
 use lib.ListN.{length, getD, take}
-use Rattle.builder.specs.Limits.{atomLimit, bondLimit}
-use Rattle.write.specs.Write.{zeros, pairWords, WriteLeft, lineConcluded}
-use Rattle.builder.specs.Build.{entryStarts}
+use Rattle.table.specs.Limits.{atomLimit, bondLimit}
+use Rattle.table.specs.Zeros.{zeros}
+use Rattle.write.specs.Write.{pairWords, WriteLeft, lineConcluded}
+use Rattle.table.specs.Starts.{entryStarts}
 use Rattle.writer.specs.Line.{Event, lineOf, writeEvents}
 use Rattle.walk_entry.specs.Graph.{Graph, graph}
 use Rattle.walk.specs.Walk.{Walk, walkTo, eventsOf, turnsOf}

@@ -1,14 +1,14 @@
 -- The write call. 13 and 14 if the counts handed in exceed the room, with the count; 17 with the first record that stands for
 -- no atom or bond; then the walk's refusal as met, 5 to 11; then 16 with the bytes that the whole line needs. Else 0 with the
 -- bytes written: the line, and zeros after it. After a refusal the whole output is zero. An empty graph writes an empty line.
-use Prim.Native.Nat.{ℕ, _+_, _-_, _/_}
+use Prim.Native.Nat.{ℕ, _+_, _-_}
 use mathlib.Core.List.{List, [], _++_}
-use lib.ListN.{length, replicate}
+use lib.ListN.{length}
 use lib.Dec.{ltb, eqb}
 use Rattle.feature.specs.Pick.{pick}
-use Rattle.packing.specs.Words.{atomWords, bondWords}
-use Rattle.builder.specs.Limits.{atomLimit, bondLimit, lesserOf}
-use Rattle.builder.specs.Build.{entryStarts}
+use Rattle.table.specs.Limits.{atomLimit, placesIn, bondSlotsIn}
+use Rattle.table.specs.Starts.{entryStarts}
+use Rattle.table.specs.Zeros.{zeros}
 use Rattle.writer.specs.declared.Writer.{Writer}
 use Rattle.writer.specs.Line.{Event, lineOf, writeEvents}
 use Rattle.walk_entry.specs.Graph.{Graph, graph}
@@ -18,10 +18,6 @@ use Rattle.walk.specs.Walk.{Walk, walk, startWalker, walkTo, eventsOf, turnsOf}
 use Rattle.table_check.specs.Judge.{badRecord}
 use Rattle.write.specs.declared.answer.Written.{Written}
 use Rattle.write.specs.declared.answer.Written.the-variants.{Done, UnknownTarget, Loop, HalfBond, DuplicateBond, IncompatibleBond, Inversion, RingNumbers, AtomRoom, BondRoom, OutRoom, BadTable}
-
--- n zeros
-abbrev pub zeros : ℕ → List ℕ
-zeros n = replicate n 0
 
 -- the graph of n atoms that tables hold
 abbrev pub graphOf : ℕ → List ℕ → List ℕ → Graph
@@ -68,10 +64,10 @@ writeRefusal z =
 
 -- how many atoms and bond entries tables have room for
 unfoldable pub atomPlaces : List ℕ → ℕ
-atomPlaces atoms = lesserOf atomLimit (length atoms / atomWords)
+atomPlaces atoms = placesIn (length atoms)
 
 unfoldable pub bondSlots : List ℕ → ℕ
-bondSlots bonds = lesserOf bondLimit (length bonds / bondWords)
+bondSlots bonds = bondSlotsIn (length bonds)
 
 -- 13, 14 and 17 in their order, for room for so many atoms: a refusal, or what is made of the graph
 abbrev pub admitted : {A : Type 0} → ℕ → List ℕ → ℕ → List ℕ → ℕ → (Written → A) → A → A

@@ -4,37 +4,27 @@
 // order: the walk order.
 ghost use mathlib.Core.Path.{_≡_};
 ghost use Prim.Native.Nat.{_≤_};
-ghost use lib.ListN.{length, replicate};
-ghost use Rattle.builder.specs.Limits.{fewAtoms};
+ghost use lib.ListN.{length};
+ghost use Rattle.table.specs.Steps.{fewAtoms};
 ghost use Rattle.write.specs.Write.{writeLeaves, outputEnded, graphWritten};
 ghost use Rattle.write.specs.Plain.{writePlain};
 ghost use Rattle.write.specs.Numbers.{writeInNumbers};
 ghost use Rattle.write.specs.Steps.{Writable, WorkCleared};
 use answer::Written;
 use answer::refusal;
-use builder::build::lay_starts;
-use builder::limits::ATOMS;
-use builder::limits::FEW_ATOMS;
-use builder::limits::atom_room;
-use builder::limits::bond_room;
 use join_pool::PAIRS;
+use table::clear_bytes;
+use table::limits::ATOMS;
+use table::limits::FEW_ATOMS;
+use table::limits::atom_room;
+use table::limits::bond_room;
+use table::starts::lay_starts;
 use table_check::judge;
 use walk::lent::walk;
 use walk::turn::Turned;
 
 pub mod answer;
 pub mod order;
-
-// Zeros all through an output.
-fn clear_bytes(out: &mut [u8])
-    ensures { λ _. ⌜ now (out .exit) ≡ replicate (length (now (out .entry))) 0 ⌝ }
-{
-    let mut at: usize = 0;
-    while at < out.len() {
-        out[at] = 0;
-        at += 1;
-    }
-}
 
 // What the end of a walk comes to, with the output that it was told to.
 fn conclude(out: &mut [u8], end: Turned) -> Written

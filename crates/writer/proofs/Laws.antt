@@ -1,14 +1,13 @@
 -- What the writer's functions owe: texts laid in a lent part, a byte inserted, and the words of a writer. Assumes nothing.
 use Prim.Native.Nat.{ℕ, suc, _+_, _-_, _≤_, _<_}
 use mathlib.Core.Path.{_≡_, refl, sym, ap, _∙_}
-use mathlib.Core.Bool.{Bool, true, false}
 use mathlib.Core.List.{List, [], _∷_, _++_, append-nil}
 use mathlib.Core.Logic.{inr}
 use native.Mathlib.Omega.{arith}
 use lib.ListN.{length, take, drop, getD, set, length-append, length-drop, drop-of-length-le}
 use lib.Seq.{sets, length-sets, length-take-le, take-all, take-take, take-suc, getD-drop, set-out}
-use lib.Dec.{ltb, leb}
-use borrow.Author.Tests.{lt-ltb, le-ltb, lt-leb, le-leb, eq-eqb, ne-eqb, ltb-true, ltb-false}
+use lib.Dec.{leb}
+use borrow.Author.Tests.{lt-ltb, le-ltb, lt-leb, le-leb, eq-eqb, ne-eqb}
 use borrow.Rule.Slice.PartMut.{midOf, putMid}
 use Rattle.packing.proofs.Laws.{sets-out, sets-beside}
 use Rattle.feature.specs.Pick.{pick}
@@ -16,8 +15,9 @@ use Rattle.feature.specs.Text.{byte, bytes}
 use Rattle.feature.specs.declared.atom_kind.AtomKind.{AtomKind}
 use Rattle.feature.specs.declared.bond_kind.BondKind.{BondKind}
 use Rattle.feature.proofs.Lists.{sets-append}
-use Rattle.builder.specs.Limits.{lesserOf, RoomOf}
+use Rattle.table.specs.Limits.{lesserOf, RoomOf}
 use Rattle.spell.specs.Spell.{Laid, atomText, bondText, rnumText}
+use Rattle.table.proofs.Rooms.{lesser-cases}
 use Rattle.writer.specs.declared.Writer.{Writer}
 use Rattle.writer.specs.declared.Wrote.the-variants.{Held, AtomRoom, OutRoom}
 use Rattle.writer.specs.Line.{Root, Extend, Join, Pop, dotText, wrapped}
@@ -25,15 +25,6 @@ use Rattle.writer.specs.Tables.{Spoken, spoken, writer, pieceRoom, added
 use Rattle.writer.proofs.Stores.{sets-same, sets-parts}
 
 -- ---- a text in a lent part
--- the lesser of two numbers is one of them
-pub lesser-cases : {C : Type 0} (a b r : ℕ) → r ≡ lesserOf a b → (b < a → r ≡ b → C) → (a ≤ b → r ≡ a → C) → C
-unfolding lesserOf
-lesser-cases {C} a b r e f g = go (ltb b a) refl
-  where
-    go : (t : Bool) → ltb b a ≡ t → C
-    go true h = f (ltb-true b a h) (e ∙ simp h)
-    go false h = g (ltb-false b a h) (e ∙ simp h)
-
 -- a part put back from a place within
 part-back : (out d text : List ℕ) (f at : ℕ) → take f out ≡ take at out → drop f out ≡ drop at out → f ≤ length out
     → d ≡ sets (midOf f (length out - f) out) 0 text → putMid f (length out - f) out d ≡ sets out at text

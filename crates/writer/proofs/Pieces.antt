@@ -13,13 +13,13 @@ use Rattle.feature.specs.Pick.{pick}
 use Rattle.feature.specs.Text.{byte, bytes}
 use Rattle.feature.proofs.Lists.{sets-append, sets-nil, sets-cons}
 use Rattle.feature.proofs.Cases.{by-either}
-use Rattle.builder.specs.Limits.{atomLimit, lesserOf}
+use Rattle.table.specs.Limits.{atomLimit, lesserOf}
 use Rattle.spell.specs.Spell.{atomText, bondText, rnumText}
+use Rattle.table.proofs.Rooms.{lesser-cases, lesser-held}
 use Rattle.writer.specs.Line.{Event, Root, Extend, Join, Pop, lineOf, dotText, addPiece, onLast, wrapped, popPieces, writeEvent, writeEvents}
 use Rattle.writer.specs.Tables.{Spoken, spoken, writer, pieceRoom, added, pieceT, lengthened, joinT, lastStart, bytesFrom, wrapT, popT, sayT, sayAll}
 use Rattle.writer.specs.Pieces.{pieceStarts, Holds}
 use Rattle.writer.proofs.Stores.{sets-same, sets-over}
-use Rattle.writer.proofs.Laws.{lesser-cases}
 
 -- ---- the line of pieces
 pub length-starts : (ps : List (List ℕ)) → length (pieceStarts ps) ≡ length ps
@@ -125,8 +125,7 @@ piece-added most text ps h = simp (lt-leb most (length ps) h)
 -- there is no room for more pieces than starts
 pub room-held : (starts : List ℕ) → pieceRoom starts ≤ length starts
 unfolding pieceRoom
-room-held starts =
-    lesser-cases atomLimit (length starts) (lesserOf atomLimit (length starts)) refl (λ h e. omega arith) (λ h e. omega arith)
+room-held starts = lesser-held atomLimit (length starts)
 
 -- the room goes by the table's length alone
 room-same : (l m : List ℕ) → length l ≡ length m → pieceRoom l ≡ pieceRoom m

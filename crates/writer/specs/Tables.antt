@@ -7,7 +7,7 @@ use lib.Seq.{sets}
 use lib.Dec.{leb, ltb, eqb}
 use Rattle.feature.specs.Pick.{pick}
 use Rattle.spell.specs.Spell.{atomText, bondText, rnumText}
-use Rattle.builder.specs.Limits.{atomLimit, lesserOf}
+use Rattle.table.specs.Limits.{atomLimit, lesserOf}
 use Rattle.writer.specs.declared.Writer.{Writer}
 use Rattle.writer.specs.declared.Wrote.{Wrote}
 use Rattle.writer.specs.declared.Wrote.the-variants.{Held, AtomRoom, OutRoom, NoPiece, Overpop}

@@ -7,12 +7,12 @@ ghost use lib.Seq.{sets};
 ghost use Rattle.spell.specs.Spell.{Laid, atomText, bondText, rnumText};
 ghost use Rattle.writer.specs.Line.{wrapped};
 ghost use Rattle.writer.specs.Tables.{far, bytesFrom};
-use builder::limits::lesser;
 use feature::atom_kind::AtomKind;
 use feature::bond_kind::BondKind;
 use spell::spell_atom;
 use spell::spell_bond;
 use spell::spell_rnum;
+use table::limits::lesser;
 
 pub fn lay_byte(out: &mut [u8], at: usize, b: u8) -> usize
     requires { ⌜ at < far + 100 ⌝ }

@@ -11,12 +11,12 @@ use crate::lay::lay_bond;
 use crate::lay::lay_byte;
 use crate::lay::lay_rnum;
 use crate::lay::wrap;
-use builder::limits::ATOMS;
-use builder::limits::lesser;
 use feature::atom_kind::AtomKind;
 use feature::bond_kind::BondKind;
-use packing::look;
-use packing::poke;
+use table::limits::ATOMS;
+use table::limits::lesser;
+use table::look;
+use table::poke;
 
 // How many pieces there is room for.
 pub fn piece_room(starts: &[u32]) -> usize

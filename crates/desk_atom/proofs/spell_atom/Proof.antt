@@ -6,8 +6,8 @@ use borrow.Author.Needs.{needs}
 use Rattle.desk_atom.proofs.spell_atom.Statement.{statement}
 use Rattle.desk_atom.proofs.spell_atom.Tie as tie
 
-wipe-requires : tie.Need-wipe-requires
-wipe-requires c κs = search needs
+clear-bytes-requires : tie.Need-clear-bytes-requires
+clear-bytes-requires c κs = search needs
 
 in-range-requires : tie.Need-in-range-requires
 in-range-requires c κs = search needs
@@ -16,7 +16,7 @@ same-length : tie.Need-same-length
 same-length c = search needs
 
 returns : tie.Need-returns
-returns c = no-atom _ _ _ _ (c .before .in-range .ensures) (not-true _ (c .if1 .taken)) (c .before .before .before .before .wipe .ensures)
+returns c = no-atom _ _ _ _ (c .before .in-range .ensures) (not-true _ (c .if1 .taken)) (c .before .before .before .before .clear-bytes .ensures)
 
 spell-atom-requires : tie.Need-spell-atom-requires
 spell-atom-requires c κs = search needs
@@ -28,13 +28,13 @@ same-length-2 : tie.Need-same-length-2
 same-length-2 c = search needs
 
 returns-2 : tie.Need-returns-2
-returns-2 c = atom-spelt _ _ _ _ (c .before .before .before .before .before .before .before .before .before .in-range .ensures) (not-false _ (c .before .before .before .before .before .before .before .before .if1 .left)) (c .before .before .answer-length .ensures ∙ laid-answered _ (c .before .before .before .before .before .before .before .before .before .before .before .before .wipe .ensures) (c .before .before .before .before .before .before .spell-atom .ensures))
+returns-2 c = atom-spelt _ _ _ _ (c .before .before .before .before .before .before .before .before .before .in-range .ensures) (not-false _ (c .before .before .before .before .before .before .before .before .if1 .left)) (c .before .before .answer-length .ensures ∙ laid-answered _ (c .before .before .before .before .before .before .before .before .before .before .before .before .clear-bytes .ensures) (c .before .before .before .before .before .before .spell-atom .ensures))
 
 pub spell-atom-spec : {M : Type 1} → statement M
 spell-atom-spec =
     tie.close
     (tie.spec
-    wipe-requires
+    clear-bytes-requires
     in-range-requires
     same-length
     returns

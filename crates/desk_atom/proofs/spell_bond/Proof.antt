@@ -5,8 +5,8 @@ use borrow.Author.Needs.{needs}
 use Rattle.desk_atom.proofs.spell_bond.Statement.{statement}
 use Rattle.desk_atom.proofs.spell_bond.Tie as tie
 
-wipe-requires : tie.Need-wipe-requires
-wipe-requires c κs = search needs
+clear-bytes-requires : tie.Need-clear-bytes-requires
+clear-bytes-requires c κs = search needs
 
 spell-bond-requires : tie.Need-spell-bond-requires
 spell-bond-requires c κs = search needs
@@ -18,8 +18,8 @@ same-length : tie.Need-same-length
 same-length c = search needs
 
 returns : tie.Need-returns
-returns c = c .before .before .answer-length .ensures ∙ laid-answered _ (c .before .before .before .before .before .before .before .before .before .before .wipe .ensures) (c .before .before .before .before .before .before .spell-bond .ensures)
+returns c = c .before .before .answer-length .ensures ∙ laid-answered _ (c .before .before .before .before .before .before .before .before .before .before .clear-bytes .ensures) (c .before .before .before .before .before .before .spell-bond .ensures)
 
 pub spell-bond-spec : {M : Type 1} → statement M
 spell-bond-spec =
-    tie.close (tie.spec wipe-requires spell-bond-requires answer-length-requires same-length returns)
+    tie.close (tie.spec clear-bytes-requires spell-bond-requires answer-length-requires same-length returns)

@@ -3,10 +3,10 @@ use Prim.Native.Nat.{ℕ, _*_}
 use mathlib.Core.Path.{ap, _∙_}
 use mathlib.Core.List.{List}
 use lib.ListN.{length, replicate}
-use Rattle.builder.specs.Rings.{ringNumberCount}
+use Rattle.table.specs.Steps.{fewAtoms, fewBonds}
+use Rattle.table.specs.Limits.{ringNumberCount}
 use Rattle.builder.specs.State.{entryWords}
-use Rattle.builder.specs.Limits.{fewAtoms}
-use Rattle.read.specs.Steps.{fewBonds, within}
+use Rattle.read.specs.Steps.{within}
 use Rattle.read.proofs.Lines.{within-few}
 use borrow.Author.Needs.{needs}
 use Rattle.read.proofs.read_few.Statement.{statement}

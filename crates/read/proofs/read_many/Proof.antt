@@ -3,9 +3,8 @@ use Prim.Native.Nat.{ℕ, _*_}
 use mathlib.Core.Path.{ap, _∙_}
 use mathlib.Core.List.{List}
 use lib.ListN.{length, replicate}
-use Rattle.builder.specs.Rings.{ringNumberCount}
+use Rattle.table.specs.Limits.{ringNumberCount, atomLimit, bondLimit}
 use Rattle.builder.specs.State.{entryWords}
-use Rattle.builder.specs.Limits.{atomLimit, bondLimit}
 use Rattle.read.specs.Steps.{within}
 use Rattle.read.proofs.Lines.{within-many}
 use borrow.Author.Needs.{needs}

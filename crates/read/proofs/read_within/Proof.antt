@@ -1,8 +1,8 @@
 use Prim.Native.Nat.{ℕ, _/_}
 use mathlib.Core.Path.{ap, _∙_}
 use lib.ListN.{length}
-use Rattle.packing.specs.Words.{atomWords}
-use Rattle.builder.specs.Limits.{atomLimit, lesserOf}
+use Rattle.table.specs.Records.{atomWords}
+use Rattle.table.specs.Limits.{atomLimit, lesserOf}
 use Rattle.builder.specs.State.{freshBuilder}
 use Rattle.read.proofs.Whole.{start-ready, said-refused, said-built}
 use borrow.Author.Needs.{needs}

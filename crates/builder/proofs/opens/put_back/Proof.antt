@@ -7,7 +7,7 @@ use lib.ListN.{length, take}
 use lib.Seq.{sets, length-sets, take-all}
 use mathlib.Core.List.{List}
 use Rattle.builder.proofs.Rings.{put-more}
-use Rattle.builder.specs.Rings.{ringNumberCount}
+use Rattle.table.specs.Limits.{ringNumberCount}
 use Rattle.builder.proofs.opens.put_back.Statement.{statement}
 use Rattle.builder.proofs.opens.put_back.Tie as tie
 

@@ -3,7 +3,8 @@ use borrow.Author.Needs.{needs}
 use mathlib.Core.Path.{ap, _∙_}
 use lib.Seq.{sets}
 use Rattle.builder.specs.declared.opens.Opens.{Opens}
-use Rattle.builder.specs.Rings.{ringNumberCount, joinedAt}
+use Rattle.table.specs.Limits.{ringNumberCount}
+use Rattle.builder.specs.Rings.{joinedAt}
 use Rattle.builder.proofs.Rings.{through}
 use Rattle.builder.proofs.opens.rejoin.Statement.{statement}
 use Rattle.builder.proofs.opens.rejoin.Tie as tie

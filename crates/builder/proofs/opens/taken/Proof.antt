@@ -5,7 +5,7 @@ use native.Mathlib.Nat.{not-suc-le-zero}
 use native.Mathlib.Omega.{arith}
 use borrow.Author.Needs.{needs}
 use lib.ListN.{length, getD, length-set}
-use Rattle.builder.specs.Rings.{ringNumberCount}
+use Rattle.table.specs.Limits.{ringNumberCount}
 use mathlib.Core.List.{List}
 use Rattle.builder.specs.declared.opens.Opens.{Opens}
 use Rattle.builder.proofs.Rings.{is-front, taken-more}

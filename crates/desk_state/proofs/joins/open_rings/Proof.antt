@@ -1,6 +1,6 @@
 -- The loop of `open_rings`: what holds at each turn, and so what it ends with.
 use Rattle.desk_state.proofs.Turns.{open-step, open-most, open-one}
-use Rattle.builder.specs.Rings.{ringNumberCount}
+use Rattle.table.specs.Limits.{ringNumberCount}
 use Rattle.desk_state.specs.Standing.{openRings}
 use borrow.Author.Needs.{needs}
 use native.Mathlib.Omega.{arith}

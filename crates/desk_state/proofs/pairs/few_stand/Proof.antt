@@ -1,8 +1,8 @@
 -- The work room is blank, so both chains are linked and all atoms are judged.
 use Prim.Native.Nat.{_+_, _*_}
 use native.Mathlib.Omega.{arith}
-use Rattle.builder.specs.Limits.{fewAtoms}
-use Rattle.desk_state.specs.Steps.{bondKindCount, fewBonds}
+use Rattle.table.specs.Steps.{fewAtoms, fewBonds}
+use Rattle.desk_state.specs.Steps.{bondKindCount}
 use Rattle.desk_state.proofs.Ways.{loose-from, loose-to, ready}
 use borrow.Author.Needs.{needs}
 use Rattle.desk_state.proofs.pairs.few_stand.Statement.{statement}

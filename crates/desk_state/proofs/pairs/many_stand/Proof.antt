@@ -1,7 +1,7 @@
 -- The work room is blank, so both chains are linked and all atoms are judged.
 use Prim.Native.Nat.{_+_, _*_}
 use native.Mathlib.Omega.{arith}
-use Rattle.builder.specs.Limits.{atomLimit, bondLimit}
+use Rattle.table.specs.Limits.{atomLimit, bondLimit}
 use Rattle.desk_state.specs.Steps.{bondKindCount}
 use Rattle.desk_state.proofs.Ways.{loose-from, loose-to, ready}
 use borrow.Author.Needs.{needs}

@@ -5,7 +5,7 @@ use mathlib.Core.Bool.{true}
 use native.Mathlib.Omega.{arith}
 use borrow.Author.Needs.{needs}
 use borrow.Author.Tests.{not-true, not-false}
-use Rattle.builder.specs.Rings.{ringNumberCount}
+use Rattle.table.specs.Limits.{ringNumberCount}
 use Rattle.feature.specs.Every.{every}
 use Rattle.desk_state.specs.Standing.{isRing}
 use Rattle.feature.proofs.Every.{every-step, every-fails}

@@ -1,6 +1,6 @@
 -- Where the last pieces start, which is never past the end of the line.
 use Rattle.writer.specs.Tables.{lastStart}
-use Rattle.builder.specs.Limits.{lesserOf}
+use Rattle.table.specs.Limits.{lesserOf}
 use borrow.Author.Tests.{eq-eqb, ne-eqb}
 use Prim.Native.Nat.{ℕ}
 use mathlib.Core.Path.{ap, _∙_}

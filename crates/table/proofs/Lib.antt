@@ -1,0 +1,4 @@
+-- Laws that several proofs cite.
+pub mod Zeros
+pub mod Rooms
+pub mod EntryStarts

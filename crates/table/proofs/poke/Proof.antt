@@ -1,0 +1,25 @@
+-- `table::poke` meets its contract: a store past the end changes nothing.
+-- Assumes nothing.
+use mathlib.Core.Path.{sym}
+use lib.Seq.{set-out}
+use borrow.Author.Needs.{needs}
+use Rattle.table.proofs.poke.Statement.{statement}
+use Rattle.table.proofs.poke.Tie as tie
+
+mul-t : tie.Need-mul-t
+mul-t c = search needs
+
+slice-write-t : tie.Need-slice-write-t
+slice-write-t c = search needs
+
+same-length : tie.Need-same-length
+same-length c = search needs
+
+returns : tie.Need-returns
+returns c = search needs
+
+returns-2 : tie.Need-returns-2
+returns-2 c = sym (set-out _ _ _ (c .if1 .left))
+
+pub poke-spec : {M : Type 1} → statement M
+poke-spec = tie.close (tie.spec mul-t slice-write-t same-length returns returns-2)

@@ -1,0 +1,5 @@
+pub mod Records
+pub mod Zeros
+pub mod Limits
+pub mod Starts
+pub mod Steps
