@@ -24,7 +24,7 @@ use Rattle.read.specs.declared.Answer.the-variants as answer
 use Rattle.read.specs.Read.{said}
 use Rattle.read.specs.Line as read
 use Rattle.writer.specs.Line as writer
-use Rattle.walk_entry.specs.Graph.{Graph, kindAt, degreeAt, bondOf, kindOr, kindIn, degreeIn, bondIn}
+use Rattle.walk_entry.specs.Graph.{Graph, kindAt, degreeAt, bondOf, kindOr, kindIn, bondIn}
 use Rattle.walk_entry.specs.Ways.{isRefused, isFixed, even, saidAs, scanIn, judgedBack, wayOf}
 use Rattle.walk.specs.Walk.{popsOf, rootTurn, leftIn, numberedOf, ringTurn, enteredOf, enterTurn, bondTurn, entryTurn, atomOf, turnOf, stepOf, walkTo, eventsOf, turnsOf}
 use Rattle.table_check.specs.Judge.{isEntry, bondStands, atomsFrom, firstBadBond, afterAtoms, badRecord}
@@ -61,7 +61,7 @@ abbrev line : List ℕ
 line = bytes "C-[C@H]-C"
 
 written : writeOf 12 atoms 3 bonds 4 ≡ writeLeaves (Done 9) (line ++ (0 ∷ 0 ∷ 0 ∷ []))
-unfolding words.listOf words.wordsOf words.pairOf words.bracketPair words.loadAt words.loadOf words.plainOf words.bracketOf words.entryStored words.entryOfWords words.entryCoded kindOf codeOf reverseOf bracketInRange inRange invertBracket invertOf kindOr sureKind kindIn degreeIn bondIn isRefused isFixed turnedOr even saidAs scanIn judgedBack wayOf popsOf rootTurn leftIn numberedOf ringTurn enteredOf enterTurn bondTurn entryTurn atomOf turnOf stepOf walkTo eventsOf turnsOf words.isHeld isEntry words.isAtom bondStands atomsFrom firstBadBond afterAtoms badRecord entryStarts sumOf lesserOf walkIn saidIn atomPlaces bondSlots putLine lineConcluded graphWritten writeOf writer.lineOf writer.dotText writer.addPiece writer.onLast writer.wrapped writer.popPieces writer.writeEvent writer.writeEvents spell.atomText spell.kindText spell.nameText spell.symbolText spell.organicSymbols spell.bracketText spell.numberText spell.configurationText spell.hydrogensText spell.chargeText spell.mapText spell.bondText spell.digits names
+unfolding words.listOf words.wordsOf words.pairOf words.bracketPair words.loadAt words.loadOf words.plainOf words.bracketOf words.entryStored words.entryOfWords words.entryCoded kindOf codeOf reverseOf bracketInRange inRange invertBracket invertOf kindOr sureKind kindIn bondIn isRefused isFixed turnedOr even saidAs scanIn judgedBack wayOf popsOf rootTurn leftIn numberedOf ringTurn enteredOf enterTurn bondTurn entryTurn atomOf turnOf stepOf walkTo eventsOf turnsOf words.isHeld isEntry words.isAtom bondStands atomsFrom firstBadBond afterAtoms badRecord entryStarts sumOf lesserOf walkIn saidIn atomPlaces bondSlots putLine lineConcluded graphWritten writeOf writer.lineOf writer.dotText writer.addPiece writer.onLast writer.wrapped writer.popPieces writer.writeEvent writer.writeEvents spell.atomText spell.kindText spell.nameText spell.symbolText spell.organicSymbols spell.bracketText spell.numberText spell.configurationText spell.hydrogensText spell.chargeText spell.mapText spell.bondText spell.digits names
 written = refl
 
 -- ---- what is asked
@@ -74,12 +74,12 @@ chain = graphOf 3 atoms bonds
 
 -- for each entry of the chain
 each-entry : (P : ℕ → ℕ → Type 0) → P 0 0 → P 1 0 → P 1 1 → P 2 0 → (a i : ℕ) → a < 3 → i < degreeAt chain a → P a i
-unfolding words.listOf words.wordsOf words.pairOf words.bracketPair degreeIn inRange bracketInRange
+unfolding words.listOf words.wordsOf words.pairOf words.bracketPair inRange bracketInRange
 each-entry P p q r s a i ha =
     below-three (λ (a : ℕ). i < degreeAt chain a → P a i) (below-one (P 0) p i) (below-two (P 1) q r i) (below-one (P 2) s i) a ha
 
 chain-simple : Simple chain
-unfolding words.listOf words.wordsOf words.pairOf words.bracketPair words.entryStored words.entryOfWords words.entryCoded kindOf reverseOf sureKind bondIn degreeIn inRange bracketInRange entryStarts sumOf
+unfolding words.listOf words.wordsOf words.pairOf words.bracketPair words.entryStored words.entryOfWords words.entryCoded kindOf reverseOf sureKind bondIn inRange bracketInRange entryStarts sumOf
 chain-simple = record {
   some = omega arith;
   apart = each-entry (λ (a i : ℕ). bondOf chain a i .to ≡ a → ⊥) (λ z. omega arith) (λ z. omega arith) (λ z. omega arith) (λ z. omega arith);
@@ -116,7 +116,7 @@ readable = record { short = omega arith; shallow = line-flat; atoms = omega arit
 -- ---- what is said
 -- atom 1 comes back with its mark toggled and its bond to atom 0 first
 chain-renumbered : backByTurns atoms 3 bonds 4 ≡ node carbon (edge Single (To 1) ∷ []) ∷ node (marked 2) (edge Single (To 0) ∷ edge Single (To 2) ∷ []) ∷ node carbon (edge Single (To 1) ∷ []) ∷ []
-unfolding words.listOf words.wordsOf words.pairOf words.bracketPair words.loadAt words.loadOf words.plainOf words.bracketOf words.entryStored words.entryOfWords words.entryCoded kindOf codeOf reverseOf bracketInRange inRange invertBracket invertOf kindOr sureKind kindIn degreeIn bondIn isRefused isFixed turnedOr even saidAs scanIn judgedBack wayOf popsOf rootTurn leftIn numberedOf ringTurn enteredOf enterTurn bondTurn entryTurn atomOf turnOf stepOf walkTo turnsOf entryStarts sumOf walkIn bearsHydrogen otherMark toggled oddIndex backKind othersOf parentEntry doneOf edgeOf nodeOf firstAtoms renumbered
+unfolding words.listOf words.wordsOf words.pairOf words.bracketPair words.loadAt words.loadOf words.plainOf words.bracketOf words.entryStored words.entryOfWords words.entryCoded kindOf codeOf reverseOf bracketInRange inRange invertBracket invertOf kindOr sureKind kindIn bondIn isRefused isFixed turnedOr even saidAs scanIn judgedBack wayOf popsOf rootTurn leftIn numberedOf ringTurn enteredOf enterTurn bondTurn entryTurn atomOf turnOf stepOf walkTo turnsOf entryStarts sumOf walkIn bearsHydrogen otherMark toggled oddIndex backKind othersOf parentEntry doneOf edgeOf nodeOf firstAtoms renumbered
 chain-renumbered = refl
 
 -- so the tables that the reading leaves are these, word for word
@@ -146,16 +146,16 @@ abbrev back : Graph
 back = graphOf 3 backAtoms backBonds
 
 back-written : writeOf 9 backAtoms 3 backBonds 4 ≡ writeLeaves (Done 9) line
-unfolding words.listOf words.wordsOf words.pairOf words.bracketPair words.loadAt words.loadOf words.plainOf words.bracketOf words.entryStored words.entryOfWords words.entryCoded kindOf codeOf reverseOf bracketInRange inRange invertBracket invertOf kindOr sureKind kindIn degreeIn bondIn isRefused isFixed turnedOr even saidAs scanIn judgedBack wayOf popsOf rootTurn leftIn numberedOf ringTurn enteredOf enterTurn bondTurn entryTurn atomOf turnOf stepOf walkTo eventsOf turnsOf words.isHeld isEntry words.isAtom bondStands atomsFrom firstBadBond afterAtoms badRecord entryStarts sumOf lesserOf walkIn saidIn atomPlaces bondSlots putLine lineConcluded graphWritten writeOf writer.lineOf writer.dotText writer.addPiece writer.onLast writer.wrapped writer.popPieces writer.writeEvent writer.writeEvents spell.atomText spell.kindText spell.nameText spell.symbolText spell.organicSymbols spell.bracketText spell.numberText spell.configurationText spell.hydrogensText spell.chargeText spell.mapText spell.bondText spell.digits names
+unfolding words.listOf words.wordsOf words.pairOf words.bracketPair words.loadAt words.loadOf words.plainOf words.bracketOf words.entryStored words.entryOfWords words.entryCoded kindOf codeOf reverseOf bracketInRange inRange invertBracket invertOf kindOr sureKind kindIn bondIn isRefused isFixed turnedOr even saidAs scanIn judgedBack wayOf popsOf rootTurn leftIn numberedOf ringTurn enteredOf enterTurn bondTurn entryTurn atomOf turnOf stepOf walkTo eventsOf turnsOf words.isHeld isEntry words.isAtom bondStands atomsFrom firstBadBond afterAtoms badRecord entryStarts sumOf lesserOf walkIn saidIn atomPlaces bondSlots putLine lineConcluded graphWritten writeOf writer.lineOf writer.dotText writer.addPiece writer.onLast writer.wrapped writer.popPieces writer.writeEvent writer.writeEvents spell.atomText spell.kindText spell.nameText spell.symbolText spell.organicSymbols spell.bracketText spell.numberText spell.configurationText spell.hydrogensText spell.chargeText spell.mapText spell.bondText spell.digits names
 back-written = refl
 
 each-back : (P : ℕ → ℕ → Type 0) → P 0 0 → P 1 0 → P 1 1 → P 2 0 → (a i : ℕ) → a < 3 → i < degreeAt back a → P a i
-unfolding words.listOf words.wordsOf words.pairOf words.bracketPair degreeIn inRange bracketInRange
+unfolding words.listOf words.wordsOf words.pairOf words.bracketPair inRange bracketInRange
 each-back P p q r s a i ha =
     below-three (λ (a : ℕ). i < degreeAt back a → P a i) (below-one (P 0) p i) (below-two (P 1) q r i) (below-one (P 2) s i) a ha
 
 back-simple : Simple back
-unfolding words.listOf words.wordsOf words.pairOf words.bracketPair words.entryStored words.entryOfWords words.entryCoded kindOf reverseOf sureKind bondIn degreeIn inRange bracketInRange entryStarts sumOf
+unfolding words.listOf words.wordsOf words.pairOf words.bracketPair words.entryStored words.entryOfWords words.entryCoded kindOf reverseOf sureKind bondIn inRange bracketInRange entryStarts sumOf
 back-simple = record {
   some = omega arith;
   apart = each-back (λ (a i : ℕ). bondOf back a i .to ≡ a → ⊥) (λ z. omega arith) (λ z. omega arith) (λ z. omega arith) (λ z. omega arith);
@@ -191,11 +191,11 @@ abbrev starAtoms : List ℕ
 starAtoms = words.listOf Star ++ (0 ∷ [])
 
 star-written : writeOf 1 starAtoms 1 [] 0 ≡ writeLeaves (Done 1) (bytes "*")
-unfolding words.listOf words.wordsOf words.pairOf words.loadAt words.loadOf words.plainOf inRange kindOr kindIn degreeIn even saidAs rootTurn leftIn entryTurn atomOf turnOf stepOf walkTo eventsOf turnsOf words.isHeld words.isAtom atomsFrom firstBadBond afterAtoms badRecord entryStarts sumOf lesserOf walkIn saidIn atomPlaces bondSlots putLine lineConcluded graphWritten writeOf writer.lineOf writer.dotText writer.addPiece writer.writeEvent writer.writeEvents spell.atomText spell.kindText
+unfolding words.listOf words.wordsOf words.pairOf words.loadAt words.loadOf words.plainOf inRange kindOr kindIn even saidAs rootTurn leftIn entryTurn atomOf turnOf stepOf walkTo eventsOf turnsOf words.isHeld words.isAtom atomsFrom firstBadBond afterAtoms badRecord entryStarts sumOf lesserOf walkIn saidIn atomPlaces bondSlots putLine lineConcluded graphWritten writeOf writer.lineOf writer.dotText writer.addPiece writer.writeEvent writer.writeEvents spell.atomText spell.kindText
 star-written = refl
 
 star-plain : Plain (graphOf 1 starAtoms [])
-unfolding words.listOf words.wordsOf words.pairOf words.loadAt words.loadOf words.plainOf inRange kindOr kindIn degreeIn survive.survives
+unfolding words.listOf words.wordsOf words.pairOf words.loadAt words.loadOf words.plainOf inRange kindOr kindIn survive.survives
 star-plain = record {
   simple = record {
     some = omega arith;
@@ -214,7 +214,7 @@ unfolding hasNest parse.parse parse.lineP parse.atomP parse.foundP parse.bodies 
 star-flat = refl
 
 star-back : read.readText (bytes "*") 3 0 ≡ said (answer.Done 1 0) (1 ∷ 0 ∷ 0 ∷ []) []
-unfolding lesserOf padded atomTable bondTable edgeTable words.listOf words.wordsOf words.pairOf words.loadAt words.loadOf words.plainOf inRange kindOr kindIn degreeIn even saidAs rootTurn leftIn entryTurn atomOf turnOf stepOf walkTo turnsOf entryStarts sumOf walkIn bearsHydrogen oddIndex backKind othersOf parentEntry doneOf nodeOf firstAtoms renumbered
+unfolding lesserOf padded atomTable bondTable edgeTable words.listOf words.wordsOf words.pairOf words.loadAt words.loadOf words.plainOf inRange kindOr kindIn even saidAs rootTurn leftIn entryTurn atomOf turnOf stepOf walkTo turnsOf entryStarts sumOf walkIn bearsHydrogen oddIndex backKind othersOf parentEntry doneOf nodeOf firstAtoms renumbered
 star-back =
     turns-trip 1 starAtoms 1 [] 0 1 (bytes "*") 3 0 star-plain star-written
     (record { short = omega arith; shallow = star-flat; atoms = omega arith; bonds = omega arith })

@@ -10,26 +10,27 @@ use Rattle.feature.specs.Pick.{pick}
 use Rattle.feature.proofs.Cases.{by-test}
 use Rattle.table_check.specs.declared.Judged.the-variants.{Bad, Holds}
 use Rattle.packing.specs.Words.{isAtom}
-use Rattle.table_check.specs.Judge.{degreeOf, bondStands, atomsFrom, firstBadBond, afterAtoms, badRecord}
+use Rattle.table_check.specs.Judge.{bondStands, atomsFrom, firstBadBond, afterAtoms, badRecord}
 use Rattle.table_check.specs.declared.Judged.{Judged}
+use Rattle.table.specs.Records.{degreeIn}
 
 -- ---- atoms
-atom-step : (t : List ℕ) (m a held k j : ℕ) (over stands : Bool) → k ≡ suc j → ltb (m - held) (degreeOf t a) ≡ over → isAtom t a ≡ stands → atomsFrom t m k a held ≡ pick over (Bad a) (pick stands (atomsFrom t m j (a + 1) (held + degreeOf t a)) (Bad a))
+atom-step : (t : List ℕ) (m a held k j : ℕ) (over stands : Bool) → k ≡ suc j → ltb (m - held) (degreeIn t a) ≡ over → isAtom t a ≡ stands → atomsFrom t m k a held ≡ pick over (Bad a) (pick stands (atomsFrom t m j (a + 1) (held + degreeIn t a)) (Bad a))
 unfolding atomsFrom
 atom-step t m a held k j over stands e o s = rw e (simp (o, s))
 
 -- its entries go beyond those that there are
-pub beyond : (t : List ℕ) (n m a held d : ℕ) → a < n → d ≡ degreeOf t a → m - held < d → atomsFrom t m (n - a) a held ≡ Bad a
+pub beyond : (t : List ℕ) (n m a held d : ℕ) → a < n → d ≡ degreeIn t a → m - held < d → atomsFrom t m (n - a) a held ≡ Bad a
 beyond t n m a held d l e h =
-    atom-step t m a held (n - a) (n - (a + 1)) true (isAtom t a) (omega arith) (lt-ltb (m - held) (degreeOf t a) (omega (arith, e, h))) refl
+    atom-step t m a held (n - a) (n - (a + 1)) true (isAtom t a) (omega arith) (lt-ltb (m - held) (degreeIn t a) (omega (arith, e, h))) refl
 
-pub no-atom : (t : List ℕ) (n m a held d : ℕ) (s : Bool) → a < n → d ≡ degreeOf t a → d ≤ m - held → s ≡ isAtom t a → s ≡ false → atomsFrom t m (n - a) a held ≡ Bad a
+pub no-atom : (t : List ℕ) (n m a held d : ℕ) (s : Bool) → a < n → d ≡ degreeIn t a → d ≤ m - held → s ≡ isAtom t a → s ≡ false → atomsFrom t m (n - a) a held ≡ Bad a
 no-atom t n m a held d s l e h w f =
-    atom-step t m a held (n - a) (n - (a + 1)) false false (omega arith) (le-ltb (m - held) (degreeOf t a) (omega (arith, e, h))) (sym w ∙ f)
+    atom-step t m a held (n - a) (n - (a + 1)) false false (omega arith) (le-ltb (m - held) (degreeIn t a) (omega (arith, e, h))) (sym w ∙ f)
 
-pub atom-on : (t : List ℕ) (n m a held d : ℕ) (s : Bool) → a < n → d ≡ degreeOf t a → d ≤ m - held → s ≡ isAtom t a → s ≡ true → atomsFrom t m (n - a) a held ≡ atomsFrom t m (n - (a + 1)) (a + 1) (held + d)
+pub atom-on : (t : List ℕ) (n m a held d : ℕ) (s : Bool) → a < n → d ≡ degreeIn t a → d ≤ m - held → s ≡ isAtom t a → s ≡ true → atomsFrom t m (n - a) a held ≡ atomsFrom t m (n - (a + 1)) (a + 1) (held + d)
 atom-on t n m a held d s l e h w f =
-    atom-step t m a held (n - a) (n - (a + 1)) false true (omega arith) (le-ltb (m - held) (degreeOf t a) (omega (arith, e, h))) (sym w ∙ f)
+    atom-step t m a held (n - a) (n - (a + 1)) false true (omega arith) (le-ltb (m - held) (degreeIn t a) (omega (arith, e, h))) (sym w ∙ f)
     ∙ rw e refl
 
 pub atoms-end : (t : List ℕ) (n m a held : ℕ) → n ≤ a → Holds held ≡ atomsFrom t m (n - a) a held
@@ -81,8 +82,8 @@ unfolding atomsFrom
 atoms-most atoms m zero a held = tt
 atoms-most atoms m (suc k) a held =
     let z : a + 1 + k ≡ a + suc k = omega arith in
-    by-test (Within (a + suc k)) (ltb (m - held) (degreeOf atoms a)) (λ q. omega arith)
-    (λ q. by-test (Within (a + suc k)) (isAtom atoms a) (λ y. rw z at (atoms-most atoms m k (a + 1) (held + degreeOf atoms a))) (λ y. omega arith))
+    by-test (Within (a + suc k)) (ltb (m - held) (degreeIn atoms a)) (λ q. omega arith)
+    (λ q. by-test (Within (a + suc k)) (isAtom atoms a) (λ y. rw z at (atoms-most atoms m k (a + 1) (held + degreeIn atoms a))) (λ y. omega arith))
 
 after-most : (x : Judged) (bonds : List ℕ) (n m : ℕ) → Within n x → afterAtoms x bonds n m ≤ n + m
 unfolding afterAtoms

@@ -4,15 +4,15 @@
 use Prim.Native.Nat.{ℕ, zero, suc, _+_, _-_, _*_}
 use mathlib.Core.List.{List}
 use mathlib.Core.Bool.{Bool, true, false}
-use lib.ListN.{getD}
 use lib.Dec.{ltb, leb}
 use Rattle.feature.specs.Pick.{pick}
 use Rattle.packing.specs.declared.Entry.{Entry}
 use Rattle.packing.specs.declared.Entry.the-variants as entry
-use Rattle.table.specs.Records.{atomWords, bondWords}
+use Rattle.table.specs.Records.{bondWords}
 use Rattle.packing.specs.Words.{isAtom, entryStored}
 use Rattle.table_check.specs.declared.Judged.{Judged}
 use Rattle.table_check.specs.declared.Judged.the-variants.{Bad, Holds}
+use Rattle.table.specs.Records.{degreeIn}
 
 unfoldable pub isEntry : Entry → Bool
 isEntry (entry.Bond k t) = true
@@ -22,16 +22,12 @@ isEntry entry.Bad = false
 unfoldable pub bondStands : List ℕ → ℕ → Bool
 bondStands bonds e = isEntry (entryStored bonds (e * bondWords))
 
--- how many entries atom a says that it has
-abbrev pub degreeOf : List ℕ → ℕ → ℕ
-degreeOf atoms a = getD atoms (a * atomWords + 2) 0
-
 -- n atoms from a on, where those before hold so many of m entries: the first that is bad, or how many are held in all
 unfoldable pub atomsFrom : List ℕ → ℕ → ℕ → ℕ → ℕ → Judged
 atomsFrom atoms m zero a held = Holds held
 atomsFrom atoms m (suc n) a held =
-    pick (ltb (m - held) (degreeOf atoms a)) (Bad a)
-    (pick (isAtom atoms a) (atomsFrom atoms m n (a + 1) (held + degreeOf atoms a))
+    pick (ltb (m - held) (degreeIn atoms a)) (Bad a)
+    (pick (isAtom atoms a) (atomsFrom atoms m n (a + 1) (held + degreeIn atoms a))
     (Bad a))
 
 -- n entries from e on, of which the atoms hold those below `held`: the first that is bad, or the one after them

@@ -12,7 +12,7 @@ use Rattle.feature.specs.declared.bond_kind.BondKind.the-variants.{Single, Up, 
 use Rattle.packing.specs.Words as words
 use Rattle.join_pool.specs.Pairs as pool
 use Rattle.builder_meaning.specs.Sketch.{To, Node, edge, node, startS, runS}
-use Rattle.walk_entry.specs.Graph.{Graph, graph, kindAt, degreeAt, bondOf, kindOr, kindIn, degreeIn, bondIn}
+use Rattle.walk_entry.specs.Graph.{Graph, graph, kindAt, degreeAt, bondOf, kindOr, kindIn, bondIn}
 use Rattle.walk_entry.specs.Ways.{isRefused, isFixed, even, saidAs, scanIn, judgedBack, wayOf}
 use Rattle.walk.specs.Walk.{Walk, popsOf, rootTurn, leftIn, numberedOf, ringTurn, enteredOf, enterTurn, bondTurn, entryTurn, atomOf, turnOf, stepOf, walkTo, eventsOf, turnsOf}
 use Rattle.write.specs.Write.{pairWords}
@@ -41,12 +41,12 @@ abbrev walked : Walk
 walked = walkTo ring (turnsOf 3 6) (fresh 3 3 3 3 (replicate pairWords 0))
 
 not-refused : walked .at .refusal ≡ 0
-unfolding words.listOf words.wordsOf words.pairOf words.bracketPair words.loadAt words.loadOf words.plainOf words.bracketOf words.entryStored words.entryOfWords words.entryCoded kindOf codeOf reverseOf bracketInRange inRange invertBracket invertOf pool.opens pool.openNumber pool.slot pool.counterNext pool.counterOf pool.nextOf pool.openOf pool.closeOf pool.openOrClose pool.hitPair pool.hitOf kindOr sureKind kindIn degreeIn bondIn isRefused isFixed turnedOr even saidAs scanIn judgedBack wayOf popsOf rootTurn leftIn numberedOf ringTurn enteredOf enterTurn bondTurn entryTurn atomOf turnOf stepOf walkTo turnsOf
+unfolding words.listOf words.wordsOf words.pairOf words.bracketPair words.loadAt words.loadOf words.plainOf words.bracketOf words.entryStored words.entryOfWords words.entryCoded kindOf codeOf reverseOf bracketInRange inRange invertBracket invertOf pool.opens pool.openNumber pool.slot pool.counterNext pool.counterOf pool.nextOf pool.openOf pool.closeOf pool.openOrClose pool.hitPair pool.hitOf kindOr sureKind kindIn bondIn isRefused isFixed turnedOr even saidAs scanIn judgedBack wayOf popsOf rootTurn leftIn numberedOf ringTurn enteredOf enterTurn bondTurn entryTurn atomOf turnOf stepOf walkTo turnsOf
 not-refused = refl
 
 -- atom 1 comes back with its mark toggled and its bond to atom 0 first
 ring-renumbered : renumbered ring (byWalk walked) ≡ node carbon (edge Single (To 1) ∷ edge Up (To 2) ∷ []) ∷ node (marked 2) (edge Single (To 0) ∷ edge Single (To 2) ∷ []) ∷ node carbon (edge Single (To 1) ∷ edge Down (To 0) ∷ []) ∷ []
-unfolding words.listOf words.wordsOf words.pairOf words.bracketPair words.loadAt words.loadOf words.plainOf words.bracketOf words.entryStored words.entryOfWords words.entryCoded kindOf codeOf reverseOf bracketInRange inRange invertBracket invertOf pool.opens pool.openNumber pool.slot pool.counterNext pool.counterOf pool.nextOf pool.openOf pool.closeOf pool.openOrClose pool.hitPair pool.hitOf kindOr sureKind kindIn degreeIn bondIn isRefused isFixed turnedOr even saidAs scanIn judgedBack wayOf popsOf rootTurn leftIn numberedOf ringTurn enteredOf enterTurn bondTurn entryTurn atomOf turnOf stepOf walkTo turnsOf othersOf parentEntry doneOf bearsHydrogen otherMark toggled oddIndex backKind edgeOf nodeOf firstAtoms renumbered
+unfolding words.listOf words.wordsOf words.pairOf words.bracketPair words.loadAt words.loadOf words.plainOf words.bracketOf words.entryStored words.entryOfWords words.entryCoded kindOf codeOf reverseOf bracketInRange inRange invertBracket invertOf pool.opens pool.openNumber pool.slot pool.counterNext pool.counterOf pool.nextOf pool.openOf pool.closeOf pool.openOrClose pool.hitPair pool.hitOf kindOr sureKind kindIn bondIn isRefused isFixed turnedOr even saidAs scanIn judgedBack wayOf popsOf rootTurn leftIn numberedOf ringTurn enteredOf enterTurn bondTurn entryTurn atomOf turnOf stepOf walkTo turnsOf othersOf parentEntry doneOf bearsHydrogen otherMark toggled oddIndex backKind edgeOf nodeOf firstAtoms renumbered
 ring-renumbered = refl
 
 -- ---- the hypotheses
@@ -63,12 +63,12 @@ below-two P x y (suc (suc a)) h = absurd (omega arith)
 
 -- for each entry of the ring
 each-entry : (P : ℕ → ℕ → Type 0) → P 0 0 → P 0 1 → P 1 0 → P 1 1 → P 2 0 → P 2 1 → (a i : ℕ) → a < 3 → i < degreeAt ring a → P a i
-unfolding words.listOf words.wordsOf words.pairOf words.bracketPair degreeIn
+unfolding words.listOf words.wordsOf words.pairOf words.bracketPair
 each-entry P p q r s t u a i ha =
     below-three (λ (a : ℕ). i < degreeAt ring a → P a i) (below-two (P 0) p q i) (below-two (P 1) r s i) (below-two (P 2) t u i) a ha
 
 ring-simple : Simple ring
-unfolding words.listOf words.wordsOf words.pairOf words.bracketPair words.entryStored words.entryOfWords words.entryCoded kindOf reverseOf sureKind bondIn degreeIn
+unfolding words.listOf words.wordsOf words.pairOf words.bracketPair words.entryStored words.entryOfWords words.entryCoded kindOf reverseOf sureKind bondIn
 ring-simple = record {
   some = omega arith;
   apart = each-entry (λ (a i : ℕ). bondOf ring a i .to ≡ a → ⊥) (λ z. omega arith) (λ z. omega arith) (λ z. omega arith) (λ z. omega arith) (λ z. omega arith) (λ z. omega arith);
@@ -94,7 +94,7 @@ unfolding words.listOf words.wordsOf words.pairOf words.bracketPair words.loadAt
 ring-tetrahedral = below-three (λ (a : ℕ). Tetrahedral (kindAt ring a)) tt (omega arith) tt
 
 ring-degrees : degrees ring 3 ≡ 6
-unfolding degrees words.listOf words.wordsOf words.pairOf words.bracketPair degreeIn
+unfolding degrees words.listOf words.wordsOf words.pairOf words.bracketPair
 ring-degrees = refl
 
 -- so what its walk says builds the ring as written above

@@ -20,7 +20,7 @@ use Rattle.packing.specs.Words as words
 use Rattle.packing.proofs.Laws.{load-words, only}
 use Rattle.table.specs.Limits.{atomLimit}
 use Rattle.builder_meaning.specs.Sketch.{To, Edge, Node, edge, node, countOf, atomTable, targetOf, edgeTable, bondTable, padded}
-use Rattle.walk_entry.specs.Graph.{BondEntry, Graph, kindAt, degreeAt, bondOf, entryTo, entryAt, kindOr, kindIn, degreeIn, bondIn}
+use Rattle.walk_entry.specs.Graph.{BondEntry, Graph, kindAt, degreeAt, bondOf, entryTo, entryAt, kindOr, kindIn, bondIn}
 use Rattle.table.specs.Zeros.{zeros}
 use Rattle.table.specs.Starts.{sumOf}
 use Rattle.table.proofs.EntryStarts.{entry-starts-at}
@@ -173,7 +173,7 @@ module _ (g : Graph) (p : Numbers) (N : Numbering g p) (T : (a : ℕ) → a < g 
       ∙ entries-length g (p .atom v) (p .parent (p .atom v)) (N .parent (p .atom v))
 
   degree-at : (v : ℕ) → v < g .size → degreeAt h v ≡ degreeAt g (p .atom v)
-  unfolding degreeIn padded
+  unfolding padded
   degree-at v q =
       atom-words (renumbered g p) (replicate (la - length (atomTable (renumbered g p))) 0) v (in-nodes v q) .2 ∙ edges-long v q
 

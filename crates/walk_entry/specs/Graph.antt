@@ -11,6 +11,7 @@ use Rattle.packing.specs.declared.Loaded.{Loaded}
 use Rattle.packing.specs.declared.Loaded.the-variants as loaded
 use Rattle.table.specs.Records.{atomWords, bondWords}
 use Rattle.packing.specs.Words.{loadAt}
+use Rattle.table.specs.Records.{degreeIn}
 
 -- a bond entry: its kind and its target
 pub record BondEntry : Type 0 where
@@ -46,9 +47,6 @@ abbrev pub kindAt : Graph → ℕ → AtomKind
 kindAt g a = kindIn (g .atoms) a
 
 -- how many bond entries it has
-unfoldable pub degreeIn : List ℕ → ℕ → ℕ
-degreeIn atoms a = getD atoms (a * atomWords + 2) 0
-
 abbrev pub degreeAt : Graph → ℕ → ℕ
 degreeAt g a = degreeIn (g .atoms) a
 

@@ -3,9 +3,9 @@
 ghost use mathlib.Core.Path.{_≡_};
 ghost use Prim.Native.Nat.{_+_, _*_, _^_, _<_};
 ghost use lib.ListN.{getD};
-ghost use Rattle.table.specs.Records.{bondWords};
+ghost use Rattle.table.specs.Records.{bondWords, degreeIn};
 ghost use Rattle.feature.specs.Bonds.{sameKind};
-ghost use Rattle.walk_entry.specs.Graph.{kindIn, degreeIn, bondIn};
+ghost use Rattle.walk_entry.specs.Graph.{kindIn, bondIn};
 use feature::atom_kind::AtomKind;
 use feature::bond_kind::BondKind;
 use feature::bond_kind::code;

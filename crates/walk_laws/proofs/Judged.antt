@@ -9,18 +9,19 @@ use borrow.Author.Tests.{ltb-false, leb-false}
 use Rattle.table_check.specs.declared.Judged.{Judged}
 use Rattle.table_check.specs.declared.Judged.the-variants.{Bad, Holds}
 use Rattle.packing.specs.Words.{isAtom}
-use Rattle.table_check.specs.Judge.{degreeOf, bondStands, atomsFrom, firstBadBond, afterAtoms, badRecord}
-use Rattle.walk_entry.specs.Graph.{Graph, graph, degreeIn}
+use Rattle.table_check.specs.Judge.{bondStands, atomsFrom, firstBadBond, afterAtoms, badRecord}
+use Rattle.walk_entry.specs.Graph.{Graph, graph}
 use Rattle.walk_laws.specs.Trek.{degrees}
 use Rattle.feature.proofs.Cases.{by-test}
+use Rattle.table.specs.Records.{degreeIn}
 
 -- what the judge says of the atoms below n: the first bad one is one of them, or they hold no more than m entries
 Says : Graph → ℕ → ℕ → Judged → Type 0
 Says g m n (Bad a) = a < n
 Says g m n (Holds held) = (held ≡ degrees g n) × (held ≤ m)
 
-one-more : (g : Graph) (a : ℕ) → degrees g (a + 1) ≡ degrees g a + degreeOf (g .atoms) a
-unfolding degrees degreeIn
+one-more : (g : Graph) (a : ℕ) → degrees g (a + 1) ≡ degrees g a + degreeIn (g .atoms) a
+unfolding degrees
 one-more g a = rw add-one refl
 
 atoms-say : (g : Graph) (m k a held : ℕ) → held ≡ degrees g a → held ≤ m → Says g m (a + k) (atomsFrom (g .atoms) m k a held)
@@ -29,9 +30,9 @@ atoms-say g m zero a held e h = let z : a + 0 ≡ a = omega arith in rw z (e, h)
 atoms-say g m (suc k) a held e h =
     let z : a + suc k ≡ a + 1 + k = omega arith in
     let bad : a < a + suc k = omega arith in
-    by-test (Says g m (a + suc k)) (ltb (m - held) (degreeOf (g .atoms) a)) (λ q. bad)
+    by-test (Says g m (a + suc k)) (ltb (m - held) (degreeIn (g .atoms) a)) (λ q. bad)
     (λ q. by-test (Says g m (a + suc k)) (isAtom (g .atoms) a)
-    (λ y. rw z (atoms-say g m k (a + 1) (held + degreeOf (g .atoms) a) (omega (arith, one-more g a)) (omega (arith, ltb-false (m - held) (degreeOf (g .atoms) a) q))))
+    (λ y. rw z (atoms-say g m k (a + 1) (held + degreeIn (g .atoms) a) (omega (arith, one-more g a)) (omega (arith, ltb-false (m - held) (degreeIn (g .atoms) a) q))))
     (λ y. bad))
 
 -- no entry is bad only where each is held

@@ -10,7 +10,7 @@ use Rattle.feature.specs.declared.bond_kind.BondKind.the-variants.{Elided}
 use Rattle.packing.specs.Words as words
 use Rattle.join_pool.specs.Pairs as pool
 use Rattle.writer.specs.Line.{Event, Root, Extend, Join, Pop}
-use Rattle.walk_entry.specs.Graph.{Graph, graph, kindOr, kindIn, degreeIn, bondIn}
+use Rattle.walk_entry.specs.Graph.{Graph, graph, kindOr, kindIn, bondIn}
 use Rattle.walk_entry.specs.Ways.{isRefused, isFixed, even, saidAs, scanIn, judgedBack, wayOf}
 use Rattle.walk.specs.Walk.{popsOf}
 use Rattle.walk_laws.specs.Plain.{Outcome, Goes, Refused, andThen, numberFrom, joins, rings, enters, follows, entriesFrom, visitOf, rootsFrom, plainWalk}
@@ -84,5 +84,5 @@ rows =
 
 -- each comes to that
 rows-shown : map (λ (r : Graph × Shown). shows (plainWalk (r .0) lent)) rows ≡ map (λ (r : Graph × Shown). r .1) rows
-unfolding shows andThen numberFrom joins rings enters follows entriesFrom visitOf rootsFrom plainWalk inRange bracketInRange invertOf invertBracket kindOf sureKind codeOf reverseOf isDirectional words.plainOf words.bracketOf words.loadOf words.loadAt pool.opens pool.openNumber pool.slot pool.counterNext pool.counterOf pool.nextOf pool.openOf pool.closeOf pool.openOrClose pool.hitPair pool.hitOf kindOr kindIn degreeIn bondIn isRefused isFixed turnedOr even saidAs scanIn judgedBack wayOf popsOf
+unfolding shows andThen numberFrom joins rings enters follows entriesFrom visitOf rootsFrom plainWalk inRange bracketInRange invertOf invertBracket kindOf sureKind codeOf reverseOf isDirectional words.plainOf words.bracketOf words.loadOf words.loadAt pool.opens pool.openNumber pool.slot pool.counterNext pool.counterOf pool.nextOf pool.openOf pool.closeOf pool.openOrClose pool.hitPair pool.hitOf kindOr kindIn bondIn isRefused isFixed turnedOr even saidAs scanIn judgedBack wayOf popsOf
 rows-shown = refl

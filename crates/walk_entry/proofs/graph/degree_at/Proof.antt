@@ -1,5 +1,4 @@
 -- The word of the record.
-use Rattle.walk_entry.specs.Graph.{degreeIn}
 use borrow.Author.Needs.{needs}
 use Rattle.walk_entry.proofs.graph.degree_at.Statement.{statement}
 use Rattle.walk_entry.proofs.graph.degree_at.Tie as tie
@@ -14,7 +13,6 @@ look-requires : tie.Need-look-requires
 look-requires c κs = search needs
 
 returns : tie.Need-returns
-unfolding degreeIn
 returns c = simp (← c .look .ensures)
 
 pub degree-at-spec : {M : Type 1} → statement M
