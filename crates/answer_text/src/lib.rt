@@ -4,7 +4,7 @@
 // them. A byte that finds no room is left out. Whatever the tables hold, a printer asks nothing of its caller, or only that
 // the place lies within the output.
 //
-// tables: a graph that stands in lent tables.
+// tables: a graph in lent tables.
 // order: the walk order of such a graph.
 // desk: what the desk says, by number, and a refusal by its name.
 // words: the same for people, with the place in the line.

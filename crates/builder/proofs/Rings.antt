@@ -1,4 +1,4 @@
--- A list that goes out of its room whole, is set at one number and goes back whole is the room set there. Assumes nothing.
+-- The list of open ring numbers taken out of its words, set at one number and put back is these words with that number set. Assumes nothing.
 use Prim.Native.Nat.{ℕ, zero, suc, _+_, _<_}
 use mathlib.Core.Path.{_≡_, refl, _∙_, ap, sym}
 use mathlib.Core.List.{List, [], _∷_}

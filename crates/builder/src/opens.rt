@@ -22,7 +22,7 @@ impl Opens {
     }
 }
 
-// The list out of the room in which it rests between joins.
+// The list out of the words that hold it between two joins.
 fn taken(rings: &[u32]) -> Opens
     requires { ⌜ ringNumberCount ≤ length (now rings) ⌝ }
     ensures { λ r. ⌜ r ≡ opensOf (now (rings .entry)) ⌝ }
@@ -38,7 +38,7 @@ fn taken(rings: &[u32]) -> Opens
     o
 }
 
-// The list back into that room.
+// The list back into those words.
 fn put_back(rings: &mut [u32], o: Opens)
     requires { ⌜ (ringNumberCount ≤ length (now rings)) × (length (o .at) ≡ ringNumberCount) ⌝ }
     ensures { λ r. ⌜ now (rings .exit) ≡ sets (now (rings .entry)) 0 (o .at) ⌝ }
@@ -50,8 +50,8 @@ fn put_back(rings: &mut [u32], o: Opens)
     }
 }
 
-// A ring number's value set in the room where the list rests: the list goes through a join whole. Room for fewer numbers
-// holds no list.
+// A ring number's value set in the words that hold the list: the list goes through a join whole. Fewer words than numbers
+// hold no list.
 pub fn rejoin(rings: &mut [u32], number: usize, value: u32)
     requires { ⌜ number < ringNumberCount ⌝ }
     ensures { λ r. ⌜ now (rings .exit) ≡ set (now (rings .entry)) number value ⌝ }

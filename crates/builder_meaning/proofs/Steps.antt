@@ -170,7 +170,7 @@ module _ (b : Bld) (d : Sketch) (same : Same b d) where
         (λ t. same-refuse atomRoom place place refl)
         (λ t. entered-same k (b .entries) (d .nodes ++ (node k [] ∷ [])) (same .rows) (b .st .entries) (leb-false (b .st .places) (b .st .atoms) t) (same .state .entries) (same .state .holds) refl (entries-root (same .kinds) (same .rows) (b .entries) (d .nodes) k (same .entries)) (same .rings) (same .twins))
 
-    -- an atom that stands
+    -- a current atom
     module _ (s : ℕ) (stands : Stands (length (same .kinds)) (b .st .top) (b .path) s) where
       pub last-is : lastOf b ≡ s
       unfolding lastOf

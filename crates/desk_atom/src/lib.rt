@@ -50,7 +50,7 @@ pub fn read_atom(text: &[u8]) -> Begins
     }
 }
 
-// What a text of so many bytes comes to, which was laid as far as there was room: none of it stays where there was too little.
+// The answer after a text of so many bytes was written as far as there was room; with too little room the output is cleared.
 fn answer_length(out: &mut [u8], need: usize) -> Spelt
     ensures { λ r. ⌜ spelt r (now (out .exit)) ≡ answeredLength (now (out .entry)) need ⌝ }
 {

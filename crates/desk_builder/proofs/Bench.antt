@@ -26,7 +26,7 @@ use Rattle.desk_builder.specs.Build.{buildLeaves, answerLeaves, builtAns
 abbrev start : Bld
 start = startD (replicate 9 7) (replicate 24 7) (replicate 3 7) (replicate 100 7)
 
--- two atoms after one that ring numbers may stand at
+-- two atoms after one that ring numbers may be at
 abbrev chain : Bld → Bld
 chain b = extendD (extendD b Elided Star) Elided Star
 
@@ -74,7 +74,7 @@ built = refl
 abbrev said : Bld → List ℕ
 said b = b .st .refusal ∷ b .st .carried ∷ []
 
--- what is lent holds no state: a path of two words for three atoms, and ninety-nine words for the ring numbers; no atom stands;
+-- what is lent holds no state: a path of two words for three atoms, and ninety-nine words for the ring numbers; no current atom;
 -- the fourth atom has no room; ring number 100; a bond that one end holds; half a bond; an entry that two ring numbers lead to;
 -- rooms that are others; a pop beyond the path
 pub refused : map said (startD (replicate 9 0) (replicate 24 0) (replicate 2 0) (replicate 100 0) ∷ startD (replicate 9 0) (replicate 24 0) (replicate 3 0) (replicate 99 0) ∷ extendD start Elided Star ∷ rootD (chain (rootD start Star)) Star ∷ joinD (rootD start Star) Elided 100 ∷ rootD one-sided Star ∷ rootD half Star ∷ joinD shared Elided 0 ∷ rootD less Star ∷ popD (rootD start Star) 5 ∷ [])

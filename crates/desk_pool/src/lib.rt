@@ -11,7 +11,7 @@ use join_pool::SLOT_WORDS;
 use join_pool::find;
 use table::look;
 
-// What the counter is kept at once there. A pair is looked for from the counter down, so the slot of this one is judged too.
+// The highest value of the counter. The search for a pair goes down from the counter, so the slot of this one is judged too.
 const TOP: u32 = 100;
 
 // The mark of a number that is open.
@@ -134,7 +134,7 @@ fn is_pool(pairs: &[u32], p: Pool) -> bool
     pairs_differ(pairs, p)
 }
 
-// The answer of a pool that stands.
+// The answer of numbers that stand for a pool.
 fn answer(g: Given) -> Handed
     ensures { λ r. ⌜ r ≡ handedOf g ⌝ }
 {

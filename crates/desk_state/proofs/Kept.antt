@@ -52,7 +52,7 @@ unfolding isKind
 code-kind k = rw (kind-back k)
 
 -- ---- entries
--- entries that stand are between atoms
+-- the entries of a state are between atoms
 pub between : (s : Builder) (e : List ℕ) (m : ℕ) → m ≤ bondLimit → s .atoms ≤ atomLimit → every (isBuilderEntry s e) m ≡ true → Between e m (s .atoms)
 unfolding isBuilderEntry isTarget
 between s e m few most all =
@@ -309,7 +309,7 @@ module _ (b : Bld) (h : Holds b) where
         failing = more-failing (h .failing);
       })
 
-  -- the atom that stands
+  -- the current atom
   last-below : b .st .top ≢ 0 → lastOf b < b .st .atoms
   unfolding lastOf
   last-below z = h .keeps .steps (b .st .top - 1) (omega arith)

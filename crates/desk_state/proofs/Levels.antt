@@ -106,7 +106,7 @@ Level e n a p d =
     (t : ℕ) (k : BondKind) → HasCount (length d) t → bondsCounted e a (codeOf k) t p < bondsCounted e a (codeOf k) t n → valAt d t k ≡ 0
 
 -- ---- along a chain
--- where a walk stands: at the last entry of its atom among the first p
+-- where a walk has come to: the last entry of its atom among the first p
 pub record Stands (e : List ℕ) (column a n p : ℕ) : Type 0 where
   pub within : p ≤ n
   pub last : lastAt e column a p ≡ p

@@ -63,7 +63,7 @@ turnedOf coded.Bad = 0
 unfoldable pub isOwn : ℕ → ℕ → ℕ → Bool
 isOwn s k t = both (eqb s t) (eqb k (turnedOf (kindOf k)))
 
--- here as many as there, and where both are the same, an even number
+-- as many here as there; where both are the same atom, an even number
 unfoldable pub isMatched : Bool → ℕ → ℕ → Bool
 isMatched own here there = both (eqb here there) (pick own (eqb (here % 2) 0) true)
 
@@ -76,7 +76,7 @@ isPaired e m i =
     (bondsCounted e (sourceAt e i) (entryKindAt e i) (targetAt e i) m)
     (bondsCounted e (targetAt e i) (turnedOf (kindOf (entryKindAt e i))) (sourceAt e i) m))
 
--- the least target of an open entry after the first m: one more than that of the last open one
+-- the least target that the next open entry after the first m may have: one more than that of the last open one
 unfoldable pub leastOpen : List ℕ → ℕ → ℕ
 leastOpen e zero = unclosed
 leastOpen e (suc m) = pick (leb unclosed (targetAt e m)) (targetAt e m + 1) (leastOpen e m)
@@ -105,8 +105,8 @@ unfoldable pub openRings : List ℕ → ℕ → ℕ
 openRings r zero = 0
 openRings r (suc n) = openRings r n + pick (eqb (getD r n 0) 0) 0 1
 
--- a join opens an entry, or closes what one opened: there are no more joins, with those to come of the open ring numbers,
--- than two for each entry
+-- a join opens an entry, or closes what one opened: the joins, and one to come for each open ring number,
+-- are at most two for each entry
 unfoldable pub joinsStand : Builder → List ℕ → Bool
 joinsStand s r = leb (s .joins + openRings r ringNumberCount) (s .entries * 2)
 

@@ -10,7 +10,7 @@ use builder::builder::OPEN;
 use table::look;
 use table::poke;
 
-// Entry i put into the chain of the atom that stands in a column.
+// Entry i put into the chain of the atom that a column names.
 fn link_one(entries: &[u32], column: usize, i: usize, head: &mut [u32], next: &mut [u32])
     requires { ⌜ (i ≤ bondLimit) × (column ≤ 2) ⌝ }
     ensures { λ _. ⌜ now (head .exit) ≡ headWith (now (entries .entry)) column i (now (head .entry)) ⌝ }

@@ -1,4 +1,4 @@
--- A state that stands holds pieces, and an event on it is the event on those pieces: what it answers, and the output and the
+-- What stands for a state holds pieces, and an event on it is the event on those pieces: what it answers, and the output and the
 -- starts that it leaves. After an event that is held the bytes after the line are zeros, if they were before it or no piece was
 -- held. Assumes nothing.
 use Prim.Native.Nat.{ℕ, zero, suc, _+_, _-_, _≤_}
@@ -182,7 +182,7 @@ module _ (s : Spoken) (e : Event) (h : Holds (s .out) (piecesIn s) s) where
   on t over a = record { answers = a; refused = λ z. (refl, refl, refl); accepted = λ z. absurd (omega (arith, z)) }
   on t (held l) a = record { answers = a; refused = λ z. absurd (z refl); accepted = λ z. holds-last s e (piecesIn s) h l }
 
--- an event on a state that stands is the event on its pieces
+-- an event on what stands for a state is the event on its pieces
 pub on-pieces : (s : Spoken) (e : Event) → isWriter s ≡ true → OnPieces s e (eventD true s e)
 unfolding eventD
 on-pieces s e w =

@@ -1,5 +1,5 @@
--- A writer that stands still stands after an event that is held, so that what was answered can be handed in again, as long as
--- its line is below 2^31. A writer that holds nothing stands, whatever was lent. Assumes nothing.
+-- What stands for a writer's state still does after an event that is held, so that the answer can be handed in again, as long as
+-- its line is below 2^31. A writer that holds nothing has a state, whatever was lent. Assumes nothing.
 use Prim.{⊥}
 use Prim.Native.Nat.{ℕ, zero, suc, _+_, _-_, _≤_, _<_}
 use mathlib.Core.Path.{_≡_, refl, sym, ap, _∙_}

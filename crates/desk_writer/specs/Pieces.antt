@@ -3,7 +3,7 @@
 -- answer, 18, 19, 13 or 16, or is held. The first event that is held leaves zeros after its line. A bond's kind is one of eight names, so it always stands for a bond.
 --
 -- Numbers stand for a writer's state if there is room for the pieces, their line is within the output and below 2^31, so that
--- a start stays a number of a table, and the pieces make up that line: the first starts at 0 and each ends no sooner than it
+-- a start fits a word of a table, and the pieces make up that line: the first starts at 0 and each ends no sooner than it
 -- starts, which is where the next one starts, or where the line ends; with no piece the line is empty.
 use Prim.Native.Nat.{ℕ, _+_}
 use mathlib.Core.List.{List, [], _∷_}

@@ -268,7 +268,7 @@ pub empty-line : parse [] ≡ Miss EndOfLine ∷ []
 unfolding Bytes full told toldWhere toldAround ending halt
 empty-line = parse-full [] tt
 
--- "terminator": a blank, a tab or a line end after a line is wrong where it stands
+-- "terminator": a blank, a tab or a line end after a line is wrong at its own place
 blank-free : (x : Terminator) → Free (terminatorS x)
 unfolding terminatorS seconds organics
 blank-free space = free (byte " ") refl

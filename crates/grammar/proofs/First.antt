@@ -1,5 +1,5 @@
--- Which of two things that are wrong with a text comes first: what goes too deep stands before what is refused, and a line
--- within the limit is read up to what stands after it. Assumes nothing.
+-- Which of two things that are wrong with a text comes first: what goes too deep comes before what is refused, and a line
+-- within the limit is read up to what is after it. Assumes nothing.
 use Prim.Native.Nat.{ℕ, _<_, _≤_}
 use mathlib.Core.Path.{_≡_, refl, sym, ap, ap₂, _∙_, subst}
 use mathlib.Core.List.{List, [], _∷_, _++_}

@@ -32,7 +32,7 @@ Spelled s = (t : Line) × (spell t ≡ s)
 unfoldable pub Viable : List ℕ → Type 0
 Viable p = (t : Line) × (w : List ℕ) × (spell t ≡ p ++ w)
 
--- A text is wrong at a place: the bytes before it can begin a line, and with the byte that stands there they can't.
+-- A text is wrong at a place: the bytes before it can begin a line, and with the byte there they can't.
 pub record WrongAt (s : List ℕ) (n : ℕ) : Type 0 where
   pub before : List ℕ
   pub byte : ℕ
@@ -58,7 +58,7 @@ lateMissing n (b ∷ bs) = Character (n + 1)
 abbrev pub opening : ℕ
 opening = byte "("
 
--- A text goes too deep at a place: with the "(" that stands there it can begin a line, but none within the limit.
+-- A text goes too deep at a place: with the "(" there it can begin a line, but none within the limit.
 pub record TooDeep (s : List ℕ) (n : ℕ) : Type 0 where
   pub before : List ℕ
   pub byte : ℕ

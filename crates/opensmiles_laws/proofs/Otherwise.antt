@@ -106,7 +106,7 @@ pub pair-unmeant : (ns : List Node) → ¬ Meant pairChain ns
 unfolding pairChain unmarked atomsIn moleculeOf tellAll next moleculeTold asWritten atomPlaced numbered moleculeRinged closed agreed lookup openKind waits edgesAt addEdge upd fill fillEdges ringFreed reverseOf codeOf says chainE ringsE atomK′ organicK linkK joinEvent bond?K rnumK value place1 has1 aromatics aliphatics
 pair-unmeant ns = unmeant pairChain joinedTwice refl pair-forbidden ns
 
--- "allenes": "@" stands there on an allene-like centre, and is held as TH1, not as AL1
+-- "allenes": "@" is there on an allene-like centre, and is held as TH1, not as AL1
 pub allene-centre : alleneLike (edgesAt 1 (cumulene (markedCarbon th1 noHydrogens))) ≡ true
 unfolding alleneLike edgesAt codeOf
 allene-centre = refl

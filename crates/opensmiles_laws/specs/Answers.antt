@@ -1,7 +1,7 @@
 -- WHAT THE READ CALL ANSWERS to a text of bytes and to tables of la and lb words: each answer by when it is given, in the words
 -- of the grammar and of OpenSMILES' molecule. The read call is proved to be what `readText` says (crates/read), and `readText` is held to
 -- `When` and `SaidAs` here: exactly, so no answer is given at another time, and none is missing. `Bytes` is all that is asked of a
--- text, and a slice of bytes is one; a name of two letters is looked up by one number, which two larger words can feign.
+-- text, and a slice of bytes is one; a name of two letters is looked up by one number, which other words than bytes could make.
 use Prim.Native.Nat.{ℕ, _<_, _≤_}
 use mathlib.Core.Path.{_≡_}
 use mathlib.Core.List.{List}
@@ -34,7 +34,7 @@ pub record Whole (s : List ℕ) : Type 0 where
   pub shallow : Fits branchLimit tree
 
 -- Its tree has a molecule, so the two ends of each closed ring agree; these are its atoms, as they are held. There is room for them
--- and for their entries, and no mark that has to be turned can't be.
+-- and for their entries, and each mark that has to be turned can be.
 pub record Roomy (t : Line) (la lb : ℕ) (ns : List Node) : Type 0 where
   pub whole : Molecule
   pub is : moleculeOf asHeld (meaning t) ≡ some whole
@@ -132,7 +132,7 @@ SaidExactly = (s : List ℕ) → Bytes s → (la lb : ℕ) (x : Said) → Exactl
 
 -- ---- WHAT OPENSMILES MEANS
 -- What OpenSMILES means by a chain whose numbers the reader has is read, as it is held, if the chain is within the limits of text
--- and branches, there is room, and no mark that has to be turned can't be.
+-- and branches, there is room, and each mark that has to be turned can be.
 abbrev pub MeantIsRead : Type 0
 MeantIsRead = (u : Chain) → Small u → FitsChain branchLimit u → length (chainS u) ≤ textLimit → (meant : List Node) → Meant u meant
     → (la lb : ℕ) → length meant ≤ placesIn la → countOf meant ≤ bondSlotsIn lb → Turnable (says u)

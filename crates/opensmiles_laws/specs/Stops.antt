@@ -28,7 +28,7 @@ pub data Unturnable : AtomKind → Type 0 where
 -- The events before it made a molecule, or none since the two ends of a ring bond didn't agree; and they named n atoms. At an
 -- atom: no place (13), no slots for its bond's two entries (14), a mark that can't be turned (10), in this order. At a ring
 -- number that opens a ring, or closes one whose ends agree: no slot (14). After two ends that don't agree only marks are judged.
--- What is missing, and a branch too many, is met wherever it is told; no line tells it.
+-- A missing thing and a branch too many are met wherever they come up; in no line do they.
 pub data Meets (places slots : ℕ) : Option Molecule → ℕ → ReadEvent → Answer → Type 0 where
   no-place : (m : Molecule) (n : ℕ) (l : Lead) (k : AtomKind) (at : ℕ) → places ≤ n → Meets places slots (some m) n (Enter l k at) (answer.AtomRoom at)
   no-slots : (m : Molecule) (n : ℕ) (e : BondKind) (k : AtomKind) (at : ℕ) → n < places → slots < countOf (m .atoms) + 2 → Meets places slots (some m) n (Enter (Bond e) k at) (answer.BondRoom at)
@@ -67,7 +67,7 @@ pub record Marked (es : List ReadEvent) (n : ℕ) : Type 0 where
   pub number : countAll 0 before ≡ n
   pub mark : Unturnable kind
 
--- No mark that has to be turned can't be.
+-- Each mark that has to be turned can be.
 unfoldable pub Turnable : List ReadEvent → Type 0
 Turnable es = (n : ℕ) → ¬ Marked es n
 

@@ -1,4 +1,4 @@
--- How atoms and bonds stand in numbers, as docs/PACKING.md tables it, and what numbers stand for. Zeros stand for nothing.
+-- How atoms and bonds are packed in numbers, as docs/PACKING.md tables it, and what numbers stand for. Zeros stand for nothing.
 use Prim.Native.Nat.{ℕ, _+_, _-_, _*_, _/_, _%_}
 use mathlib.Core.Bool.{Bool, true, false}
 use mathlib.Core.List.{List, [], _∷_}

@@ -1,4 +1,4 @@
-// How atoms and bonds stand in lent numbers: docs/PACKING.md has the table.
+// How atoms and bonds are packed in lent numbers: docs/PACKING.md has the table.
 //
 // A record is a fixed number of words. Reading past a table finds zeros, and a zero stands for no atom and no bond; a
 // store past a table changes nothing. So no call here asks what a table holds.
@@ -163,7 +163,7 @@ pub fn kind(first: u32, second: u32) -> Loaded
     plain(first)
 }
 
-// The kind that stands at a place.
+// The kind at a place.
 pub fn load(t: &[u32], at: usize) -> Loaded
     ensures { λ r. ⌜ r ≡ loadAt (now (t .entry)) at ⌝ }
 {
@@ -204,7 +204,7 @@ fn bond(n: u32, target: u32) -> Entry
     }
 }
 
-// The bond entry that stands at a place.
+// The bond entry at a place.
 pub fn load_bond(t: &[u32], at: usize) -> Entry
     ensures { λ r. ⌜ r ≡ entryStored (now (t .entry)) at ⌝ }
 {

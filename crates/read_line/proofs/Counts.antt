@@ -1,4 +1,4 @@
--- How far an event lets a builder's counts grow, and that a refusal is none of 0. Assumes nothing.
+-- How far an event lets a builder's counts grow, and that the number of a refusal is not 0. Assumes nothing.
 use Prim.Native.Nat.{ℕ, _+_, _≤_}
 use mathlib.Core.Path.{_≡_}
 use native.Mathlib.Omega.{arith}

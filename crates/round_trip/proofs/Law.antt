@@ -86,7 +86,7 @@ unfolding read.readText read.wholeOrRefused read.wholeOf builtAnswer leftS
 read-back g p s n m la lb short c =
     rw (le-ltb textLimit (length s) short, eq-eqb (sketchOf s la lb .refusal) 0 (c .built .refusal), c .built .says, c .atoms, c .entries, c .built .nodes) refl
 
--- the line that stands in an output
+-- the line in an output
 pub line-is : (room : ℕ) (atoms : List ℕ) (n : ℕ) (bonds : List ℕ) (m len : ℕ) (out : List ℕ) → writeOf room atoms n bonds m ≡ writeLeaves (Done len) out
     → take len out ≡ lineSaid (walkEvents atoms n bonds m)
 line-is room atoms n bonds m len out e =

@@ -26,8 +26,8 @@ told-pops p n e es l h =
     (λ q. let z : p ≡ 0 = eqb-true p 0 q in let y : n - p ≡ n = omega arith in rw y at h)
     (λ q. let z : p ≢ 0 = eqb-false p 0 q in (omega arith, l, h))
 
--- One turn, where d atoms stand on the way up: there are pieces for these and for those left since the last event. Where no
--- atom stands, the next event is a root, and any number will do.
+-- One turn, where d atoms are on the way up: there are pieces for these and for those left since the last event. Where there
+-- is no current atom, the next event is a root, and any number will do.
 told-step : {g : Graph} {w : Walk} {d : ℕ} {x : Turn} {c : ℕ} → Sound g w d → Move g w d x c → (n : ℕ) → (w .at .standing ≡ true → n ≡ d + w .at .pend)
     → (es : List Event) → ((k : ℕ) → (x .after .at .standing ≡ true → k ≡ c + x .after .at .pend) → Sayable k es) → Sayable n (x .said ++ es)
 told-step s (still r h) n f es go = go n f
@@ -60,7 +60,7 @@ told-walk g lm lw lb lt pairs r t =
     told-turns g t (fresh lm lw lb lt pairs) 0 0 (sound-start g lm lw lb lt pairs r) (λ e. absurd (false≢true e))
 
 -- ---- the first event
--- where no atom stands and the next one is new, a turn says a root
+-- where there is no current atom and the next one is new, a turn says a root
 first-said : (g : Graph) (t : ℕ) (w : Walk) → 1 ≤ t → w .at .refusal ≡ 0 → w .at .standing ≡ false → w .at .next < g .size → getD (w .met) (w .at .next) 0 ≡ 0
     → 0 < length (eventsOf g t w)
 unfolding eventsOf stepOf turnOf rootTurn

@@ -2,7 +2,7 @@
 -- ends as the other's reverse, every atom of a kind that survives writing and rereading alone, and no configuration but TH1 or
 -- TH2. If it is written without refusal and the line is within the reader's limits and lent room, reading the line back
 -- succeeds and gives that graph renumbered in walk order. Each non-root atom has its parent bond moved to the front, the other
--- bonds in order; a TH mark is toggled exactly if the atom bears hydrogen and its parent bond stood at an odd index. Nothing
+-- bonds in order; a TH mark is toggled exactly if the atom bears hydrogen and its parent bond was at an odd index. Nothing
 -- else differs.
 --
 -- The graph that comes back is a defined one (`renumbered`), and what the reading leaves is an equation: 0 with the counts, and both

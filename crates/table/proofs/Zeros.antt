@@ -8,7 +8,7 @@ use lib.ListN.{length, getD, set, take, drop, replicate, length-append, length-t
 use lib.Seq.{drop-cons, set-at}
 use Rattle.table.specs.Zeros.{zeroed, clearedFrom}
 
--- what stands at a place of zeros, and past their end
+-- what is at a place of zeros, and past their end
 pub zero-at : (n i : ℕ) → getD {A = ℕ} (replicate n 0) i 0 ≡ 0
 zero-at zero i = refl
 zero-at (suc n) zero = refl

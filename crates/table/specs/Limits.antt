@@ -1,4 +1,4 @@
--- How large a label job may be, and for how much of it a table has room: these stand here once, and proofs cite them by name.
+-- How large a label job may be, and for how much of it a table has room. Each limit is defined here and nowhere else.
 use Prim.Native.Nat.{ℕ, _/_, _≤_}
 use mathlib.Core.Path.{_≡_}
 use lib.Dec.{ltb}

@@ -13,7 +13,7 @@ pub mod starts;
 
 // An atom's record: two words for its kind, and the number of its bond entries.
 pub const ATOM_WORDS: usize = 3;
-// Where the number of entries stands in it.
+// Where in it the number of entries is.
 pub const DEGREE: usize = 2;
 // A bond entry's record: the number of its kind, and its target.
 pub const BOND_WORDS: usize = 2;

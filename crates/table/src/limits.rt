@@ -17,7 +17,7 @@ pub const BRANCHES: usize = 128;
 // How many ring numbers there are: 0 to 99.
 pub const RING_NUMBER_COUNT: usize = 100;
 
-// So many atoms are few: tables with room for no more are read into, and a graph of no more is written, with little work room.
+// Up to so many atoms the read call and the write call take less work room.
 pub const FEW_ATOMS: usize = 128;
 
 // So many bond entries are few: tables with room for no more are read into, and no more are compared, with little work room.

@@ -1,6 +1,6 @@
 -- Whether tables hold a graph: the first record whose numbers stand for no atom or bond, counted from 0 through all atoms and
--- then all entries (17). An atom's number of entries stands for none where they go beyond the entries that there are; an
--- entry, where no atom holds it. A target beyond the atoms is no matter of this: it is 5, when the walk comes to it.
+-- then all entries (17). An atom's number of entries is bad where it goes beyond the entries that there are, and an
+-- entry is bad where no atom holds it. A target beyond the atoms is not judged here: it is 5, when the walk comes to it.
 use Prim.Native.Nat.{ℕ, zero, suc, _+_, _-_, _*_}
 use mathlib.Core.List.{List}
 use mathlib.Core.Bool.{Bool, true, false}

@@ -66,7 +66,7 @@ module _ (atoms bonds : List ℕ) (n m : ℕ) (few : n ≤ atomLimit) (good : ba
   table-count =
       renumbered-count (graphOf n atoms bonds) W T atomLimit atomLimit atomLimit atomLimit table-room few m (omega (arith, entries)) fine ∙ entries
 
-  -- the same for events of a reader, which say where they stood in a text
+  -- the same for events of a reader, which say where they were in a text
   pub placed-trip : (places slots : ℕ) → n ≤ places → m ≤ slots → (es : List reader.ReadEvent) → unplaced es ≡ retold (walkEvents atoms n bonds m)
       → Built (runS (startS places slots) es) (renumbered (graphOf n atoms bonds) (byWalk (walkOf atoms n bonds m)))
   placed-trip places slots hp hs es e =

@@ -1,5 +1,5 @@
 -- The graph that tables of words hold, as a walk asks for it. Words that stand for no atom or bond were refused before (17);
--- for the definitions to be whole they are read as a star, and as an elided bond.
+-- so that the definitions are total they are read as a star, and as an elided bond.
 use Prim.Native.Nat.{ℕ, _+_, _*_}
 use mathlib.Core.List.{List}
 use lib.ListN.{getD}
@@ -35,7 +35,7 @@ unfoldable pub kindOr : Loaded → AtomKind
 kindOr (loaded.Held k) = k
 kindOr loaded.Bad = Star
 
--- the entry whose first word stands at a place
+-- the entry whose first word is at a place
 abbrev pub entryAt : List ℕ → ℕ → BondEntry
 entryAt bonds e = entryTo (sureKind (kindOf (getD bonds e 0))) (getD bonds (e + 1) 0)
 

@@ -31,7 +31,7 @@ pub enum Back {
 
 // Whether a new atom can be entered.
 pub enum Way {
-    // Its entry back stands at this place, from 1.
+    // Its entry back is at this place, from 1.
     Enters(u32),
     // A refusal by its number and what it carries.
     Refuses(u32, u32, u32),

@@ -94,7 +94,7 @@ hit-keeps : (p : Pool) (pairs : List ℕ) (a b : ℕ) → Keeps pairs (hitOf p p
 unfolding hitOf hitPair
 hit-keeps p pairs a b = by-test (Keeps pairs) (ltb a b) (λ q. pair-keeps p pairs a b _) (λ q. pair-keeps p pairs b a _)
 
--- ---- the atoms that stand: each with the place of its entry back, and how many of its entries were taken; the last one first
+-- ---- the atoms on the way: each with the place of its entry back, and how many of its entries were taken; the last one first
 record Frame : Type 0 where
   atom : ℕ
   place : ℕ
@@ -141,7 +141,7 @@ module _ (g : Graph) where
   abbrev left : Trail → Outcome
   left z = Goes (leaves z)
 
-  -- the entries of an atom from one on, where d atoms stand below it
+  -- the entries of an atom from one on, where d atoms are on the way below it
   abbrev rest : ℕ → ℕ → ℕ → ℕ → Trail → Outcome
   rest d a b i = entriesFrom g (visitOf g (g .size - suc d)) a b i (degreeAt g a - i)
 
@@ -164,7 +164,7 @@ module _ (g : Graph) where
   unfolding whole andThen
   whole-refused next fs r a b s = ap (λ (p : Outcome). andThen p (roots next)) (climb-refused fs r a b s)
 
-  -- where the turns stand
+  -- how far the turns have come
   abbrev Stands : Walk → List Frame → Trail → Type 0
   Stands w [] s = w .at .standing ≡ false
   Stands w (f ∷ fs) s = (w .at .standing ≡ true) × (w .at .here ≡ f .atom) × (w .at .pend ≡ s .left)
@@ -292,7 +292,7 @@ module _ (g : Graph) where
           tables = met-tables;
         }
 
-  -- ---- a turn where no atom stands
+  -- ---- a turn where there is no current atom
   said-none : (l : List Event) → l ≡ l ++ []
   said-none l = sym (append-nil l)
 
@@ -342,7 +342,7 @@ module _ (g : Graph) where
         (chosen (whole (w .at .next + 1) []) (eqb (getD (w .met) (w .at .next) 0) 0) (eqb (numberIn (s .order) (w .at .next)) 0) (ap (λ (n : ℕ). eqb n 0) (h .tables .met (w .at .next)))
         (λ y. root-met (leb-false _ _ q) (h .tables .met (w .at .next) ∙ eqb-true _ _ y)) (λ y. root-passed)))
 
-  -- ---- a turn at the atom that stands
+  -- ---- a turn at the current atom
   -- what is known of it
   record Top (w : Walk) (f : Frame) (fs : List Frame) : Type 0 where
     inside : f .atom < g .size
@@ -377,7 +377,7 @@ module _ (g : Graph) where
             tables = record { count = k .count; walked = k .walked; met = k .met; back = k .back; pool = k .pool; pairs = k .pairs };
           }
 
-  -- the one before it stands, or none
+  -- the one before it is current, or none is
   leave-step : (w : Walk) (f : Frame) (fs : List Frame) (s : Trail) → Shows w (f ∷ fs) s → Top w f fs → degreeAt g (f .atom) ≤ f .done
       → Step s (leaveOf g w (f .atom)) (whole (w .at .next) (f ∷ fs) (Goes s))
   unfolding leftIn

@@ -1,6 +1,6 @@
 -- The walk order: the number in walk order of each atom, the atom of each such number, and for each atom the place, from 1, of
 -- its entry back to the atom that it was reached from, 0 for a root. It has the refusals of the write call but for 16, and
--- counts a table with less room than the atoms as 13. After a refusal all three tables are zero.
+-- answers 13 where a table has less room than there are atoms. After a refusal all three tables are zero.
 use Prim.Native.Nat.{ℕ, _-_}
 use mathlib.Core.List.{List, [], _∷_}
 use lib.ListN.{length}

@@ -1,5 +1,5 @@
--- The same on a lent output and a lent table of the pieces' starts: what each event makes of them. A byte that finds no room
--- in the output is not laid and still counted, so the length is the line's whatever was lent.
+-- A line in the making on a lent output and a lent table of the pieces' starts. A byte that finds no room
+-- in the output is not written and still counted, so the length is the line's whatever was lent.
 use Prim.Native.Nat.{ℕ, _+_, _-_, _^_}
 use mathlib.Core.List.{List, [], _∷_, _++_}
 use lib.ListN.{length, take, drop, getD, set}
@@ -55,7 +55,7 @@ lastStart starts w d = pick (eqb d 0) (w .len) (lesserOf (w .len) (getD starts (
 abbrev pub bytesFrom : ℕ → ℕ → List ℕ → List ℕ
 bytesFrom at n out = take n (drop at out)
 
--- what stands from a place on put in brackets, with n pieces left
+-- the bytes from a place on put in brackets, with n pieces left
 unfoldable pub wrapT : Spoken → ℕ → ℕ → Spoken
 wrapT s at n =
     spoken (writer n (s .at .len + 2)) (sets (s .out) at (wrapped (bytesFrom at (s .at .len - at) (s .out)))) (s .starts)
@@ -105,6 +105,6 @@ eventOf s (Join b n) = pick (eqb (s .at .pieces) 0) (eventRefusing s NoPiece) (f
 eventOf s (Pop d) = pick (leb (s .at .pieces) d) (eventRefusing s Overpop) (fitting s (sayT s (Pop d)))
 
 -- ---- how far an event goes
--- far from where a number ends
+-- so far below 2^32 that no sum here wraps
 abbrev pub far : ℕ
 far = 2 ^ 31

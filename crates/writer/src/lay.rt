@@ -49,7 +49,7 @@ pub fn lay_rnum(out: &mut [u8], at: usize, n: u32) -> usize
     at + spell_rnum(&mut out[free..], n)
 }
 
-// A byte put at a place, and what stands from there up to the end moved one place on.
+// A byte put at a place, and the bytes from there up to the end moved one place on.
 fn insert(out: &mut [u8], at: usize, end: usize, b: u8)
     requires { ⌜ (at ≤ end) × (end < far) ⌝ }
     ensures { λ _. ⌜ now (out .exit) ≡ sets (now (out .entry)) at (b ∷ bytesFrom at (end - at) (now (out .entry))) ⌝ }
@@ -65,7 +65,7 @@ fn insert(out: &mut [u8], at: usize, end: usize, b: u8)
     }
 }
 
-// What stands from a place up to the end put in brackets.
+// The bytes from a place up to the end put in brackets.
 pub fn wrap(out: &mut [u8], at: usize, end: usize)
     requires { ⌜ (at ≤ end) × (end < far) ⌝ }
     ensures { λ _. ⌜ now (out .exit) ≡ sets (now (out .entry)) at (wrapped (bytesFrom at (end - at) (now (out .entry)))) ⌝ }
