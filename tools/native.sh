@@ -1,6 +1,6 @@
 # What tools/archive and ./label have in common: the kit is found, a crate's module is taken out of it, compiled for this
 # machine and put in its place. To be sourced, by a POSIX shell too, once `me` is the name for messages and `root` the
-# project's folder. What is made stands in target/native.
+# project's folder. What is made is in target/native.
 #
 # A module is what the kit's compiler makes of a crate and all that it reaches, before it makes code for a processor. The kit
 # compiles modules for x86-64 alone, and with few calls laid open; native_object compiles them for the machine that it runs on.
@@ -13,7 +13,7 @@ native_fail() {
     exit 2
 }
 
-# Where the kit is, or nothing: RATTLE_HOME, or where rt stands.
+# Where the kit is, or nothing: RATTLE_HOME, or where rt is.
 native_kit_path() {
     if [ -n "${RATTLE_HOME:-}" ]; then
         echo "$RATTLE_HOME"
@@ -31,7 +31,7 @@ native_kit() {
     [ -x "$own/bin/rattle-cases" ] || native_fail "the kit in $kit has nothing for $machine: it is for Linux on x86-64 or ARM"
 }
 
-# The version, which stands in the C header alone.
+# The version, which is in the C header alone.
 native_version() {
     sed -n 's/^#define MAVISDROK_VERSION "\(.*\)"$/\1/p' "$root/bindings/c/mavisdrok.h"
 }
@@ -59,7 +59,7 @@ native_reached() (
 )
 
 # native_digest CRATE FILE ..: a number for the sources of CRATE and of all that it reaches, for these scripts and for the
-# other files that what is made stands on, named from the project's folder.
+# other files that what is made depends on, named from the project's folder.
 native_digest() (
     cd "$root"
     crate=$1
@@ -151,7 +151,7 @@ native_module() {
     }
 }
 
-# The same module, once rt has proved the crate and all that it stands on; rt's lines are shown as they come.
+# The same module, once rt has proved the crate and those that it uses; rt's lines are shown as they come.
 native_proved_module() {
     native_keeper
     crate=$1

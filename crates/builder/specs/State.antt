@@ -1,6 +1,6 @@
 -- What each event makes of a builder's tables and the numbers beside them. An extend takes two entries, an opened ring
 -- number one, its closing one more; a closing whose kinds fail takes none and is remembered. Refusals in order: 18 with no
--- atom standing, 13 with no room for the atom, 14 with none for its entries, 10 for a mark that can't be turned.
+-- current atom, 13 with no room for the atom, 14 with none for its entries, 10 for a mark that can't be turned.
 use Prim.Native.Nat.{ℕ, _+_, _*_, _-_}
 use mathlib.Core.List.{List, [], _∷_}
 use mathlib.Core.Bool.{Bool, true, false}
@@ -25,7 +25,7 @@ use Rattle.builder.specs.declared.builder.Builder.{Builder}
 abbrev pub entryWords : ℕ
 entryWords = 3
 
--- the target of an entry whose ring number is open is this and the number of the join
+-- the target of an entry whose ring number is open is the sum of this and the number of the join
 abbrev pub unclosed : ℕ
 unclosed = 0x8000_0000
 
@@ -76,7 +76,7 @@ failedSt s x y =
 unfoldable pub refuse : Bld → ℕ → ℕ → Bld
 refuse b r c = bld (b .atoms) (b .entries) (b .path) (b .rings) (refusedSt (b .st) r c)
 
--- the atom that stands
+-- the current atom
 unfoldable pub lastOf : Bld → ℕ
 lastOf b = getD (b .path) (b .st .top - 1) 0
 
@@ -93,7 +93,7 @@ rootOf b k place =
     pick (leb (b .st .places) (b .st .atoms)) (refuse b atomRoom place)
     (entered b k (b .st .entries))
 
--- the two entries of a bond to a new atom: at the one that stands, and reversed at the new one
+-- the two entries of a bond to a new atom: at the current one, and reversed at the new one
 unfoldable pub bonded : Bld → BondKind → Bld
 bonded b k =
     bld (b .atoms)
@@ -107,7 +107,7 @@ unfoldable pub extendedBy : Bld → BondKind → Inverted → Bld
 extendedBy b k Refused = refuse b inversion (b .st .atoms)
 extendedBy b k (Turned t) = entered (bonded b k) t (b .st .entries + 2)
 
--- extend: a new atom, its mark turned, bonded to the one that stands
+-- extend: a new atom, its mark turned, bonded to the current one
 unfoldable pub extendOf : Bld → BondKind → AtomKind → ℕ → Bld
 extendOf b k t place =
     pick (eqb (b .st .top) 0) (refuse b noAtom 0)
@@ -122,7 +122,7 @@ openedOf b k n =
     (sets (b .entries) (b .st .entries * entryWords) (entryList (lastOf b) (codeOf k) (unclosed + b .st .joins)))
     (b .path) (set (b .rings) n (b .st .entries + 1)) (joinedSt (b .st))
 
--- where the entry that a number opened stands, its atom and its kind
+-- where the entry that a number opened is, its atom and its kind
 unfoldable pub openedAt : Bld → ℕ → ℕ
 openedAt b n = (getD (b .rings) n 0 - 1) * entryWords
 
@@ -145,7 +145,7 @@ closedBy b n place (Both l r) =
     (entryList (lastOf b) (codeOf r) (openingOf b n)))
     (b .path) (set (b .rings) n 0) (joinedSt (b .st)))
 
--- join: a ring number at the atom that stands
+-- join: a ring number at the current atom
 unfoldable pub joinOf : Bld → BondKind → ℕ → ℕ → Bld
 joinOf b k n place =
     pick (eqb (b .st .top) 0) (refuse b noAtom 0)

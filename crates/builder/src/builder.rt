@@ -1,7 +1,7 @@
 // The events of a builder, on lent tables and a few numbers beside them. A refused event changes nothing but the refusal.
 //
 // atoms: an atom's record each. entries: three words each, in the order of the events: source, kind, target. path: the
-// atoms from the first to the one that stands. rings: the open ring numbers, at rest.
+// atoms from the first to the current one. rings: the open ring numbers between two joins.
 ghost use mathlib.Core.Path.{_≡_};
 ghost use mathlib.Core.List.{List, [], _∷_};
 ghost use Prim.Native.Nat.{ℕ, _+_, _*_, _-_, _^_, _<_, _≤_};
@@ -32,7 +32,7 @@ use table::poke;
 
 // The words of an entry while a line is read.
 pub const ENTRY_WORDS: usize = 3;
-// The target of an entry whose ring number is open: this and the number of the join.
+// The target of an entry whose ring number is open is the sum of this and the number of the join.
 pub const OPEN: u32 = 0x8000_0000;
 
 // What a builder knows beside its tables. A refusal is its number and what it carries; 0 is none.
@@ -71,7 +71,7 @@ impl Builder {
         }
     }
 
-    // The same, field by field: a copy of the whole carries the bytes between the fields along too, and through memory.
+    // A copy field by field: a copy of the whole struct also moves the padding between its fields, through memory.
     pub fn copied(self) -> Builder
         ensures { λ r. ⌜ r ≡ self ⌝ }
     {
@@ -214,7 +214,7 @@ fn attach(
     enter(atoms, path, b, t, e + 2)
 }
 
-// A new atom, its mark turned, bonded to the one that stands.
+// A new atom, its mark turned, bonded to the current one.
 pub fn extend(
     atoms: &mut [u32],
     entries: &mut [u32],
@@ -282,7 +282,7 @@ fn close_entries(
     put_entry(entries, e, closing, code(right), opening);
 }
 
-// The second use of a ring number: held is what stands for it, one more than its entry.
+// The second use of a ring number: `held` is one more than the place of the entry that it opened.
 fn close_ring(
     entries: &mut [u32],
     path: &[u32],
@@ -319,7 +319,7 @@ fn close_ring(
     }
 }
 
-// A ring number at the atom that stands.
+// A ring number at the current atom.
 pub fn join(
     entries: &mut [u32],
     path: &[u32],

@@ -176,7 +176,7 @@ unfolding lastly
 way-none n zero ws w = refl
 way-none n (suc top) ws w = impossible (cc (w .is))
 
--- the atom that stands
+-- the current atom
 pub record Stands (n top : ℕ) (ws : List ℕ) (s : ℕ) : Type 0 where
   pub some : top ≢ 0
   pub is : getD ws (top - 1) 0 ≡ s

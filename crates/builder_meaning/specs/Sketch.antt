@@ -1,11 +1,11 @@
 -- What events make of a graph: a list of atoms, each with its kind and its bond entries in the order in which they came.
 --
 -- A root is a new atom. An extend is a new atom, its mark toggled where it bears hydrogen, with two entries: the bond at the
--- atom that stands, and first at the new one its reverse. A ring number's first use opens an entry in place. Its second use
+-- current atom, and first at the new one its reverse. A ring number's first use opens an entry in place. Its second use
 -- reconciles the two kinds, fills that entry and adds one at the closing atom. Where the kinds fail, the first such failure
 -- is remembered, the number is free again, the join is counted, and the opening entry stays but is never matched again. A pop
 -- beyond the path just empties it.
--- Refusals, in this order: 18 with no atom standing, 13 with no room for the atom, 14 with none for its entries, 10 for a mark
+-- Refusals, in this order: 18 with no current atom, 13 with no room for the atom, 14 with none for its entries, 10 for a mark
 -- that can't be toggled. The first stops everything. After a first failed join atoms are only counted and their marks judged.
 -- At the end: 3 for the first failed join, else 4 for the first open entry, atoms in order and entries in order, else the
 -- tables, with zeros up to the end of what was lent.
@@ -71,7 +71,7 @@ pub record Sketch : Type 0 where
   pub places : ℕ  -- how many atoms there is room for
   pub slots : ℕ  -- and how many bond entries
   pub nodes : List Node
-  pub path : List ℕ  -- the atom that stands comes first
+  pub path : List ℕ  -- the current atom comes first
   pub opens : List Held
   pub joins : ℕ  -- how many there were
   pub failure : Failure
@@ -198,7 +198,7 @@ bondedS d e s (Turned k) =
     (upd s (addEdge (edge e (To (nextNumber d)))) (d .nodes) ++ (node k (edge (reverseOf e) (To s) ∷ []) ∷ []))
     (nextNumber d)
 
--- extend: with the path
+-- extend: a new atom bonded to the current one
 unfoldable pub extendS : Sketch → BondKind → AtomKind → ℕ → List ℕ → Sketch
 extendS d e k place [] = refused d noAtom 0
 extendS d e k place (s ∷ rest) =
@@ -220,14 +220,14 @@ closedS d n place s h (Both l r) =
     (upd s (addEdge (edge r (To (h .atom)))) (upd (h .atom) (fill (h .join) l s) (d .nodes)))
     (ringFreed n (d .opens)))
 
--- a ring number at s, with what it holds
+-- a ring number at s, by whether it is open
 unfoldable pub ringS : Sketch → BondKind → ℕ → ℕ → ℕ → Option Held → Sketch
 ringS d e n place s none =
     pick (ltb (d .slots) (countOf (d .nodes) + 1)) (refused d bondRoom place) (openedS d e n s)
 ringS d e n place s (some h) =
     closedS d n place s h (reconcileOf (openKind (h .join) (edgesAt (h .atom) (d .nodes))) e)
 
--- join: with the path
+-- join: a ring number at the current atom
 unfoldable pub joinS : Sketch → BondKind → ℕ → ℕ → List ℕ → Sketch
 joinS d e n place [] = refused d noAtom 0
 joinS d e n place (s ∷ rest) = ringS d e n place s (lookup n (d .opens))

@@ -74,7 +74,7 @@ pub fn root(
     builder::builder::root(atoms, path, b.refused(0, 0), k, held)
 }
 
-// A new atom, bonded to the one that stands.
+// A new atom, bonded to the current one.
 pub fn extend(
     atoms: &mut [u32],
     entries: &mut [u32],
@@ -97,7 +97,7 @@ pub fn extend(
     builder::builder::extend(atoms, entries, path, b.refused(0, 0), k, t, held)
 }
 
-// A ring number at the atom that stands.
+// A ring number at the current atom.
 pub fn join(
     atoms: &[u32],
     entries: &mut [u32],

@@ -1,5 +1,5 @@
--- A pool that stands still stands after a call, so that what was handed out can be handed in again, and the number is from 1
--- to 99. A pool that has handed out nothing stands. In a pool that stands no pair is open under two numbers. Assumes nothing.
+-- What stands for a pool still does after a call, so that what was handed out can be handed in again, and the number is from 1
+-- to 99. A pool that has handed out nothing is one. In what stands for a pool no pair is open under two numbers. Assumes nothing.
 use Prim.{⊥}
 use Prim.Native.Nat.{ℕ, zero, suc, _+_, _*_, _≤_, _<_}
 use mathlib.Core.Path.{_≡_, refl, sym, ap, _∙_}
@@ -179,7 +179,7 @@ still false k true o h e = rw (h refl) at e
 still false true false o h e = absurd (false≢true e)
 still false false false o h e = e
 
--- a slot that does not change still stands if no other number has to be free
+-- a slot that does not change is still right if no other number has to be free
 slot-kept : (p p′ : Pool) (pairs : List ℕ) (m x lo hi n : ℕ) → (n ≡ m → ⊥) → (keptFree p′ n ≡ true → keptFree p n ≡ true) → isSlot p pairs n ≡ true → isSlot p′ (slot pairs m x lo hi) n ≡ true
 unfolding isSlot
 slot-kept p p′ pairs m x lo hi n e k h =

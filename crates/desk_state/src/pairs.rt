@@ -54,7 +54,7 @@ fn is_own(source: u32, kind: u32, target: u32) -> bool
     true
 }
 
-// One bond more. Of those that are their own reverse only whether their number is odd is counted.
+// One bond more. Of bonds that are their own reverse only whether their number is odd is kept.
 fn more(own: bool, held: u32) -> u32
     requires { ⌜ held < bondLimit ⌝ }
     ensures { λ r. ⌜ r ≡ moreOf own held ⌝ }
@@ -95,7 +95,7 @@ fn put(entries: &[u32], n: usize, a: usize, head: &[u32], next: &[u32], counts: 
     }
 }
 
-// Entry i taken off the counts of the atom that it is to. If not so, there are fewer reverses of it than there are like it.
+// Entry i taken off the counts of the atom that it is to. If it can't be, there are fewer reverses than entries like it.
 fn take_one(entries: &[u32], i: usize, counts: &mut [u32]) -> bool
     requires { ⌜ i ≤ bondLimit ⌝ }
     ensures { λ r. ⌜ r ≡ canTake (now (entries .entry)) i (now (counts .entry)) ⌝ }

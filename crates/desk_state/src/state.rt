@@ -25,7 +25,7 @@ use table::limits::RING_NUMBER_COUNT;
 use table::limits::lesser;
 use table::look;
 
-// Where the words of an entry stand.
+// Where the words of an entry are.
 pub const KIND: usize = 1;
 
 pub const TARGET: usize = 2;

@@ -24,7 +24,7 @@ use writer::Wrote;
 use writer::event;
 use writer::say::piece_room;
 
-// How long no writer's line is: the start of a piece must stay a number of a table.
+// No writer's line is so long: the start of a piece has to fit a word of a table.
 const FAR: usize = 2_147_483_648;
 
 pub enum Said {
@@ -92,9 +92,9 @@ fn is_writer(out: &[u8], starts: &[u32], w: Writer) -> bool
     pieces_stand(starts, w)
 }
 
-// A writer that an event has brought to another state. Where no piece was held, nothing is known of the bytes after the line,
-// so they are cleared. A later event lays none after the line that it makes and makes it no shorter, so they stay zeros: to
-// clear them each time would make a line cost its length times the output's.
+// A writer whose state an event has changed. Where no piece was held before, nothing is known of the bytes after the line,
+// so they are cleared. A later event writes nothing after its line and makes the line no shorter, so they stay zeros:
+// clearing them each time would make a line cost its length times the output's.
 fn held(out: &mut [u8], before: Writer, w: Writer) -> Said
     ensures { λ r. ⌜ (r ≡ Held w) × (now (out .exit) ≡ pick (eqb (before .pieces) 0) (clearedFrom (w .len) (now (out .entry))) (now (out .entry))) ⌝ }
 {
@@ -105,7 +105,7 @@ fn held(out: &mut [u8], before: Writer, w: Writer) -> Said
     Said::Held(w)
 }
 
-// The answer to an event of a writer that stands, and what is left of the output.
+// The answer to an event where the numbers stand for a writer's state, and what is left of the output.
 fn answer(out: &mut [u8], before: Writer, r: Wrote) -> Said
     ensures { λ a. ⌜ (a ≡ wroteSaid r) × (now (out .exit) ≡ tailOf before r (now (out .entry))) ⌝ }
 {

@@ -113,7 +113,7 @@ built-told (built.Join x y) a b t = refl
 built-told (built.Rnum j) a b t = refl
 built-told built.BadTable a b t = refl
 
--- what a build leaves of a state that stands
+-- what a build leaves of what stands for a state
 pub build-parts : (w h : AsBuilder) (s : Builder) (f : Builder → BuildLeft) (none : Made) (r : calls.Answer) (a b t left : List ℕ) (p : Report) → h ≡ w → h ≡ state.Is s → answerLeaves r a b ≡ f s → p ≡ ofBuilt r → left ≡ laidInto t p → made a b left ≡ onBuilder w none (λ x. buildReported t (f x))
 unfolding onBuilder
 build-parts w h s f none r a b t left p e g l o k =

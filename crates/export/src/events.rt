@@ -90,7 +90,7 @@ pub extern "C" fn mavisdrok_builder_root(
     );
 }
 
-// A new atom, bonded to the one that stands.
+// A new atom, bonded to the current one.
 #[no_mangle]
 pub extern "C" fn mavisdrok_builder_extend(
     atoms: &mut [u32],
@@ -128,7 +128,7 @@ pub extern "C" fn mavisdrok_builder_extend(
     );
 }
 
-// A ring number at the atom that stands.
+// A ring number at the current atom.
 #[no_mangle]
 pub extern "C" fn mavisdrok_builder_join(
     atoms: &[u32],

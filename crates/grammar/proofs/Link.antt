@@ -1,4 +1,4 @@
--- The reader's definition tells, on every text of bytes, what the machine's last state tells, and where it stands.
+-- The reader's definition tells, on every text of bytes, what the machine's last state tells, and where that is.
 -- Assumes nothing.
 use Prim.Native.Nat.{ℕ, zero, suc, _+_, _-_, _*_, _<_, _≤_}
 use mathlib.Core.Path.{_≡_, refl, sym, ap, ap₂, _∙_, subst}
@@ -310,7 +310,7 @@ module _ (s : List ℕ) where
       rw p (sym (append-assoc (toldWhere w) (Enter (linkK (linkOf w)) (atomK a) (length (whereS w)) ∷ []) (g n′ (put-before w + 1)))
       ∙ ap₂ (λ (x : List ReadEvent) (y : ℕ). x ++ g n′ y) (sym (put-told w a)) (sym (put-count w a)) ∙ h (put w a) bs n′ l e (q ∙ ap length (sym (put-ok w a))))
 
-  -- an atom that must stand here
+  -- an atom that must come here
   enter-list : (w : Where) (g : Rest) (m n : ℕ) (bs : List ℕ) → ((b : ℕ) → wantStep w b ≡ fromPart w (begins b)) → BodiesOk (around w) g m → length bs < suc m → Here s n bs → n ≡ length (whereS w)
       → toldWhere w ++ atomP s n (linkK (linkOf w)) (put-before w) g ≡ full (want w) n bs
   unfolding atomP foundRun full told ending halt step onward deep refusal late lacked fromPart foundP missP Grew

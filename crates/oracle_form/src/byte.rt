@@ -55,7 +55,7 @@ pub fn after(at: usize) -> usize {
     NOWHERE
 }
 
-// The place after a byte that has to stand there.
+// The place after a byte that has to be there.
 pub fn pass(s: &[u8], at: usize, b: u8) -> usize {
     if peek(s, at) == b {
         return after(at);

@@ -1,4 +1,4 @@
--- A read never answers 18: whenever the reader extends or joins, an atom stands. Assumes nothing.
+-- A read never answers 18: whenever the reader extends or joins, there is a current atom. Assumes nothing.
 use Prim.Native.Nat.{ℕ, zero, suc, _+_, _-_, _<_, _≤_}
 use mathlib.Core.Path.{_≡_, refl, sym, ap, _∙_, subst}
 use mathlib.Core.List.{List, [], _∷_}
@@ -44,7 +44,7 @@ use Rattle.read_line.proofs.Counts.{missing-not}
 use Rattle.read_line.proofs.Turn.{run-stuck}
 use Rattle.read.proofs.Lines.{read-line}
 
--- ---- events that keep an atom standing, from so many on the path
+-- ---- events that keep a current atom, from so many atoms on the path
 
 abbrev pub Sound : ℕ → List ReadEvent → Type 0
 Sound d [] = Unit {0}
@@ -253,7 +253,7 @@ unfolding Led
 led-some Dot d h = tt
 led-some (Bond e) d h = h
 
--- after a branch as many atoms stand as before it
+-- after a branch as many atoms are on the path as before it
 close-sound : (s : List ℕ) (base : ℕ) (k : ℕ → List ReadEvent) → 0 < base → ((at : ℕ) → Sound base (k at)) → Follows base (closeP s k)
 unfolding closeP missP Follows
 close-sound s base k h f at n some =

@@ -165,7 +165,7 @@ fn read_many(text: &[u8], atoms: &mut [u32], bonds: &mut [u32]) -> Answer
     read_within(text, atoms, bonds, &mut entries, &mut path, &mut rings)
 }
 
-// If so, tables have room for few atoms and entries alone. Where it is not said of such tables, only time is lost.
+// A yes is only said of tables with room for few atoms and entries. A no may be said of any: it only costs time.
 fn are_few(atoms: &[u32], bonds: &[u32]) -> bool
     ensures { λ r. ⌜ (r ≡ true → Few (length (now (atoms .entry))) (length (now (bonds .entry)))) ⌝ }
 {

@@ -71,7 +71,7 @@ pub fn put_atom(
     }
 }
 
-// A ring number at the atom that stands.
+// A ring number at the current atom.
 pub fn put_ring(
     entries: &mut [u32],
     path: &[u32],

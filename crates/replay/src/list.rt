@@ -12,7 +12,7 @@ use libc::STDOUT_FILENO;
 
 // How far the reading has come.
 struct Progress {
-    // How many bytes of a line that has not ended stand at the block's front.
+    // How many bytes of a line that has not ended are at the block's front.
     held: usize,
     // Whether that line was given up because no block holds it.
     too_long: bool,

@@ -1,4 +1,4 @@
-// Requests about a text: `atom`, `rnum` and `bond`, what stands at its start.
+// Requests about a text: `atom`, `rnum` and `bond`, what is at its start.
 ghost use Prim.Native.Nat.{_≤_};
 ghost use lib.ListN.{length};
 use check::same;

@@ -90,7 +90,7 @@ module _ (g : Graph) (v b : ℕ) where
   unfolding parentEntry
   parent-some h = rw (ne-eqb b 0 h)
 
-  -- ---- where they stand
+  -- ---- where they are
   pub record Behind (n : ℕ) (e : BondEntry) : Type 0 where
     pub place : ℕ
     pub is : e ≡ bondOf g v place

@@ -37,7 +37,7 @@ unfoldable pub idxs : List ℕ → List ℕ → List ℕ
 idxs o [] = []
 idxs o (v ∷ fr) = idx v o ∷ idxs o fr
 
--- what a sketch is, where fr is the standing atom and those above it, pend atoms were left since the last event, o is the order of
+-- what a sketch is, where fr is the current atom and those above it, pend atoms were left since the last event, o is the order of
 -- the atoms met, d has the entries behind the walk and P the open pairs
 pub record Bld (g : Graph) (κ : ℕ → AtomKind) (fr : List ℕ) (pend : ℕ) (o : List ℕ) (d : ℕ → List BondEntry) (P : List Pair) (b : Sketch) : Type 0 where
   pub junk : List ℕ
@@ -126,7 +126,7 @@ module _ (g : Graph) (κ : ℕ → AtomKind) (o : List ℕ) (d : ℕ → List Bo
         joins = B .joins;
       })))
 
-  -- the standing atom left for the one above it
+  -- the current atom left for the one above it
   pub bld-left : (v : ℕ) (fr : List ℕ) (n : ℕ) (b : Sketch) → Bld g κ (v ∷ fr) n o d P b → Bld g κ fr (suc n) o d P b
   unfolding idxs
   bld-left v fr n b B =

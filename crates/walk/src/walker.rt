@@ -12,7 +12,7 @@ use join_pool::lent::Told;
 pub struct Walker {
     // The next root to try.
     pub next: u32,
-    // Whether an atom stands, and which.
+    // Whether there is a current atom, and which.
     pub standing: bool,
     pub here: u32,
     // How many atoms were left since the last event.
@@ -68,7 +68,7 @@ impl Walker {
         self
     }
 
-    // An atom met: it stands, and the atoms left before were popped.
+    // An atom met: it is the current one, and the atoms left before were popped.
     pub fn meet(mut self, a: u32) -> Walker
         requires { ⌜ self .count < far ⌝ }
         ensures { λ r. ⌜ r ≡ standingAt self a ⌝ }
@@ -80,7 +80,7 @@ impl Walker {
         self
     }
 
-    // The atom that stands left for the one that it was reached from.
+    // The current atom left for the one that it was reached from.
     pub fn leave(mut self, a: u32) -> Walker
         requires { ⌜ self .pend < far ⌝ }
         ensures { λ r. ⌜ r ≡ backAt self a ⌝ }

@@ -1,4 +1,4 @@
-// The walk order of a graph: it joins the numbers of a line's atoms as typed to those of the line as written.
+// The walk order of a graph: which atom of the line as written is which atom of the line as typed.
 ghost use mathlib.Core.Path.{_≡_};
 ghost use Prim.Native.Nat.{_-_, _≤_};
 ghost use lib.ListN.{length};

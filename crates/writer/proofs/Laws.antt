@@ -57,7 +57,7 @@ lay-part out d text f at n r o a =
 pub laid-out : (out : List ℕ) (at b : ℕ) → length out ≤ at → Laid 1 out at (b ∷ []) out (at + 1)
 laid-out out at b h = record { is = sym (set-out out at b h); next = refl; small = omega arith }
 
--- ---- a byte inserted: what is stored from a place on is the byte and what stood there
+-- ---- a byte inserted: what is stored from a place on is the byte and what was there
 module _ (out₀ : List ℕ) (at b : ℕ) where
   abbrev pub moved : List ℕ
   moved = b ∷ drop at out₀

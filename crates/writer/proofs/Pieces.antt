@@ -65,7 +65,7 @@ start-at (suc d) (p ∷ ps) h =
     let e : suc (length ps) - suc (suc d) ≡ length ps - suc d = omega arith in
     rw e (List·getD-append (pieceStarts ps) _ 0 _ (omega (arith, length-starts ps)) ∙ start-at d ps (omega arith))
 
--- ---- what stands in an output that may be too short
+-- ---- what is in an output that may be too short
 -- the line's end, as far as there is room for it
 stands-end : (o M : List ℕ) → take (length M) (sets o 0 M) ≡ take (length o) M
 stands-end o [] = sym (take-nil (length o))
