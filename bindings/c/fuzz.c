@@ -1,6 +1,6 @@
 /* Calls every export with slices of random lengths that hold random words, texts, states and counts: each slice is a block of
- * its own from malloc, so that a checker of memory sees any access outside it. Whatever a single call refuses must stand as
- * it stood, and what it zeroes must be zero. From the project's root:
+ * its own from malloc, so that a checker of memory sees any access outside it. Whatever a single call refuses must be left
+ * as it was, and what it zeroes must be zero. From the project's root:
  *
  *     tools/archive
  *     cc -g -Ibindings/c bindings/c/fuzz.c target/native/libmavisdrok.a -o target/native/fuzz
@@ -257,7 +257,7 @@ static void must_stand(const uint64_t *report, const char *call)
     }
 }
 
-/* What a start and events have made stands: no event of good words is answered 17, nor is the build. */
+/* What a start and events have made is a state: no event of good words is answered 17, nor is the build. */
 static void told(void)
 {
     size_t places = below(30), slots = below(90), al = places * 3 + below(3), el = slots * 3 + below(3), pl = places + below(3);

@@ -9,7 +9,7 @@
  *
  * report: three words, as far as there is room: the desk's number, and the two values that it carries, 0 where it carries
  * fewer: crates/desk_report/specs/Report.antt has them for each answer. Words after the third are untouched. So are words of a
- * state after its own. docs/PACKING.md says how atoms, bonds and states stand in words.
+ * state after its own. docs/PACKING.md says how atoms, bonds and states are packed in words.
  *
  * What is left: after 0 of a read, a write, an order, a build, a reading of an atom or a spelling, what is lent to be written
  * is zero after what the call has laid there; after a refusal it is zero all through. A single event or a call of the pool that
@@ -138,7 +138,7 @@ void mavisdrok_builder_root(uint32_t *atoms, size_t atoms_len,
                             uint32_t first, uint32_t second,
                             uint64_t *report, size_t report_len);
 
-/* A new atom, bonded to the one that stands. */
+/* A new atom, bonded to the current one. */
 void mavisdrok_builder_extend(uint32_t *atoms, size_t atoms_len,
                               uint32_t *entries, size_t entries_len,
                               uint32_t *path, size_t path_len,
@@ -147,7 +147,7 @@ void mavisdrok_builder_extend(uint32_t *atoms, size_t atoms_len,
                               uint32_t bond, uint32_t first, uint32_t second,
                               uint64_t *report, size_t report_len);
 
-/* A ring number at the atom that stands. */
+/* A ring number at the current atom. */
 void mavisdrok_builder_join(const uint32_t *atoms, size_t atoms_len,
                             uint32_t *entries, size_t entries_len,
                             const uint32_t *path, size_t path_len,
@@ -244,7 +244,7 @@ void mavisdrok_spell_rnum(uint8_t *out, size_t out_len, mavisdrok_rnum number,
 
 /* ---- What the words say
  *
- * These functions stand in this header alone: the library has proved code, and its version. */
+ * These functions are in this header alone: the library has proved code, and its version. */
 
 /* The name of one of the desk's numbers. */
 static inline const char *mavisdrok_name(uint64_t number)
@@ -262,7 +262,7 @@ static inline const char *mavisdrok_name(uint64_t number)
 
 /* An atom. A charge of 0, 0 hydrogens and isotope 0 are written in the line, and are not the same as none. */
 struct mavisdrok_atom {
-    int bracket;        /* whether it stands in brackets; if not, each field below is none */
+    int bracket;        /* whether it is in brackets; if not, each field below is none */
     const char *symbol; /* "*", an element, or as b c n o p s se where it is aromatic */
     int isotope;        /* 0 to 999 */
     int configuration;  /* 0 for none; mavisdrok_configuration names the others */

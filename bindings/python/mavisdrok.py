@@ -13,7 +13,7 @@
     mavisdrok.Refusal: 2 Character: the character at place 1 cannot stand there
 
 It needs the standard library alone, and libmavisdrok.so, which tools/archive makes: the file that MAVISDROK_LIBRARY names,
-the project's own in target/native, or the system's. docs/PACKING.md says how atoms and bonds stand in words.
+the project's own in target/native, or the system's. docs/PACKING.md says how atoms and bonds are packed in words.
 """
 import ctypes
 import os
@@ -76,7 +76,7 @@ CONFIGURATIONS = (
 )
 BOND_KINDS = [None, "Elided", "Single", "Double", "Triple", "Quadruple", "Aromatic", "Up", "Down"]
 
-# How the fields of a bracket atom stand in its two words.
+# How the fields of a bracket atom are packed in its two words.
 FIRST_BRACKET, KIND_ROOM, NUMBER_ROOM, CHARGE_ROOM = 20, 256, 1001, 32
 NO_NUMBER, NO_HYDROGENS, NO_CHARGE, CHARGE_ZERO = 1000, 10, 31, 15
 

@@ -97,7 +97,7 @@ fn read(text: &str, rust: &str) -> Option<String> {
     })
 }
 
-// A Builder panics where an event finds no atom to stand on, and where a mark
+// A Builder panics where an event finds no current atom, and where a mark
 // cannot be inverted: the event is refused, by 18 or by 10 and the atom's number.
 fn builder(arguments: &str) -> Option<String> {
     let ours = answer::builder(form::parse_events(arguments)?, meant_rnum);
@@ -180,7 +180,7 @@ fn rewrite(text: &str, rust: &str) -> Option<String> {
 }
 
 // What is meant for a graph that purr writes as `rust`: where it panics the
-// walk is refused, by 10 or by 11. Wherever purr's answer stands, the walk that
+// walk is refused, by 10 or by 11. Wherever purr's answer is kept, the walk that
 // is meant has to come to the same.
 fn written(graph: &[Atom], rust: &str) -> Option<String> {
     let ours = model::written(graph);

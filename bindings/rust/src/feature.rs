@@ -92,7 +92,7 @@ impl AtomKind {
         AtomKind { first: words[0], second: words[1] }
     }
 
-    /// Whether it stands in brackets. What does not has no isotope, configuration, hydrogens, charge or map.
+    /// Whether it is in brackets. What is not has no isotope, configuration, hydrogens, charge or map.
     pub fn is_bracket(&self) -> bool {
         self.first >= BRACKET
     }

@@ -24,10 +24,10 @@ pub trait Follower {
     /// A first atom of a component.
     fn root(&mut self, root: AtomKind) -> Result<(), Error>;
 
-    /// A new atom, bonded to the one that stands.
+    /// A new atom, bonded to the current one.
     fn extend(&mut self, bond_kind: BondKind, atom_kind: AtomKind) -> Result<(), Error>;
 
-    /// A ring number at the atom that stands.
+    /// A ring number at the current atom.
     fn join(&mut self, bond_kind: BondKind, rnum: Rnum) -> Result<(), Error>;
 
     /// So many atoms back.

@@ -1,5 +1,5 @@
 // Compares with the stored answers of purr: the lists of events told to a builder and to a writer, and of calls to the pool.
-// No answers stand in them as `-`.
+// Where there is no answer, they have `-`.
 use mavisdrok::{AtomKind, BondKind, Builder, Error, Follower, JoinPool, Rnum, Writer};
 
 mod form;

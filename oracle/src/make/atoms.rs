@@ -120,7 +120,7 @@ fn edit(random: &mut Random, characters: &mut Vec<char>) {
     }
 }
 
-// A ring number as it stands in a line, of any kind.
+// A ring number as it is written in a line, of any kind.
 fn ring_number(random: &mut Random) -> String {
     if random.one_in(2) {
         random.below(10).to_string()

@@ -167,7 +167,7 @@ impl Line<'_> {
     }
 }
 
-// A bond as it stands in a line.
+// A bond as it is written in a line.
 fn spelling(bond: &'static str) -> &'static str {
     match bond {
         "e" => "",

@@ -247,7 +247,7 @@ fn misnumbers(graph: &[Atom], order: &Ordered) -> Difference {
 
 /// The graph renumbered: the atom v is the atom `walked[v]`, its parent's bond is
 /// moved to the front, and its mark is toggled exactly if it bears hydrogen and
-/// that bond stood at an odd index.
+/// that bond was at an odd index.
 pub fn renumbered(graph: &[Atom], order: &Ordered) -> Vec<Atom> {
     let place = |&atom: &u32| order.back.cells()[atom as usize] as usize;
     let entry = |bond: &Bond| Bond::new(bond.kind.clone(), order.number.cells()[bond.tid] as usize);
