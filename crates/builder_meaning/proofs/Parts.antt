@@ -15,7 +15,7 @@ use Rattle.feature.specs.declared.bond_kind.BondKind.{BondKind}
 use Rattle.feature.proofs.Cases.{by-eq, impossible}
 use Rattle.table.specs.Records.{atomWords}
 use Rattle.packing.specs.Words.{wordsOf, listOf}
-use Rattle.packing.proofs.Laws.{sets-beside, sets-in, sets-first}
+use Rattle.table.proofs.Stores.{sets-beside, sets-in, sets-first}
 use Rattle.builder.specs.State.{entryWords, entryList}
 use Rattle.builder_meaning.specs.Sketch.{Target, To, Edge, Node, edge, node, countOf, upd, addEdge, fill, targetOf}
 use Rattle.builder_meaning.proofs.Rows.{Row, row, noRow, edgesOf, flat, nodes-length, nodes-snoc, count-append, count-add, count-fill, nodes-push, edges-none, Opened, nodes-fill, flat-append, flat-set}

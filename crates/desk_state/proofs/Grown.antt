@@ -14,7 +14,7 @@ use Rattle.feature.specs.Bonds.{codeOf, reverseOf}
 use Rattle.feature.specs.declared.bond_kind.BondKind.{BondKind}
 use Rattle.feature.proofs.Cases.{by-eq}
 use Rattle.feature.proofs.Bonds.{reverse-twice, same-reverse}
-use Rattle.packing.proofs.Laws.{sets-beside, sets-in, sets-first}
+use Rattle.table.proofs.Stores.{sets-beside, sets-in, sets-first}
 use Rattle.builder.specs.State.{unclosed, entryWords, entryList}
 use Rattle.desk_state.specs.Standing.{sourceAt, entryKindAt, targetAt, isEntryTo, bondsCounted, leastOpen}
 use Rattle.desk_state.proofs.Ends.{count-step}

@@ -9,7 +9,7 @@ use lib.ListN.{length, getD}
 use lib.Seq.{sets, length-sets}
 use lib.Dec.{ltb}
 use borrow.Author.Tests.{ltb-true, ltb-false}
-use Rattle.packing.proofs.Laws.{sets-beside, sets-in, sets-first}
+use Rattle.table.proofs.Stores.{sets-beside, sets-in, sets-first}
 use Rattle.join_pool.specs.Pairs.{slotWords, slot}
 
 module _ (pairs : List ℕ) (m x lo hi : ℕ) where

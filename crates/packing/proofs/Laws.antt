@@ -1,14 +1,14 @@
 -- What is stored is what is loaded, nothing else is changed by it, and no other numbers are taken for an atom or a bond.
 -- Assumes nothing.
-use Prim.Native.Nat.{ℕ, zero, suc, _+_, _-_, _*_, _/_, _%_, _<_, _≤_}
-use mathlib.Core.Path.{_≡_, refl, _∙_, ap, sym, subst}
-use mathlib.Core.List.{List, [], _∷_}
-use mathlib.Core.Logic.{_⊎_, inl, inr, ⊎-map}
+use Prim.Native.Nat.{ℕ, _+_, _-_, _*_, _/_, _%_, _<_, _≤_}
+use mathlib.Core.Path.{_≡_, refl, _∙_, ap, subst}
+use mathlib.Core.List.{List}
+use mathlib.Core.Logic.{_⊎_, ⊎-map}
 use mathlib.Core.Bool.{Bool, true, false}
 use native.Mathlib.Omega.{arith}
-use native.Mathlib.Nat.{add-mul-mod-self-left, add-mul-div-left, mod-eq-of-lt, div-eq-of-lt, zero-add, add-zero, mod-add-div}
-use lib.ListN.{length, getD, set, length-set, List·getD-eq-default}
-use lib.Seq.{sets, set-out, getD-set-same, getD-set-other}
+use native.Mathlib.Nat.{add-mul-mod-self-left, add-mul-div-left, mod-eq-of-lt, div-eq-of-lt, zero-add, mod-add-div}
+use lib.ListN.{length, List·getD-eq-default}
+use lib.Seq.{sets}
 use lib.Dec.{ltb, leb, eqb, lit<}
 use borrow.Author.Tests.{lt-ltb, le-ltb, lt-leb, le-leb, ltb-true, ltb-false, eqb-true}
 use Rattle.feature.specs.Pick.{pick}
@@ -25,40 +25,11 @@ use Rattle.feature.specs.declared.bond_kind.Coded.the-variants as coded
 use Rattle.feature.proofs.Ranges.{good, ranged}
 use Rattle.feature.proofs.Bonds.{kind-back}
 use Rattle.feature.proofs.Cases.{impossible}
+use Rattle.table.proofs.Stores.{sets-beside, sets-in, sets-first}
 use Rattle.packing.specs.declared.Loaded.{Loaded}
 use Rattle.packing.specs.declared.Loaded.the-variants.{Held, Bad}
 use Rattle.packing.specs.declared.Entry.the-variants as entry
 use Rattle.packing.specs.Words.{star, aliphaticFrom, aromaticFrom, bracketed, kindRoom, numberRoom, charges, pair, bracketPair, pairOf, wordsOf, listOf, plainOf, unpacked, bracketOf, loadOf, loadAt, bondList, entryCoded, entryOfWords, entryStored}
-
--- ---- a run of stores
--- beside it nothing changes
-pub sets-beside : (t vs : List ℕ) (i j : ℕ) → (j < i) ⊎ (i + length vs ≤ j) → getD (sets t i vs) j 0 ≡ getD t j 0
-sets-beside t [] i j h = refl
-sets-beside t (v ∷ vs) i j (inl h) =
-    sets-beside (set t i v) vs (suc i) j (inl (omega arith)) ∙ getD-set-other t i j v 0 (λ e. omega arith)
-sets-beside t (v ∷ vs) i j (inr h) =
-    sets-beside (set t i v) vs (suc i) j (inr (omega arith)) ∙ getD-set-other t i j v 0 (λ e. omega arith)
-
--- in it stands what was stored
-pub sets-in : (t vs : List ℕ) (i j : ℕ) → i + length vs ≤ length t → j < length vs → getD (sets t i vs) (i + j) 0 ≡ getD vs j 0
-sets-in t [] i j h l = absurd (omega arith)
-sets-in t (v ∷ vs) i zero h l =
-    ap (λ (n : ℕ). getD (sets (set t i v) (suc i) vs) n 0) (add-zero i)
-    ∙ sets-beside (set t i v) vs (suc i) i (inl (omega arith))
-    ∙ getD-set-same t i v 0 (omega arith)
-sets-in t (v ∷ vs) i (suc j) h l =
-    ap (λ (n : ℕ). getD (sets (set t i v) (suc i) vs) n 0) (omega arith)
-    ∙ sets-in (set t i v) vs (suc i) j (rw length-set (omega arith)) (omega arith)
-
--- the same at its first place
-pub sets-first : (t vs : List ℕ) (i : ℕ) → i + length vs ≤ length t → 0 < length vs → getD (sets t i vs) i 0 ≡ getD vs 0 0
-sets-first t vs i h l = ap (λ (n : ℕ). getD (sets t i vs) n 0) (sym (add-zero i)) ∙ sets-in t vs i 0 h l
-
--- past the end it changes nothing
-pub sets-out : (t vs : List ℕ) (i : ℕ) → length t ≤ i → sets t i vs ≡ t
-sets-out t [] i h = refl
-sets-out t (v ∷ vs) i h =
-    sets-out (set t i v) vs (suc i) (rw length-set (omega arith)) ∙ set-out t i v h
 
 -- ---- two numbers in one
 -- the first of them is its rest

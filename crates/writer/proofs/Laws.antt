@@ -9,7 +9,7 @@ use lib.Seq.{sets, length-sets, length-take-le, take-all, take-take, take-suc, g
 use lib.Dec.{leb}
 use borrow.Author.Tests.{lt-ltb, le-ltb, lt-leb, le-leb, eq-eqb, ne-eqb}
 use borrow.Rule.Slice.PartMut.{midOf, putMid}
-use Rattle.packing.proofs.Laws.{sets-out, sets-beside}
+use Rattle.table.proofs.Stores.{sets-out, sets-beside, sets-same, sets-parts}
 use Rattle.feature.specs.Pick.{pick}
 use Rattle.feature.specs.Text.{byte, bytes}
 use Rattle.feature.specs.declared.atom_kind.AtomKind.{AtomKind}
@@ -22,7 +22,6 @@ use Rattle.writer.specs.declared.Writer.{Writer}
 use Rattle.writer.specs.declared.Wrote.the-variants.{Held, AtomRoom, OutRoom}
 use Rattle.writer.specs.Line.{Root, Extend, Join, Pop, dotText, wrapped}
 use Rattle.writer.specs.Tables.{Spoken, spoken, writer, pieceRoom, added, pieceT, lengthened, joinT, lastStart, bytesFrom, wrapT, popT, EventTold, toldWith, eventRefusing, fitting, sayT, eventOf}
-use Rattle.writer.proofs.Stores.{sets-same, sets-parts}
 
 -- ---- a text in a lent part
 -- a part put back from a place within

@@ -1,5 +1,4 @@
 -- Laws that several proofs cite, and the theorems about the line.
-pub mod Stores
 pub mod Laws
 pub mod Pieces
 pub mod Lengths

@@ -19,7 +19,7 @@ use Rattle.table.proofs.Rooms.{lesser-cases, lesser-held}
 use Rattle.writer.specs.Line.{Event, Root, Extend, Join, Pop, lineOf, dotText, addPiece, onLast, wrapped, popPieces, writeEvent, writeEvents}
 use Rattle.writer.specs.Tables.{Spoken, spoken, writer, pieceRoom, added, pieceT, lengthened, joinT, lastStart, bytesFrom, wrapT, popT, sayT, sayAll}
 use Rattle.writer.specs.Pieces.{pieceStarts, Holds}
-use Rattle.writer.proofs.Stores.{sets-same, sets-over}
+use Rattle.table.proofs.Stores.{sets-same, sets-over}
 
 -- ---- the line of pieces
 pub length-starts : (ps : List (List ℕ)) → length (pieceStarts ps) ≡ length ps

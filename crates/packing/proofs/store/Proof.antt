@@ -4,7 +4,7 @@ use mathlib.Core.Path.{sym}
 use native.Mathlib.Numerals.{add-one}
 use borrow.Author.Needs.{needs}
 use Rattle.packing.specs.Words.{listOf}
-use Rattle.packing.proofs.Laws.{sets-out}
+use Rattle.table.proofs.Stores.{sets-out}
 use Rattle.packing.proofs.store.Statement.{statement}
 use Rattle.packing.proofs.store.Tie as tie
 

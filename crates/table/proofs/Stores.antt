@@ -1,13 +1,44 @@
 -- Runs of stores in a list that may be too short for them: what finds no room is not stored. Assumes nothing.
-use Prim.Native.Nat.{ℕ, zero, suc, _-_, _≤_}
+use Prim.Native.Nat.{ℕ, zero, suc, _+_, _-_, _<_, _≤_}
 use mathlib.Core.Path.{_≡_, refl, sym, ap, _∙_}
 use mathlib.Core.List.{List, [], _∷_, _++_}
-use native.Mathlib.Nat.{not-suc-le-zero, le-of-suc-le-suc, sub-zero, suc-sub-suc}
-use lib.ListN.{length, take, drop}
-use lib.Seq.{sets, take-nil}
+use mathlib.Core.Logic.{_⊎_, inl, inr}
+use native.Mathlib.Omega.{arith}
+use native.Mathlib.Nat.{not-suc-le-zero, le-of-suc-le-suc, add-zero, sub-zero, suc-sub-suc}
+use lib.ListN.{length, getD, set, take, drop, length-set}
+use lib.Seq.{sets, take-nil, set-out, getD-set-same, getD-set-other}
 use Rattle.feature.proofs.Lists.{sets-nil, sets-cons}
 
--- ---- the first value apart
+-- ---- what is there after a run of stores
+-- beside it nothing changes
+pub sets-beside : (t vs : List ℕ) (i j : ℕ) → (j < i) ⊎ (i + length vs ≤ j) → getD (sets t i vs) j 0 ≡ getD t j 0
+sets-beside t [] i j h = refl
+sets-beside t (v ∷ vs) i j (inl h) =
+    sets-beside (set t i v) vs (suc i) j (inl (omega arith)) ∙ getD-set-other t i j v 0 (λ e. omega arith)
+sets-beside t (v ∷ vs) i j (inr h) =
+    sets-beside (set t i v) vs (suc i) j (inr (omega arith)) ∙ getD-set-other t i j v 0 (λ e. omega arith)
+
+-- in it is what was stored
+pub sets-in : (t vs : List ℕ) (i j : ℕ) → i + length vs ≤ length t → j < length vs → getD (sets t i vs) (i + j) 0 ≡ getD vs j 0
+sets-in t [] i j h l = absurd (omega arith)
+sets-in t (v ∷ vs) i zero h l =
+    ap (λ (n : ℕ). getD (sets (set t i v) (suc i) vs) n 0) (add-zero i)
+    ∙ sets-beside (set t i v) vs (suc i) i (inl (omega arith))
+    ∙ getD-set-same t i v 0 (omega arith)
+sets-in t (v ∷ vs) i (suc j) h l =
+    ap (λ (n : ℕ). getD (sets (set t i v) (suc i) vs) n 0) (omega arith)
+    ∙ sets-in (set t i v) vs (suc i) j (rw length-set (omega arith)) (omega arith)
+
+-- the same at its first place
+pub sets-first : (t vs : List ℕ) (i : ℕ) → i + length vs ≤ length t → 0 < length vs → getD (sets t i vs) i 0 ≡ getD vs 0 0
+sets-first t vs i h l = ap (λ (n : ℕ). getD (sets t i vs) n 0) (sym (add-zero i)) ∙ sets-in t vs i 0 h l
+
+-- past the end it changes nothing
+pub sets-out : (t vs : List ℕ) (i : ℕ) → length t ≤ i → sets t i vs ≡ t
+sets-out t [] i h = refl
+sets-out t (v ∷ vs) i h =
+    sets-out (set t i v) vs (suc i) (rw length-set (omega arith)) ∙ set-out t i v h
+
 -- ---- only so many values are seen as there is room for
 pub sets-take : (l : List ℕ) (i : ℕ) (vs : List ℕ) → sets l i vs ≡ sets l i (take (length l - i) vs)
 sets-take [] i vs = sets-nil i vs ∙ sym (sets-nil i (take (0 - i) vs))
