@@ -52,26 +52,30 @@ abbrev pub refusedSt : Builder → ℕ → ℕ → Builder
 refusedSt s r c =
     state r c (s .places) (s .slots) (s .atoms) (s .entries) (s .top) (s .joins) (s .failed) (s .closing) (s .opening)
 
+-- other counts: atoms, entries, the path's length, joins
+abbrev pub countsSt : Builder → ℕ → ℕ → ℕ → ℕ → Builder
+countsSt s a e t j =
+    state (s .refusal) (s .carried) (s .places) (s .slots) a e t j (s .failed) (s .closing) (s .opening)
+
 abbrev pub poppedSt : Builder → ℕ → Builder
-poppedSt s n =
-    state (s .refusal) (s .carried) (s .places) (s .slots) (s .atoms) (s .entries) (s .top - n) (s .joins) (s .failed) (s .closing) (s .opening)
+poppedSt s n = countsSt s (s .atoms) (s .entries) (s .top - n) (s .joins)
 
 -- one atom more on the path, and so many entries
 abbrev pub enteredSt : Builder → ℕ → Builder
-enteredSt s e =
-    state (s .refusal) (s .carried) (s .places) (s .slots) (s .atoms + 1) e (s .top + 1) (s .joins) (s .failed) (s .closing) (s .opening)
+enteredSt s e = countsSt s (s .atoms + 1) e (s .top + 1) (s .joins)
 
 -- one join more, and one entry
 abbrev pub joinedSt : Builder → Builder
-joinedSt s =
-    state (s .refusal) (s .carried) (s .places) (s .slots) (s .atoms) (s .entries + 1) (s .top) (s .joins + 1) (s .failed) (s .closing) (s .opening)
+joinedSt s = countsSt s (s .atoms) (s .entries + 1) (s .top) (s .joins + 1)
+
+-- one join more, and a failed one is remembered
+abbrev pub brokenSt : Builder → ℕ → ℕ → Builder
+brokenSt s x y =
+    state (s .refusal) (s .carried) (s .places) (s .slots) (s .atoms) (s .entries) (s .top) (s .joins + 1) true x y
 
 -- one join more, which failed; the first such is kept
 unfoldable pub failedSt : Builder → ℕ → ℕ → Builder
-failedSt s x y =
-    pick (s .failed)
-    (state (s .refusal) (s .carried) (s .places) (s .slots) (s .atoms) (s .entries) (s .top) (s .joins + 1) true (s .closing) (s .opening))
-    (state (s .refusal) (s .carried) (s .places) (s .slots) (s .atoms) (s .entries) (s .top) (s .joins + 1) true x y)
+failedSt s x y = pick (s .failed) (brokenSt s (s .closing) (s .opening)) (brokenSt s x y)
 
 unfoldable pub refuse : Bld → ℕ → ℕ → Bld
 refuse b r c = bld (b .atoms) (b .entries) (b .path) (b .rings) (refusedSt (b .st) r c)

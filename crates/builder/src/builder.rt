@@ -150,7 +150,9 @@ fn put_entry(entries: &mut [u32], e: usize, source: u32, kind: u32, target: u32)
 // The two entries of a bond, one after the other. Where there is room for both, one test does.
 fn put_bond(entries: &mut [u32], e: usize, source: u32, kind: u32, target: u32, reversed: u32)
     requires { ⌜ e < 2 ^ 32 ⌝ }
-    ensures { λ r. ⌜ now (entries .exit) ≡ sets (sets (now (entries .entry)) (e * entryWords) (entryList source kind target)) ((e + 1) * entryWords) (entryList target reversed source) ⌝ }
+    ensures { λ r. ⌜ now (entries .exit)
+        ≡ sets (sets (now (entries .entry)) (e * entryWords) (entryList source kind target)) ((e + 1) * entryWords)
+        (entryList target reversed source) ⌝ }
 {
     let at = e * ENTRY_WORDS;
     if at + 5 < entries.len() {
@@ -169,7 +171,8 @@ fn put_bond(entries: &mut [u32], e: usize, source: u32, kind: u32, target: u32, 
 // A new atom on the path; `held` is how many entries there are then.
 fn enter(atoms: &mut [u32], path: &mut [u32], b: Builder, k: AtomKind, held: usize) -> Builder
     requires { ⌜ SmallCounts b ⌝ }
-    ensures { λ r. ⌜ ((e s : List ℕ) → bld (now (atoms .exit)) e (now (path .exit)) s r ≡ entered (bld (now (atoms .entry)) e (now (path .entry)) s b) k held) ⌝ }
+    ensures { λ r. ⌜ ((e s : List ℕ) →
+        bld (now (atoms .exit)) e (now (path .exit)) s r ≡ entered (bld (now (atoms .entry)) e (now (path .entry)) s b) k held) ⌝ }
 {
     let mut b = b;
     let n = b.atoms;
@@ -185,7 +188,8 @@ fn enter(atoms: &mut [u32], path: &mut [u32], b: Builder, k: AtomKind, held: usi
 // A first atom of a component.
 pub fn root(atoms: &mut [u32], path: &mut [u32], b: Builder, k: AtomKind, place: usize) -> Builder
     requires { ⌜ SmallCounts b ⌝ }
-    ensures { λ r. ⌜ ((e s : List ℕ) → bld (now (atoms .exit)) e (now (path .exit)) s r ≡ rootOf (bld (now (atoms .entry)) e (now (path .entry)) s b) k place) ⌝ }
+    ensures { λ r. ⌜ ((e s : List ℕ) →
+        bld (now (atoms .exit)) e (now (path .exit)) s r ≡ rootOf (bld (now (atoms .entry)) e (now (path .entry)) s b) k place) ⌝ }
 {
     if b.places <= b.atoms {
         return b.refused(ATOM_ROOM, place);
@@ -275,7 +279,9 @@ fn close_entries(
     opening: u32,
 )
     requires { ⌜ (w ≤ 2 ^ 40) × (e ≤ 2 ^ 32) ⌝ }
-    ensures { λ r. ⌜ now (entries .exit) ≡ sets (sets (now (entries .entry)) (w + 1) (codeOf left ∷ closing ∷ [])) (e * entryWords) (entryList closing (codeOf right) opening) ⌝ }
+    ensures { λ r. ⌜ now (entries .exit)
+        ≡ sets (sets (now (entries .entry)) (w + 1) (codeOf left ∷ closing ∷ [])) (e * entryWords)
+        (entryList closing (codeOf right) opening) ⌝ }
 {
     poke(entries, w + 1, code(left));
     poke(entries, w + 2, closing);

@@ -97,22 +97,32 @@ abbrev pub startS : ℕ → ℕ → Sketch
 startS p l = sketch p l [] [] [] 0 None 0 0 0
 
 -- ---- what changes
+-- other atoms and another path
+abbrev pub drawn : Sketch → List Node → List ℕ → Sketch
+drawn d ns at =
+    sketch (d .places) (d .slots) ns at (d .opens) (d .joins) (d .failure) (d .unseen) (d .refusal) (d .carried)
+
+-- one join more, with other atoms, open numbers and failure
+abbrev pub joinMade : Sketch → List Node → List Held → Failure → Sketch
+joinMade d ns os f =
+    sketch (d .places) (d .slots) ns (d .path) os (d .joins + 1) f (d .unseen) (d .refusal) (d .carried)
+
+-- another count of unseen atoms, another refusal and what it carries
+abbrev pub noted : Sketch → ℕ → ℕ → ℕ → Sketch
+noted d u r c = sketch (d .places) (d .slots) (d .nodes) (d .path) (d .opens) (d .joins) (d .failure) u r c
+
 abbrev pub refused : Sketch → ℕ → ℕ → Sketch
-refused d r c = sketch (d .places) (d .slots) (d .nodes) (d .path) (d .opens) (d .joins) (d .failure) (d .unseen) r c
+refused d r c = noted d (d .unseen) r c
 
 abbrev pub popped : Sketch → ℕ → Sketch
-popped d n =
-    sketch (d .places) (d .slots) (d .nodes) (drop n (d .path)) (d .opens) (d .joins) (d .failure) (d .unseen) (d .refusal) (d .carried)
+popped d n = drawn d (d .nodes) (drop n (d .path))
 
 -- other atoms, and one more on the path
 abbrev pub atomAdded : Sketch → List Node → ℕ → Sketch
-atomAdded d ns a =
-    sketch (d .places) (d .slots) ns (a ∷ d .path) (d .opens) (d .joins) (d .failure) (d .unseen) (d .refusal) (d .carried)
+atomAdded d ns a = drawn d ns (a ∷ d .path)
 
--- one join more
 abbrev pub joined : Sketch → List Node → List Held → Sketch
-joined d ns os =
-    sketch (d .places) (d .slots) ns (d .path) os (d .joins + 1) (d .failure) (d .unseen) (d .refusal) (d .carried)
+joined d ns os = joinMade d ns os (d .failure)
 
 -- the first failure is the one that is remembered
 unfoldable pub firstOf : Failure → ℕ → ℕ → Failure
@@ -121,13 +131,11 @@ firstOf (Failed v w) x y = Failed v w
 
 -- one join more, which failed
 abbrev pub broken : Sketch → List Held → ℕ → ℕ → Sketch
-broken d os x y =
-    sketch (d .places) (d .slots) (d .nodes) (d .path) os (d .joins + 1) (firstOf (d .failure) x y) (d .unseen) (d .refusal) (d .carried)
+broken d os x y = joinMade d (d .nodes) os (firstOf (d .failure) x y)
 
 -- one atom more, only counted
 abbrev pub atomPassed : Sketch → Sketch
-atomPassed d =
-    sketch (d .places) (d .slots) (d .nodes) (d .path) (d .opens) (d .joins) (d .failure) (d .unseen + 1) (d .refusal) (d .carried)
+atomPassed d = noted d (d .unseen + 1) (d .refusal) (d .carried)
 
 -- ---- atoms and entries
 -- the number of the next atom

@@ -84,7 +84,10 @@ fn put_one(entries: &[u32], i: usize, counts: &mut [u32])
 
 // All entries from an atom, of n.
 fn put(entries: &[u32], n: usize, a: usize, head: &[u32], next: &[u32], counts: &mut [u32])
-    requires { ⌜ Sound (now entries) n (length (now counts)) × Linked (now entries) 0 n (now head) (now next) × (a < length (now head)) × NoneCounted (now counts) ⌝ }
+    requires { ⌜ Sound (now entries) n (length (now counts))
+        × Linked (now entries) 0 n (now head) (now next)
+        × (a < length (now head))
+        × NoneCounted (now counts) ⌝ }
     ensures { λ _. ⌜ CountedAfter (now (entries .entry)) n a 0 (now (counts .exit)) ⌝ }
 {
     let mut p = look(head, a);
@@ -119,7 +122,11 @@ fn take_one(entries: &[u32], i: usize, counts: &mut [u32]) -> bool
 
 // All entries to an atom, of n.
 fn take(entries: &[u32], n: usize, a: usize, head: &[u32], next: &[u32], counts: &mut [u32]) -> bool
-    requires { ⌜ Sound (now entries) n (length (now counts)) × Linked (now entries) 2 n (now head) (now next) × (a < length (now head)) × (a < atomLimit) × CountedAfter (now entries) n a 0 (now counts) ⌝ }
+    requires { ⌜ Sound (now entries) n (length (now counts))
+        × Linked (now entries) 2 n (now head) (now next)
+        × (a < length (now head))
+        × (a < atomLimit)
+        × CountedAfter (now entries) n a 0 (now counts) ⌝ }
     ensures { λ r. ⌜ Judged r (now (entries .entry)) n (Taken (now (entries .entry)) n a 0 (now (counts .exit))) ⌝ }
 {
     let mut p = look(head, a);
@@ -146,7 +153,10 @@ fn left_of(entries: &[u32], i: usize, counts: &[u32]) -> u32
 
 // Whether nothing is left where the entries from an atom were put.
 fn is_level(entries: &[u32], n: usize, a: usize, head: &[u32], next: &[u32], counts: &[u32]) -> bool
-    requires { ⌜ Sound (now entries) n (length (now counts)) × Linked (now entries) 0 n (now head) (now next) × (a < length (now head)) × Taken (now entries) n a 0 (now counts) ⌝ }
+    requires { ⌜ Sound (now entries) n (length (now counts))
+        × Linked (now entries) 0 n (now head) (now next)
+        × (a < length (now head))
+        × Taken (now entries) n a 0 (now counts) ⌝ }
     ensures { λ r. ⌜ Judged r (now (entries .entry)) n (NoneCounted (now (counts .entry))) ⌝ }
 {
     let mut p = look(head, a);
@@ -173,7 +183,8 @@ fn is_level_at(
     counts: &mut [u32],
 ) -> bool
     requires { ⌜ ChainsReady (now entries) n atoms (now first) (now before) (now last) (now after) (now counts) × (a < atoms) ⌝ }
-    ensures { λ r. ⌜ Judged r (now (entries .entry)) n (NoneCounted (now (counts .exit)) × BondsMatch (now (entries .entry)) n a (length (now (counts .exit)))) ⌝ }
+    ensures { λ r. ⌜ Judged r (now (entries .entry)) n
+        (NoneCounted (now (counts .exit)) × BondsMatch (now (entries .entry)) n a (length (now (counts .exit)))) ⌝ }
 {
     put(entries, n, a, first, before, counts);
     if !take(entries, n, a, last, after, counts) {

@@ -120,7 +120,8 @@ fn answer(out: &mut [u8], before: Writer, r: Wrote) -> Said
 
 // A first atom of a component.
 pub fn root(out: &mut [u8], starts: &mut [u32], w: Writer, k: AtomKind) -> Said
-    ensures { λ r. ⌜ eventLeaves r (now (out .exit)) (now (starts .exit)) ≡ eventD (inRange k) (spoken w (now (out .entry)) (now (starts .entry))) (Event.Root k) ⌝ }
+    ensures { λ r. ⌜ eventLeaves r (now (out .exit)) (now (starts .exit))
+        ≡ eventD (inRange k) (spoken w (now (out .entry)) (now (starts .entry))) (Event.Root k) ⌝ }
 {
     if !in_range(k) {
         return Said::BadTable;
@@ -134,7 +135,8 @@ pub fn root(out: &mut [u8], starts: &mut [u32], w: Writer, k: AtomKind) -> Said
 
 // An atom bonded to the one before.
 pub fn extend(out: &mut [u8], starts: &mut [u32], w: Writer, b: BondKind, k: AtomKind) -> Said
-    ensures { λ r. ⌜ eventLeaves r (now (out .exit)) (now (starts .exit)) ≡ eventD (inRange k) (spoken w (now (out .entry)) (now (starts .entry))) (Event.Extend b k) ⌝ }
+    ensures { λ r. ⌜ eventLeaves r (now (out .exit)) (now (starts .exit))
+        ≡ eventD (inRange k) (spoken w (now (out .entry)) (now (starts .entry))) (Event.Extend b k) ⌝ }
 {
     if !in_range(k) {
         return Said::BadTable;
@@ -148,7 +150,8 @@ pub fn extend(out: &mut [u8], starts: &mut [u32], w: Writer, b: BondKind, k: Ato
 
 // A ring number at the last piece.
 pub fn join(out: &mut [u8], starts: &mut [u32], w: Writer, b: BondKind, n: u32) -> Said
-    ensures { λ r. ⌜ eventLeaves r (now (out .exit)) (now (starts .exit)) ≡ eventD (ltb n ringNumberCount) (spoken w (now (out .entry)) (now (starts .entry))) (Event.Join b n) ⌝ }
+    ensures { λ r. ⌜ eventLeaves r (now (out .exit)) (now (starts .exit))
+        ≡ eventD (ltb n ringNumberCount) (spoken w (now (out .entry)) (now (starts .entry))) (Event.Join b n) ⌝ }
 {
     if RING_NUMBER_COUNT <= n as usize {
         return Said::BadTable;
@@ -162,7 +165,8 @@ pub fn join(out: &mut [u8], starts: &mut [u32], w: Writer, b: BondKind, n: u32) 
 
 // The last pieces, so many, put in brackets onto the piece before.
 pub fn pop(out: &mut [u8], starts: &mut [u32], w: Writer, d: usize) -> Said
-    ensures { λ r. ⌜ eventLeaves r (now (out .exit)) (now (starts .exit)) ≡ eventD true (spoken w (now (out .entry)) (now (starts .entry))) (Event.Pop d) ⌝ }
+    ensures { λ r. ⌜ eventLeaves r (now (out .exit)) (now (starts .exit))
+        ≡ eventD true (spoken w (now (out .entry)) (now (starts .entry))) (Event.Pop d) ⌝ }
 {
     if !is_writer(out, starts, w) {
         return Said::BadTable;

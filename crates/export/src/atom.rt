@@ -55,7 +55,8 @@ fn lay_kind(lent: &mut [u32], w: Pair)
 // The atom that a text begins with.
 #[no_mangle]
 pub extern "C" fn mavisdrok_read_atom(text: &[u8], kind: &mut [u32], report: &mut [u64])
-    ensures { λ _. ⌜ reading (now (kind .exit)) (now (report .exit)) ≡ readAtomX (reading (now (kind .entry)) (now (report .entry))) (now (text .entry)) ⌝ }
+    ensures { λ _. ⌜ reading (now (kind .exit)) (now (report .exit))
+        ≡ readAtomX (reading (now (kind .entry)) (now (report .entry))) (now (text .entry)) ⌝ }
 {
     if kind.len() < KIND_WORDS {
         clear(kind);
@@ -98,7 +99,8 @@ pub extern "C" fn mavisdrok_spell_bond(out: &mut [u8], bond: u32, report: &mut [
 // A ring number's text.
 #[no_mangle]
 pub extern "C" fn mavisdrok_spell_rnum(out: &mut [u8], number: u32, report: &mut [u64])
-    ensures { λ _. ⌜ spelling (now (out .exit)) (now (report .exit)) ≡ textReported (now (report .entry)) (rnumD number (length (now (out .entry)))) ⌝ }
+    ensures { λ _. ⌜ spelling (now (out .exit)) (now (report .exit))
+        ≡ textReported (now (report .entry)) (rnumD number (length (now (out .entry)))) ⌝ }
 {
     lay(report, of_spelt(desk_atom::spell_rnum(out, number)));
 }

@@ -48,8 +48,11 @@ pub extern "C" fn mavisdrok_builder_start(
     state: &mut [u64],
     report: &mut [u64],
 )
-    ensures { λ _. ⌜ cellsOfBuilder (now (atoms .entry)) (now (entries .entry)) (now (path .entry)) (now (rings .exit)) (now (state .exit)) (now (report .exit))
-        ≡ startX (cellsOfBuilder (now (atoms .entry)) (now (entries .entry)) (now (path .entry)) (now (rings .entry)) (now (state .entry)) (now (report .entry))) ⌝ }
+    ensures { λ _. ⌜ cellsOfBuilder (now (atoms .entry)) (now (entries .entry)) (now (path .entry)) (now (rings .exit))
+        (now (state .exit)) (now (report .exit))
+        ≡ startX
+        (cellsOfBuilder (now (atoms .entry)) (now (entries .entry)) (now (path .entry)) (now (rings .entry))
+        (now (state .entry)) (now (report .entry))) ⌝ }
 {
     if state.len() < BUILDER_WORDS {
         refuse(report);
@@ -70,8 +73,11 @@ pub extern "C" fn mavisdrok_builder_root(
     second: u32,
     report: &mut [u64],
 )
-    ensures { λ _. ⌜ cellsOfBuilder (now (atoms .exit)) (now (entries .entry)) (now (path .exit)) (now (rings .entry)) (now (state .exit)) (now (report .exit))
-        ≡ builderRootX (cellsOfBuilder (now (atoms .entry)) (now (entries .entry)) (now (path .entry)) (now (rings .entry)) (now (state .entry)) (now (report .entry))) first second ⌝ }
+    ensures { λ _. ⌜ cellsOfBuilder (now (atoms .exit)) (now (entries .entry)) (now (path .exit)) (now (rings .entry))
+        (now (state .exit)) (now (report .exit))
+        ≡ builderRootX
+        (cellsOfBuilder (now (atoms .entry)) (now (entries .entry)) (now (path .entry)) (now (rings .entry))
+        (now (state .entry)) (now (report .entry))) first second ⌝ }
 {
     let atom = kind(first, second);
     let Loaded::Held(k) = atom else {
@@ -103,8 +109,11 @@ pub extern "C" fn mavisdrok_builder_extend(
     second: u32,
     report: &mut [u64],
 )
-    ensures { λ _. ⌜ cellsOfBuilder (now (atoms .exit)) (now (entries .exit)) (now (path .exit)) (now (rings .entry)) (now (state .exit)) (now (report .exit))
-        ≡ builderExtendX (cellsOfBuilder (now (atoms .entry)) (now (entries .entry)) (now (path .entry)) (now (rings .entry)) (now (state .entry)) (now (report .entry))) bond first second ⌝ }
+    ensures { λ _. ⌜ cellsOfBuilder (now (atoms .exit)) (now (entries .exit)) (now (path .exit)) (now (rings .entry))
+        (now (state .exit)) (now (report .exit))
+        ≡ builderExtendX
+        (cellsOfBuilder (now (atoms .entry)) (now (entries .entry)) (now (path .entry)) (now (rings .entry))
+        (now (state .entry)) (now (report .entry))) bond first second ⌝ }
 {
     let atom = kind(first, second);
     let Loaded::Held(t) = atom else {
@@ -140,8 +149,11 @@ pub extern "C" fn mavisdrok_builder_join(
     number: u32,
     report: &mut [u64],
 )
-    ensures { λ _. ⌜ cellsOfBuilder (now (atoms .entry)) (now (entries .exit)) (now (path .entry)) (now (rings .exit)) (now (state .exit)) (now (report .exit))
-        ≡ builderJoinX (cellsOfBuilder (now (atoms .entry)) (now (entries .entry)) (now (path .entry)) (now (rings .entry)) (now (state .entry)) (now (report .entry))) bond number ⌝ }
+    ensures { λ _. ⌜ cellsOfBuilder (now (atoms .entry)) (now (entries .exit)) (now (path .entry)) (now (rings .exit))
+        (now (state .exit)) (now (report .exit))
+        ≡ builderJoinX
+        (cellsOfBuilder (now (atoms .entry)) (now (entries .entry)) (now (path .entry)) (now (rings .entry))
+        (now (state .entry)) (now (report .entry))) bond number ⌝ }
 {
     let coded = decode(bond);
     let Coded::Kind(k) = coded else {
@@ -171,8 +183,11 @@ pub extern "C" fn mavisdrok_builder_pop(
     n: usize,
     report: &mut [u64],
 )
-    ensures { λ _. ⌜ cellsOfBuilder (now (atoms .entry)) (now (entries .entry)) (now (path .entry)) (now (rings .entry)) (now (state .exit)) (now (report .exit))
-        ≡ builderPopX (cellsOfBuilder (now (atoms .entry)) (now (entries .entry)) (now (path .entry)) (now (rings .entry)) (now (state .entry)) (now (report .entry))) n ⌝ }
+    ensures { λ _. ⌜ cellsOfBuilder (now (atoms .entry)) (now (entries .entry)) (now (path .entry)) (now (rings .entry))
+        (now (state .exit)) (now (report .exit))
+        ≡ builderPopX
+        (cellsOfBuilder (now (atoms .entry)) (now (entries .entry)) (now (path .entry)) (now (rings .entry))
+        (now (state .entry)) (now (report .entry))) n ⌝ }
 {
     let held = builder_in(state);
     let AsBuilder::Is(b) = held else {
@@ -194,7 +209,9 @@ pub extern "C" fn mavisdrok_builder_build(
     report: &mut [u64],
 )
     ensures { λ _. ⌜ made (now (atoms .exit)) (now (bonds .exit)) (now (report .exit))
-        ≡ buildX (cellsOfBuilder (now (atoms .entry)) (now (entries .entry)) (now (path .entry)) (now (rings .entry)) (now (state .entry)) (now (report .entry))) (now (bonds .entry)) ⌝ }
+        ≡ buildX
+        (cellsOfBuilder (now (atoms .entry)) (now (entries .entry)) (now (path .entry)) (now (rings .entry))
+        (now (state .entry)) (now (report .entry))) (now (bonds .entry)) ⌝ }
 {
     let held = builder_in(state);
     let AsBuilder::Is(b) = held else {

@@ -61,7 +61,8 @@ pub extern "C" fn mavisdrok_order(
     report: &mut [u64],
 )
     ensures { λ _. ⌜ orderCells (now (walked .exit)) (now (number .exit)) (now (back .exit)) (now (report .exit))
-        ≡ orderX (length (now (walked .entry))) (length (now (number .entry))) (length (now (back .entry))) (now (atoms .entry)) n (now (bonds .entry)) m (now (report .entry)) ⌝ }
+        ≡ orderX (length (now (walked .entry))) (length (now (number .entry))) (length (now (back .entry))) (now (atoms .entry)) n
+        (now (bonds .entry)) m (now (report .entry)) ⌝ }
 {
     let answer = write::order::order(atoms, n, bonds, m, walked, number, back);
     lay(report, of_written(answer));

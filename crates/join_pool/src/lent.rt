@@ -35,7 +35,9 @@ fn hit_by_value(pairs: &mut [u32], p: Pool, a: u32, b: u32) -> PoolAnswer
 
 // A call for the pair of two atoms.
 pub fn hit(pool: &mut Pool, pairs: &mut [u32], a: u32, b: u32) -> Told
-    ensures { λ r. ⌜ (withAnswer (now (pool .exit)) r ≡ answerApart (now (pool .entry)) (hitOf (now (pool .entry)) (now (pairs .entry)) a b .answer)) × (now (pairs .exit) ≡ hitOf (now (pool .entry)) (now (pairs .entry)) a b .left) ⌝ }
+    ensures { λ r. ⌜ (withAnswer (now (pool .exit)) r
+        ≡ answerApart (now (pool .entry)) (hitOf (now (pool .entry)) (now (pairs .entry)) a b .answer))
+        × (now (pairs .exit) ≡ hitOf (now (pool .entry)) (now (pairs .entry)) a b .left) ⌝ }
 {
     let s = hit_by_value(pairs, *pool, a, b);
     *pool = s.pool;

@@ -118,7 +118,8 @@ fn read_within(
 ) -> Answer
     requires { ⌜ (length (now text) ≤ textLimit) × (now bonds ≡ replicate (length (now bonds)) 0) ⌝ }
     ensures { λ r. ⌜ said r (now (atoms .exit)) (now (bonds .exit))
-        ≡ within (now (text .entry)) (now (atoms .entry)) (length (now (bonds .entry))) (now (entries .entry)) (now (path .entry)) (now (rings .entry)) ⌝ }
+        ≡ within (now (text .entry)) (now (atoms .entry)) (length (now (bonds .entry))) (now (entries .entry)) (now (path .entry))
+        (now (rings .entry)) ⌝ }
 {
     let start = Builder::start(atom_room(atoms), bond_room(bonds));
     let came = read_line(
@@ -145,7 +146,8 @@ fn read_within(
 fn read_few(text: &[u8], atoms: &mut [u32], bonds: &mut [u32]) -> Answer
     requires { ⌜ Cleared (now text) (now atoms) (now bonds) × Few (length (now atoms)) (length (now bonds)) ⌝ }
     ensures { λ r. ⌜ said r (now (atoms .exit)) (now (bonds .exit))
-        ≡ wholeOrRefused (sketchOf (now (text .entry)) (length (now (atoms .entry))) (length (now (bonds .entry)))) (length (now (atoms .entry))) (length (now (bonds .entry))) ⌝ }
+        ≡ wholeOrRefused (sketchOf (now (text .entry)) (length (now (atoms .entry))) (length (now (bonds .entry))))
+        (length (now (atoms .entry))) (length (now (bonds .entry))) ⌝ }
 {
     let mut entries = [0u32; FEW_BONDS * ENTRY_WORDS];
     let mut path = [0u32; FEW_ATOMS];
@@ -157,7 +159,8 @@ fn read_few(text: &[u8], atoms: &mut [u32], bonds: &mut [u32]) -> Answer
 fn read_many(text: &[u8], atoms: &mut [u32], bonds: &mut [u32]) -> Answer
     requires { ⌜ Cleared (now text) (now atoms) (now bonds) ⌝ }
     ensures { λ r. ⌜ said r (now (atoms .exit)) (now (bonds .exit))
-        ≡ wholeOrRefused (sketchOf (now (text .entry)) (length (now (atoms .entry))) (length (now (bonds .entry)))) (length (now (atoms .entry))) (length (now (bonds .entry))) ⌝ }
+        ≡ wholeOrRefused (sketchOf (now (text .entry)) (length (now (atoms .entry))) (length (now (bonds .entry))))
+        (length (now (atoms .entry))) (length (now (bonds .entry))) ⌝ }
 {
     let mut entries = [0u32; BONDS * ENTRY_WORDS];
     let mut path = [0u32; ATOMS];

@@ -14,7 +14,7 @@ use Rattle.desk_numbers.specs.Numbers.{inversion, endOfLine, character, nesting
 use Rattle.read_token.specs.declared.scanner.Missing.{Missing}
 use Rattle.read_token.specs.declared.scanner.Missing.the-variants.{EndOfLine, Character}
 use Rattle.builder.specs.declared.builder.Builder.{Builder}
-use Rattle.builder.specs.State.{Bld, bld, state, refusedSt, rootOf, extendOf, joinOf, popOf}
+use Rattle.builder.specs.State.{Bld, bld, countsSt, refusedSt, rootOf, extendOf, joinOf, popOf}
 use Rattle.read_line.specs.declared.lead.Lead.{Lead}
 use Rattle.read_line.specs.declared.lead.Lead.the-variants.{Dot, Bond}
 
@@ -32,8 +32,7 @@ on b s = bld (b .atoms) (b .entries) (b .path) (b .rings) s
 
 -- one atom more, not stored
 abbrev pub countedSt : Builder → Builder
-countedSt s =
-    state (s .refusal) (s .carried) (s .places) (s .slots) (s .atoms + 1) (s .entries) (s .top) (s .joins) (s .failed) (s .closing) (s .opening)
+countedSt s = countsSt s (s .atoms + 1) (s .entries) (s .top) (s .joins)
 
 unfoldable pub markJudged : Builder → Inverted → Builder
 markJudged s Refused = refusedSt s inversion (s .atoms)

@@ -119,7 +119,8 @@ fn line_union(
     b: Builder,
 ) -> Reached
     requires { ⌜ ReadReady (now text) at b × (n ≤ at) ⌝ }
-    ensures { λ r. ⌜ UnionRead (now (text .entry)) at bond n (bld (now (atoms .entry)) (now (entries .entry)) (now (path .entry)) (now (rings .entry)) b)
+    ensures { λ r. ⌜ UnionRead (now (text .entry)) at bond n
+        (bld (now (atoms .entry)) (now (entries .entry)) (now (path .entry)) (now (rings .entry)) b)
         (bld (now (atoms .exit)) (now (entries .exit)) (now (path .exit)) (now (rings .exit)) (r .b)) (r .at) (r .n) ⌝ }
 {
     match first_atom(text, at) {
@@ -188,7 +189,8 @@ fn read_branch(
     b: Builder,
 ) -> Reached
     requires { ⌜ ReadReady (now text) at b × (peekAt (now text) at ≡ byte "(") ⌝ }
-    ensures { λ r. ⌜ BranchRead (now (text .entry)) at room (bld (now (atoms .entry)) (now (entries .entry)) (now (path .entry)) (now (rings .entry)) b)
+    ensures { λ r. ⌜ BranchRead (now (text .entry)) at room
+        (bld (now (atoms .entry)) (now (entries .entry)) (now (path .entry)) (now (rings .entry)) b)
         (bld (now (atoms .exit)) (now (entries .exit)) (now (path .exit)) (now (rings .exit)) (r .b)) (r .at) ⌝ }
 {
     if room == 0 {
@@ -237,7 +239,8 @@ fn line_rest(
     b: Builder,
 ) -> Reached
     requires { ⌜ ReadReady (now text) at b × (count ≤ at) ⌝ }
-    ensures { λ r. ⌜ RestRead (now (text .entry)) room (bld (now (atoms .entry)) (now (entries .entry)) (now (path .entry)) (now (rings .entry)) b) at count
+    ensures { λ r. ⌜ RestRead (now (text .entry)) room
+        (bld (now (atoms .entry)) (now (entries .entry)) (now (path .entry)) (now (rings .entry)) b) at count
         (bld (now (atoms .exit)) (now (entries .exit)) (now (path .exit)) (now (rings .exit)) (r .b)) (r .at) (r .n) ⌝ }
 {
     let mut state = b;
@@ -282,7 +285,8 @@ pub fn read_line(
     b: Builder,
 ) -> Reached
     requires { ⌜ ReadReady (now text) at b ⌝ }
-    ensures { λ r. ⌜ LineRead (now (text .entry)) at lead room (bld (now (atoms .entry)) (now (entries .entry)) (now (path .entry)) (now (rings .entry)) b)
+    ensures { λ r. ⌜ LineRead (now (text .entry)) at lead room
+        (bld (now (atoms .entry)) (now (entries .entry)) (now (path .entry)) (now (rings .entry)) b)
         (bld (now (atoms .exit)) (now (entries .exit)) (now (path .exit)) (now (rings .exit)) (r .b)) (r .at) (r .n) ⌝ }
 {
     let first = line_atom(text, at, lead, 0, atoms, entries, path, b);

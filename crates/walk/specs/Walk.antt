@@ -62,26 +62,34 @@ abbrev pub rootPassed : Walker → Walker
 rootPassed z =
     walker (z .next + 1) (z .standing) (z .here) (z .pend) (z .count) (z .pool) (z .refusal) (z .first) (z .second)
 
+-- another place: whether an atom stands and which, the atoms left since the last event, how many were met
+abbrev pub placedAt : Walker → Bool → ℕ → ℕ → ℕ → Walker
+placedAt z standing here pend count =
+    walker (z .next) standing here pend count (z .pool) (z .refusal) (z .first) (z .second)
+
+-- another pool, and so many atoms left since the last event
+abbrev pub poolPut : Walker → ℕ → Pool → Walker
+poolPut z pend pool =
+    walker (z .next) (z .standing) (z .here) pend (z .count) pool (z .refusal) (z .first) (z .second)
+
 -- the atom a met and standing, so all pops were said
 abbrev pub standingAt : Walker → ℕ → Walker
-standingAt z a = walker (z .next) true a 0 (z .count + 1) (z .pool) (z .refusal) (z .first) (z .second)
+standingAt z a = placedAt z true a 0 (z .count + 1)
 
 -- the atom that stands left for the one before, or for none
 abbrev pub backAt : Walker → ℕ → Walker
-backAt z a =
-    walker (z .next) true a (z .pend + 1) (z .count) (z .pool) (z .refusal) (z .first) (z .second)
+backAt z a = placedAt z true a (z .pend + 1) (z .count)
 
 abbrev pub atEnd : Walker → Walker
-atEnd z = walker (z .next) false (z .here) 0 (z .count) (z .pool) (z .refusal) (z .first) (z .second)
+atEnd z = placedAt z false (z .here) 0 (z .count)
 
 -- a ring number said, so all pops were
 abbrev pub ringSaid : Walker → Pool → Walker
-ringSaid z p = walker (z .next) (z .standing) (z .here) 0 (z .count) p (z .refusal) (z .first) (z .second)
+ringSaid z p = poolPut z 0 p
 
 -- with what its pool was told, and the pool after it
 abbrev pub numberedIn : Walker → PoolAnswer → Numbered
-numberedIn z k =
-    record { walker = walker (z .next) (z .standing) (z .here) (z .pend) (z .count) (k .pool) (z .refusal) (z .first) (z .second); told = k .told }
+numberedIn z k = record { walker = poolPut z (z .pend) (k .pool); told = k .told }
 
 abbrev pub withWalker : Walk → Walker → Walk
 withWalker w z = walk z (w .met) (w .walked) (w .back) (w .taken) (w .pairs)

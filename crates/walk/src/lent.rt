@@ -29,9 +29,17 @@ pub fn walk_in(
     out: &mut [u8],
 ) -> Turned
     requires { ⌜ turnsOf size entries < 1000000 ⌝ }
-    ensures { λ r. ⌜ (walk (r .walker) (now (met .exit)) (now (walked .exit)) (now (back .exit)) (now (taken .exit)) (now (pairs .exit)) ≡ walkTo (graph size (now (atoms .entry)) (now (bonds .entry)) (now (first .entry))) (turnsOf size entries) (walk startWalker (now (met .entry)) (now (walked .entry)) (now (back .entry)) (now (taken .entry)) (replicate (length (now (pairs .entry))) 0))) ×
-        (spoken (r .line) (now (out .exit)) (now (starts .exit)) ≡ sayAll (spoken (writer 0 0) (now (out .entry)) (now (starts .entry))) (eventsOf (graph size (now (atoms .entry)) (now (bonds .entry)) (now (first .entry))) (turnsOf size entries) (walk startWalker (now (met .entry)) (now (walked .entry)) (now (back .entry)) (now (taken .entry)) (replicate (length (now (pairs .entry))) 0)))) ×
-        (now (pool .exit) ≡ r .walker .pool) ⌝ }
+    ensures { λ r. ⌜ (walk (r .walker) (now (met .exit)) (now (walked .exit)) (now (back .exit)) (now (taken .exit))
+        (now (pairs .exit))
+        ≡ walkTo (graph size (now (atoms .entry)) (now (bonds .entry)) (now (first .entry))) (turnsOf size entries)
+        (walk startWalker (now (met .entry)) (now (walked .entry)) (now (back .entry)) (now (taken .entry))
+        (replicate (length (now (pairs .entry))) 0)))
+        × (spoken (r .line) (now (out .exit)) (now (starts .exit))
+        ≡ sayAll (spoken (writer 0 0) (now (out .entry)) (now (starts .entry)))
+        (eventsOf (graph size (now (atoms .entry)) (now (bonds .entry)) (now (first .entry))) (turnsOf size entries)
+        (walk startWalker (now (met .entry)) (now (walked .entry)) (now (back .entry)) (now (taken .entry))
+        (replicate (length (now (pairs .entry))) 0))))
+        × (now (pool .exit) ≡ r .walker .pool) ⌝ }
 {
     let empty = Pool::empty();
     *pool = empty;
@@ -69,8 +77,16 @@ pub fn walk(
     out: &mut [u8],
 ) -> Turned
     requires { ⌜ turnsOf size entries < 1000000 ⌝ }
-    ensures { λ r. ⌜ (walk (r .walker) (now (met .exit)) (now (walked .exit)) (now (back .exit)) (now (taken .exit)) (now (pairs .exit)) ≡ walkTo (graph size (now (atoms .entry)) (now (bonds .entry)) (now (first .entry))) (turnsOf size entries) (walk startWalker (now (met .entry)) (now (walked .entry)) (now (back .entry)) (now (taken .entry)) (replicate (length (now (pairs .entry))) 0))) ×
-        (spoken (r .line) (now (out .exit)) (now (starts .exit)) ≡ sayAll (spoken (writer 0 0) (now (out .entry)) (now (starts .entry))) (eventsOf (graph size (now (atoms .entry)) (now (bonds .entry)) (now (first .entry))) (turnsOf size entries) (walk startWalker (now (met .entry)) (now (walked .entry)) (now (back .entry)) (now (taken .entry)) (replicate (length (now (pairs .entry))) 0)))) ⌝ }
+    ensures { λ r. ⌜ (walk (r .walker) (now (met .exit)) (now (walked .exit)) (now (back .exit)) (now (taken .exit))
+        (now (pairs .exit))
+        ≡ walkTo (graph size (now (atoms .entry)) (now (bonds .entry)) (now (first .entry))) (turnsOf size entries)
+        (walk startWalker (now (met .entry)) (now (walked .entry)) (now (back .entry)) (now (taken .entry))
+        (replicate (length (now (pairs .entry))) 0)))
+        × (spoken (r .line) (now (out .exit)) (now (starts .exit))
+        ≡ sayAll (spoken (writer 0 0) (now (out .entry)) (now (starts .entry)))
+        (eventsOf (graph size (now (atoms .entry)) (now (bonds .entry)) (now (first .entry))) (turnsOf size entries)
+        (walk startWalker (now (met .entry)) (now (walked .entry)) (now (back .entry)) (now (taken .entry))
+        (replicate (length (now (pairs .entry))) 0)))) ⌝ }
 {
     let mut pool = Pool::empty();
     walk_in(

@@ -52,7 +52,10 @@ fn say_pops(out: &mut [u8], starts: &mut [u32], line: Writer, pend: usize) -> Wr
 // An atom met: its number in walk order, its place there, and its entry back.
 fn mark(met: &mut [u32], walked: &mut [u32], back: &mut [u32], z: Walker, a: u32, b: u32) -> Walker
     requires { ⌜ z .count < far ⌝ }
-    ensures { λ r. ⌜ (r ≡ standingAt z a) × (now (met .exit) ≡ set (now (met .entry)) a (z .count + 1)) × (now (walked .exit) ≡ set (now (walked .entry)) (z .count) a) × (now (back .exit) ≡ set (now (back .entry)) a b) ⌝ }
+    ensures { λ r. ⌜ (r ≡ standingAt z a)
+        × (now (met .exit) ≡ set (now (met .entry)) a (z .count + 1))
+        × (now (walked .exit) ≡ set (now (walked .entry)) (z .count) a)
+        × (now (back .exit) ≡ set (now (back .entry)) a b) ⌝ }
 {
     let count = z.count;
     poke(met, a as usize, count + 1);
@@ -74,7 +77,12 @@ fn try_root(
     line: Writer,
 ) -> Turned
     requires { ⌜ TurnNear z line ⌝ }
-    ensures { λ r. ⌜ ((bonds first taken pairs : List ℕ) → Did (rootTurn (graph size (now (atoms .entry)) bonds first) (walk z (now (met .entry)) (now (walked .entry)) (now (back .entry)) taken pairs)) (walk (r .walker) (now (met .exit)) (now (walked .exit)) (now (back .exit)) taken pairs) (spoken line (now (out .entry)) (now (starts .entry))) (spoken (r .line) (now (out .exit)) (now (starts .exit)))) ⌝ }
+    ensures { λ r. ⌜ ((bonds first taken pairs : List ℕ) →
+        Did
+        (rootTurn (graph size (now (atoms .entry)) bonds first)
+        (walk z (now (met .entry)) (now (walked .entry)) (now (back .entry)) taken pairs))
+        (walk (r .walker) (now (met .exit)) (now (walked .exit)) (now (back .exit)) taken pairs)
+        (spoken line (now (out .entry)) (now (starts .entry))) (spoken (r .line) (now (out .exit)) (now (starts .exit)))) ⌝ }
     ensures { λ r. ⌜ TurnGrows z (r .walker) line (r .line) ⌝ }
 {
     let a = z.next;
@@ -121,7 +129,10 @@ fn ring(
     t: u32,
 ) -> Turned
     requires { ⌜ TurnNear z line ⌝ }
-    ensures { λ r. ⌜ ((met walked back taken : List ℕ) → Did (ringTurn (walk z met walked back taken (now (pairs .entry))) k s t) (walk (r .walker) met walked back taken (now (pairs .exit))) (spoken line (now (out .entry)) (now (starts .entry))) (spoken (r .line) (now (out .exit)) (now (starts .exit)))) ⌝ }
+    ensures { λ r. ⌜ ((met walked back taken : List ℕ) →
+        Did (ringTurn (walk z met walked back taken (now (pairs .entry))) k s t)
+        (walk (r .walker) met walked back taken (now (pairs .exit))) (spoken line (now (out .entry)) (now (starts .entry)))
+        (spoken (r .line) (now (out .exit)) (now (starts .exit)))) ⌝ }
     ensures { λ r. ⌜ TurnGrows z (r .walker) line (r .line) ⌝ }
 {
     let g = z.number(pairs, s, t);
@@ -160,7 +171,12 @@ fn enter(
     t: u32,
 ) -> Turned
     requires { ⌜ TurnNear z line ⌝ }
-    ensures { λ r. ⌜ ((n : ℕ) (taken pairs : List ℕ) → Did (enterTurn (graph n (now (atoms .entry)) (now (bonds .entry)) (now (first .entry))) (walk z (now (met .entry)) (now (walked .entry)) (now (back .entry)) taken pairs) k s t) (walk (r .walker) (now (met .exit)) (now (walked .exit)) (now (back .exit)) taken pairs) (spoken line (now (out .entry)) (now (starts .entry))) (spoken (r .line) (now (out .exit)) (now (starts .exit)))) ⌝ }
+    ensures { λ r. ⌜ ((n : ℕ) (taken pairs : List ℕ) →
+        Did
+        (enterTurn (graph n (now (atoms .entry)) (now (bonds .entry)) (now (first .entry)))
+        (walk z (now (met .entry)) (now (walked .entry)) (now (back .entry)) taken pairs) k s t)
+        (walk (r .walker) (now (met .exit)) (now (walked .exit)) (now (back .exit)) taken pairs)
+        (spoken line (now (out .entry)) (now (starts .entry))) (spoken (r .line) (now (out .exit)) (now (starts .exit)))) ⌝ }
     ensures { λ r. ⌜ TurnGrows z (r .walker) line (r .line) ⌝ }
 {
     match find_way(atoms, bonds, first, k, s, t) {
@@ -199,7 +215,12 @@ fn take_bond(
     t: u32,
 ) -> Turned
     requires { ⌜ TurnNear z line ⌝ }
-    ensures { λ r. ⌜ ((taken : List ℕ) → Did (bondTurn (graph size (now (atoms .entry)) (now (bonds .entry)) (now (first .entry))) (walk z (now (met .entry)) (now (walked .entry)) (now (back .entry)) taken (now (pairs .entry))) s (entryTo k t)) (walk (r .walker) (now (met .exit)) (now (walked .exit)) (now (back .exit)) taken (now (pairs .exit))) (spoken line (now (out .entry)) (now (starts .entry))) (spoken (r .line) (now (out .exit)) (now (starts .exit)))) ⌝ }
+    ensures { λ r. ⌜ ((taken : List ℕ) →
+        Did
+        (bondTurn (graph size (now (atoms .entry)) (now (bonds .entry)) (now (first .entry)))
+        (walk z (now (met .entry)) (now (walked .entry)) (now (back .entry)) taken (now (pairs .entry))) s (entryTo k t))
+        (walk (r .walker) (now (met .exit)) (now (walked .exit)) (now (back .exit)) taken (now (pairs .exit)))
+        (spoken line (now (out .entry)) (now (starts .entry))) (spoken (r .line) (now (out .exit)) (now (starts .exit)))) ⌝ }
     ensures { λ r. ⌜ TurnGrows z (r .walker) line (r .line) ⌝ }
 {
     if size <= t as usize {
@@ -251,7 +272,12 @@ fn take_atom(
     line: Writer,
 ) -> Turned
     requires { ⌜ TurnNear z line ⌝ }
-    ensures { λ r. ⌜ Did (atomOf (graph size (now (atoms .entry)) (now (bonds .entry)) (now (first .entry))) (walk z (now (met .entry)) (now (walked .entry)) (now (back .entry)) (now (taken .entry)) (now (pairs .entry))) (z .here)) (walk (r .walker) (now (met .exit)) (now (walked .exit)) (now (back .exit)) (now (taken .exit)) (now (pairs .exit))) (spoken line (now (out .entry)) (now (starts .entry))) (spoken (r .line) (now (out .exit)) (now (starts .exit))) ⌝ }
+    ensures { λ r. ⌜ Did
+        (atomOf (graph size (now (atoms .entry)) (now (bonds .entry)) (now (first .entry)))
+        (walk z (now (met .entry)) (now (walked .entry)) (now (back .entry)) (now (taken .entry)) (now (pairs .entry)))
+        (z .here))
+        (walk (r .walker) (now (met .exit)) (now (walked .exit)) (now (back .exit)) (now (taken .exit)) (now (pairs .exit)))
+        (spoken line (now (out .entry)) (now (starts .entry))) (spoken (r .line) (now (out .exit)) (now (starts .exit))) ⌝ }
     ensures { λ r. ⌜ TurnGrows z (r .walker) line (r .line) ⌝ }
 {
     let a = z.here;
@@ -305,7 +331,11 @@ pub fn turn(
     line: Writer,
 ) -> Turned
     requires { ⌜ TurnNear z line ⌝ }
-    ensures { λ r. ⌜ Did (turnOf (graph size (now (atoms .entry)) (now (bonds .entry)) (now (first .entry))) (walk z (now (met .entry)) (now (walked .entry)) (now (back .entry)) (now (taken .entry)) (now (pairs .entry)))) (walk (r .walker) (now (met .exit)) (now (walked .exit)) (now (back .exit)) (now (taken .exit)) (now (pairs .exit))) (spoken line (now (out .entry)) (now (starts .entry))) (spoken (r .line) (now (out .exit)) (now (starts .exit))) ⌝ }
+    ensures { λ r. ⌜ Did
+        (turnOf (graph size (now (atoms .entry)) (now (bonds .entry)) (now (first .entry)))
+        (walk z (now (met .entry)) (now (walked .entry)) (now (back .entry)) (now (taken .entry)) (now (pairs .entry))))
+        (walk (r .walker) (now (met .exit)) (now (walked .exit)) (now (back .exit)) (now (taken .exit)) (now (pairs .exit)))
+        (spoken line (now (out .entry)) (now (starts .entry))) (spoken (r .line) (now (out .exit)) (now (starts .exit))) ⌝ }
     ensures { λ r. ⌜ TurnGrows z (r .walker) line (r .line) ⌝ }
 {
     if z.standing {

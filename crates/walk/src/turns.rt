@@ -29,8 +29,16 @@ pub fn walk(
     out: &mut [u8],
 ) -> Turned
     requires { ⌜ turnsOf size entries < 1000000 ⌝ }
-    ensures { λ r. ⌜ (walk (r .walker) (now (met .exit)) (now (walked .exit)) (now (back .exit)) (now (taken .exit)) (now (pairs .exit)) ≡ walkTo (graph size (now (atoms .entry)) (now (bonds .entry)) (now (first .entry))) (turnsOf size entries) (walk (freshWalker pool) (now (met .entry)) (now (walked .entry)) (now (back .entry)) (now (taken .entry)) (now (pairs .entry)))) ×
-        (spoken (r .line) (now (out .exit)) (now (starts .exit)) ≡ sayAll (spoken (writer 0 0) (now (out .entry)) (now (starts .entry))) (eventsOf (graph size (now (atoms .entry)) (now (bonds .entry)) (now (first .entry))) (turnsOf size entries) (walk (freshWalker pool) (now (met .entry)) (now (walked .entry)) (now (back .entry)) (now (taken .entry)) (now (pairs .entry))))) ⌝ }
+    ensures { λ r. ⌜ (walk (r .walker) (now (met .exit)) (now (walked .exit)) (now (back .exit)) (now (taken .exit))
+        (now (pairs .exit))
+        ≡ walkTo (graph size (now (atoms .entry)) (now (bonds .entry)) (now (first .entry))) (turnsOf size entries)
+        (walk (freshWalker pool) (now (met .entry)) (now (walked .entry)) (now (back .entry)) (now (taken .entry))
+        (now (pairs .entry))))
+        × (spoken (r .line) (now (out .exit)) (now (starts .exit))
+        ≡ sayAll (spoken (writer 0 0) (now (out .entry)) (now (starts .entry)))
+        (eventsOf (graph size (now (atoms .entry)) (now (bonds .entry)) (now (first .entry))) (turnsOf size entries)
+        (walk (freshWalker pool) (now (met .entry)) (now (walked .entry)) (now (back .entry)) (now (taken .entry))
+        (now (pairs .entry))))) ⌝ }
 {
     let mut z = Walker::start(pool);
     let mut line = Writer { pieces: 0, len: 0 };
@@ -78,8 +86,16 @@ pub fn walk_cleared(
     out: &mut [u8],
 ) -> Turned
     requires { ⌜ turnsOf size entries < 1000000 ⌝ }
-    ensures { λ r. ⌜ (walk (r .walker) (now (met .exit)) (now (walked .exit)) (now (back .exit)) (now (taken .exit)) (now (pairs .exit)) ≡ walkTo (graph size (now (atoms .entry)) (now (bonds .entry)) (now (first .entry))) (turnsOf size entries) (walk (freshWalker pool) (now (met .entry)) (now (walked .entry)) (now (back .entry)) (now (taken .entry)) (replicate (length (now (pairs .entry))) 0))) ×
-        (spoken (r .line) (now (out .exit)) (now (starts .exit)) ≡ sayAll (spoken (writer 0 0) (now (out .entry)) (now (starts .entry))) (eventsOf (graph size (now (atoms .entry)) (now (bonds .entry)) (now (first .entry))) (turnsOf size entries) (walk (freshWalker pool) (now (met .entry)) (now (walked .entry)) (now (back .entry)) (now (taken .entry)) (replicate (length (now (pairs .entry))) 0)))) ⌝ }
+    ensures { λ r. ⌜ (walk (r .walker) (now (met .exit)) (now (walked .exit)) (now (back .exit)) (now (taken .exit))
+        (now (pairs .exit))
+        ≡ walkTo (graph size (now (atoms .entry)) (now (bonds .entry)) (now (first .entry))) (turnsOf size entries)
+        (walk (freshWalker pool) (now (met .entry)) (now (walked .entry)) (now (back .entry)) (now (taken .entry))
+        (replicate (length (now (pairs .entry))) 0)))
+        × (spoken (r .line) (now (out .exit)) (now (starts .exit))
+        ≡ sayAll (spoken (writer 0 0) (now (out .entry)) (now (starts .entry)))
+        (eventsOf (graph size (now (atoms .entry)) (now (bonds .entry)) (now (first .entry))) (turnsOf size entries)
+        (walk (freshWalker pool) (now (met .entry)) (now (walked .entry)) (now (back .entry)) (now (taken .entry))
+        (replicate (length (now (pairs .entry))) 0)))) ⌝ }
 {
     clear(pairs);
     walk(

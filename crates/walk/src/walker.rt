@@ -102,7 +102,8 @@ impl Walker {
 
     // A ring number asked for: the pool is lent and changed in its own place.
     pub fn number(mut self, pairs: &mut [u32], s: u32, t: u32) -> Numbered
-        ensures { λ r. ⌜ (r ≡ numberedIn self (answerApart (self .pool) (hitOf (self .pool) (now (pairs .entry)) s t .answer))) × (now (pairs .exit) ≡ hitOf (self .pool) (now (pairs .entry)) s t .left) ⌝ }
+        ensures { λ r. ⌜ (r ≡ numberedIn self (answerApart (self .pool) (hitOf (self .pool) (now (pairs .entry)) s t .answer)))
+            × (now (pairs .exit) ≡ hitOf (self .pool) (now (pairs .entry)) s t .left) ⌝ }
     {
         let told = lent::hit(&mut self.pool, pairs, s, t);
         Numbered { walker: self, told }

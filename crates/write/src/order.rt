@@ -23,7 +23,9 @@ use walk::walker::Walker;
 
 // Zeros in all three tables.
 fn clear_order(walked: &mut [u32], number: &mut [u32], back: &mut [u32])
-    ensures { λ _. ⌜ (now (walked .exit) ≡ zeros (length (now (walked .entry)))) × (now (number .exit) ≡ zeros (length (now (number .entry)))) × (now (back .exit) ≡ zeros (length (now (back .entry)))) ⌝ }
+    ensures { λ _. ⌜ (now (walked .exit) ≡ zeros (length (now (walked .entry))))
+        × (now (number .exit) ≡ zeros (length (now (number .entry))))
+        × (now (back .exit) ≡ zeros (length (now (back .entry)))) ⌝ }
 {
     clear(walked);
     clear(number);
@@ -59,7 +61,8 @@ fn conclude(
     n: usize,
     z: Walker,
 ) -> Written
-    ensures { λ r. ⌜ made.order r (now (walked .exit)) (now (number .exit)) (now (back .exit)) ≡ orderConcluded n z (now (walked .entry)) (now (number .entry)) (now (back .entry)) ⌝ }
+    ensures { λ r. ⌜ made.order r (now (walked .exit)) (now (number .exit)) (now (back .exit))
+        ≡ orderConcluded n z (now (walked .entry)) (now (number .entry)) (now (back .entry)) ⌝ }
 {
     if z.refusal != 0 {
         clear_order(walked, number, back);
@@ -78,8 +81,14 @@ fn order_graph(
     number: &mut [u32],
     back: &mut [u32],
 ) -> Written
-    requires { ⌜ (n ≤ atomLimit) × (m ≤ bondLimit) × (now walked ≡ zeros (length (now walked))) × (now number ≡ zeros (length (now number))) × (now back ≡ zeros (length (now back))) ⌝ }
-    ensures { λ r. ⌜ made.order r (now (walked .exit)) (now (number .exit)) (now (back .exit)) ≡ graphOrdered (length (now (walked .entry))) (length (now (number .entry))) (length (now (back .entry))) (now (atoms .entry)) n (now (bonds .entry)) m ⌝ }
+    requires { ⌜ (n ≤ atomLimit)
+        × (m ≤ bondLimit)
+        × (now walked ≡ zeros (length (now walked)))
+        × (now number ≡ zeros (length (now number)))
+        × (now back ≡ zeros (length (now back))) ⌝ }
+    ensures { λ r. ⌜ made.order r (now (walked .exit)) (now (number .exit)) (now (back .exit))
+        ≡ graphOrdered (length (now (walked .entry))) (length (now (number .entry))) (length (now (back .entry)))
+        (now (atoms .entry)) n (now (bonds .entry)) m ⌝ }
 {
     let mut first = [0u32; ATOMS];
     let mut taken = [0u32; ATOMS];
@@ -106,7 +115,10 @@ fn order_graph(
 
 // How many atoms there is room for.
 fn order_room(atoms: &[u32], walked: &[u32], number: &[u32], back: &[u32]) -> usize
-    ensures { λ r. ⌜ (r ≡ orderRoom (length (now (walked .entry))) (length (now (number .entry))) (length (now (back .entry))) (now (atoms .entry))) × (r ≤ atomLimit) ⌝ }
+    ensures { λ r. ⌜ (r
+        ≡ orderRoom (length (now (walked .entry))) (length (now (number .entry))) (length (now (back .entry)))
+        (now (atoms .entry)))
+        × (r ≤ atomLimit) ⌝ }
 {
     let a = lesser(atom_room(atoms), walked.len());
     let b = lesser(a, number.len());
@@ -126,7 +138,9 @@ pub fn order(
     back: &mut [u32],
 ) -> Written
     ensures { λ r. ⌜ orderInNumbers (made.order r (now (walked .exit)) (now (number .exit)) (now (back .exit)))
-        ≡ orderInNumbers (orderPlain (length (now (walked .entry))) (length (now (number .entry))) (length (now (back .entry))) (now (atoms .entry)) n (now (bonds .entry)) m) ⌝ }
+        ≡ orderInNumbers
+        (orderPlain (length (now (walked .entry))) (length (now (number .entry))) (length (now (back .entry)))
+        (now (atoms .entry)) n (now (bonds .entry)) m) ⌝ }
 {
     let room = order_room(atoms, walked, number, back);
     clear_order(walked, number, back);

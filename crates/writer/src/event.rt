@@ -52,7 +52,8 @@ fn dot_len(pieces: usize) -> usize
 
 pub fn root(out: &mut [u8], starts: &mut [u32], w: Writer, k: AtomKind) -> Wrote
     requires { ⌜ LineNear w ⌝ }
-    ensures { λ r. ⌜ toldWith r (now (out .exit)) (now (starts .exit)) ≡ eventOf (spoken w (now (out .entry)) (now (starts .entry))) (Event.Root k) ⌝ }
+    ensures { λ r. ⌜ toldWith r (now (out .exit)) (now (starts .exit))
+        ≡ eventOf (spoken w (now (out .entry)) (now (starts .entry))) (Event.Root k) ⌝ }
 {
     let pieces = w.pieces;
     if piece_room(starts) <= pieces {
@@ -67,7 +68,8 @@ pub fn root(out: &mut [u8], starts: &mut [u32], w: Writer, k: AtomKind) -> Wrote
 
 pub fn extend(out: &mut [u8], starts: &mut [u32], w: Writer, b: BondKind, k: AtomKind) -> Wrote
     requires { ⌜ LineNear w ⌝ }
-    ensures { λ r. ⌜ toldWith r (now (out .exit)) (now (starts .exit)) ≡ eventOf (spoken w (now (out .entry)) (now (starts .entry))) (Event.Extend b k) ⌝ }
+    ensures { λ r. ⌜ toldWith r (now (out .exit)) (now (starts .exit))
+        ≡ eventOf (spoken w (now (out .entry)) (now (starts .entry))) (Event.Extend b k) ⌝ }
 {
     let pieces = w.pieces;
     if piece_room(starts) <= pieces {
@@ -82,7 +84,8 @@ pub fn extend(out: &mut [u8], starts: &mut [u32], w: Writer, b: BondKind, k: Ato
 
 pub fn join(out: &mut [u8], starts: &mut [u32], w: Writer, b: BondKind, n: u32) -> Wrote
     requires { ⌜ LineNear w ⌝ }
-    ensures { λ r. ⌜ toldWith r (now (out .exit)) (now (starts .exit)) ≡ eventOf (spoken w (now (out .entry)) (now (starts .entry))) (Event.Join b n) ⌝ }
+    ensures { λ r. ⌜ toldWith r (now (out .exit)) (now (starts .exit))
+        ≡ eventOf (spoken w (now (out .entry)) (now (starts .entry))) (Event.Join b n) ⌝ }
 {
     if w.pieces == 0 {
         return Wrote::NoPiece;
