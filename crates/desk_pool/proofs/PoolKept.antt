@@ -2,7 +2,7 @@
 -- to 99. A pool that has handed out nothing is one. In what stands for a pool no pair is open under two numbers. Assumes nothing.
 use Prim.{⊥}
 use Prim.Native.Nat.{ℕ, zero, suc, _+_, _*_, _≤_, _<_}
-use mathlib.Core.Path.{_≡_, refl, sym, ap, _∙_}
+use mathlib.Core.Path.{_≡_, refl, sym, _∙_}
 use mathlib.Core.Bool.{Bool, true, false, false≢true}
 use mathlib.Core.List.{List}
 use native.Mathlib.Omega.{arith}
@@ -15,49 +15,18 @@ use Rattle.join_pool.specs.declared.Pool.{Pool}
 use Rattle.join_pool.specs.declared.Given.{Given}
 use Rattle.join_pool.specs.declared.Given.the-variants.{Number, Full}
 use Rattle.join_pool.specs.Pairs.{highest, slotWords, pool, emptyOf, opens, openNumber, slot, counterNext, counterOf, nextOf, Hits, hits, openOf, closeOf, openOrClose, hitPair, hitOf}
-use Rattle.join_pool.proofs.Slots.{slot-length, slot-beside, slot-open, slot-lower, slot-higher}
+use Rattle.join_pool.proofs.Slots.{slot-length, slot-beside, slot-open, slot-lower, slot-higher, words-of, found, finds, counter-on}
 use Rattle.desk_pool.specs.Slots.{top, isFree, isOpen, keptFree, isSlot, isFound, isPool}
 use Rattle.feature.specs.Every.{every}
 use Rattle.feature.proofs.Every.{every-at, every-all}
 use Rattle.feature.proofs.Cases.{by-test, both-first, both-second, both-pass}
 use Rattle.table.proofs.Zeros.{zero-at}
 
--- ---- the search for a pair
 -- no less and not the same
 differ : {n m : ℕ} → (n ≡ m → ⊥) → m ≤ n → m < n
 differ e h = lt-of-le-of-ne h (λ s. e (sym s))
 
--- the number that it finds is open for the pair
-found : (pairs : List ℕ) (lo hi n : ℕ) → (openNumber pairs lo hi n ≡ 0 → ⊥) → (openNumber pairs lo hi n ≤ n) × (opens pairs (openNumber pairs lo hi n) lo hi ≡ true)
-unfolding openNumber
-found pairs lo hi zero h = absurd (h refl)
-found pairs lo hi (suc n) h = go (opens pairs (suc n) lo hi) refl h (found pairs lo hi n) where
-  go : (q : Bool) → opens pairs (suc n) lo hi ≡ q → (pick q (suc n) (openNumber pairs lo hi n) ≡ 0 → ⊥) → ((openNumber pairs lo hi n ≡ 0 → ⊥) → (openNumber pairs lo hi n ≤ n) × (opens pairs (openNumber pairs lo hi n) lo hi ≡ true)) → (pick (opens pairs (suc n) lo hi) (suc n) (openNumber pairs lo hi n) ≤ suc n) × (opens pairs (pick (opens pairs (suc n) lo hi) (suc n) (openNumber pairs lo hi n)) lo hi ≡ true)
-  go true q k ih = rw q (omega arith, q)
-  go false q k ih = let i = ih k in rw q (omega (arith, i .0), i .1)
-
--- and it finds one where a number is open for the pair
-finds : (pairs : List ℕ) (lo hi c n : ℕ) → 0 < n → n ≤ c → opens pairs n lo hi ≡ true → openNumber pairs lo hi c ≡ 0 → ⊥
-unfolding openNumber
-finds pairs lo hi zero n z l o e = omega arith
-finds pairs lo hi (suc c) n z l o e = go (opens pairs (suc c) lo hi) refl (finds pairs lo hi c n z) e where
-  go : (q : Bool) → opens pairs (suc c) lo hi ≡ q → (n ≤ c → opens pairs n lo hi ≡ true → openNumber pairs lo hi c ≡ 0 → ⊥) → pick q (suc c) (openNumber pairs lo hi c) ≡ 0 → ⊥
-  go true q ih k = omega arith
-  go false q ih k =
-      let less = differ {n = suc c} {m = n} (λ s. false≢true (sym q ∙ ap (λ (i : ℕ). opens pairs i lo hi) s ∙ o)) l in
-      ih (omega arith) o k
-
 -- ---- the test of a pool as facts
--- the words of a number that is open for a pair
-words-of : (pairs : List ℕ) (n lo hi : ℕ) → opens pairs n lo hi ≡ true → (getD pairs (n * slotWords) 0 ≡ 1) × (getD pairs (n * slotWords + 1) 0 ≡ lo) × (getD pairs (n * slotWords + 2) 0 ≡ hi)
-unfolding opens
-words-of pairs n lo hi h =
-    let rest = both-second (eqb (getD pairs (n * slotWords) 0) 1) _ h in (
-      eqb-true _ _ (both-first (eqb (getD pairs (n * slotWords) 0) 1) _ h),
-      eqb-true _ _ (both-first (eqb (getD pairs (n * slotWords + 1) 0) lo) _ rest),
-      eqb-true _ _ (both-second (eqb (getD pairs (n * slotWords + 1) 0) lo) _ rest),
-    )
-
 -- such a number is not free
 marked : (pairs : List ℕ) (n lo hi : ℕ) → opens pairs n lo hi ≡ true → isFree pairs n ≡ false
 unfolding isFree
@@ -247,14 +216,6 @@ KeepsBy pairs left Full = left ≡ pairs
 
 abbrev pub Keeps : List ℕ → Hits → Type 0
 Keeps pairs h = KeepsBy pairs (h .left) (h .answer)
-
--- the counter goes no further than 100
-counter-on : (p : Pool) → p .counter ≤ top → (p .counter ≤ counterOf p) × (counterOf p ≤ top)
-unfolding counterOf counterNext
-counter-on p h =
-    by-test (λ (z : ℕ). (p .counter ≤ z) × (z ≤ top)) (eqb (p .spare) 0) {x = pick (ltb highest (p .counter)) (p .counter) (p .counter + 1)} {y = p .counter}
-    (λ e. by-test (λ (z : ℕ). (p .counter ≤ z) × (z ≤ top)) (ltb highest (p .counter)) {x = p .counter} {y = p .counter + 1} (λ f. (omega arith, h)) (λ f. let l = ltb-false highest (p .counter) f in (omega arith, omega arith)))
-    (λ e. (omega arith, h))
 
 -- the number that an opening takes was not open, and is below the counter afterwards
 next-on : (p : Pool) → p .spare < p .counter → nextOf p ≤ highest → (0 < nextOf p) × (nextOf p < counterOf p)

@@ -5,18 +5,18 @@ use mathlib.Core.Logic.{_≢_}
 use mathlib.Core.List.{List, [], _∷_}
 use mathlib.Core.Option.{none, some}
 use mathlib.Core.Bool.{true, false}
-use Prim.Native.Nat.{ℕ, zero, suc, _+_, _*_, _≤_, _<_}
+use Prim.Native.Nat.{ℕ, _+_, _*_, _≤_, _<_}
 use native.Mathlib.Omega.{arith}
 use lib.ListN.{length, getD, length-replicate}
-use lib.Dec.{ltb, eqb}
-use borrow.Author.Tests.{eq-eqb, ne-eqb, eqb-true, lt-ltb, le-ltb, ltb-true, ltb-false}
+use lib.Dec.{ltb}
+use borrow.Author.Tests.{eq-eqb, ne-eqb, lt-ltb, le-ltb, ltb-true, ltb-false}
 use Rattle.feature.specs.Pick.{pick}
-use Rattle.feature.proofs.Cases.{both-first, both-second, by-eq, clash}
+use Rattle.feature.proofs.Cases.{by-eq, clash, impossible}
 use Rattle.table.proofs.Zeros.{zero-at}
 use Rattle.join_pool.specs.declared.Pool.{Pool}
 use Rattle.join_pool.specs.declared.Given.the-variants.{Number}
 use Rattle.join_pool.specs.Pairs.{highest, slotWords, pool, opens, openNumber, slot, counterNext, counterOf, nextOf, hits, openOf, closeOf, openOrClose, hitPair, hitOf}
-use Rattle.join_pool.proofs.Slots.{slot-length, slot-beside, slot-open, slot-lower, slot-higher}
+use Rattle.join_pool.proofs.Slots.{slot-length, slot-beside, slot-open, slot-lower, slot-higher, words-of, found, finds, counter-on}
 use Rattle.trip_graph.specs.Opened.{sameNumber, Pair, ringPair, pairIs, look, del, numIn, Distinct, Opens, full, number, Serves}
 use Rattle.trip_graph.proofs.Lists.{same-eq, same-ne, eq-of-same, by-bool, or-true-left, or-elim}
 use Rattle.trip_graph.proofs.View.{some-inj, pair-a, pair-b}
@@ -80,28 +80,15 @@ slot-kept pairs n v lo hi x ne s =
 -- ---- the search
 module _ (pairs : List ℕ) (lo hi : ℕ) where
   search-none : (n : ℕ) → ((m : ℕ) → opens pairs m lo hi ≡ true → ⊥) → openNumber pairs lo hi n ≡ 0
-  unfolding openNumber
-  search-none zero h = refl
-  search-none (suc n) h = by-bool (opens pairs (suc n) lo hi) (λ q. absurd (h (suc n) q)) (λ q. rw q (search-none n h))
+  search-none n h = by-eq (openNumber pairs lo hi n) 0 (λ e. e) (λ z. absurd (h _ (found pairs lo hi n z .1)))
 
   search-is : (r n : ℕ) → 1 ≤ r → r ≤ n → opens pairs r lo hi ≡ true → ((m : ℕ) → opens pairs m lo hi ≡ true → m ≡ r) → openNumber pairs lo hi n ≡ r
-  unfolding openNumber
-  search-is r zero l h o u = absurd (omega arith)
-  search-is r (suc n) l h o u =
-      by-bool (opens pairs (suc n) lo hi) (λ q. rw q (u (suc n) q))
-      (λ q. rw q (search-is r n l (by-eq r (suc n) (λ e. clash o (rw e q)) (λ e. omega arith)) o u))
+  search-is r n l h o u = u _ (found pairs lo hi n (finds pairs lo hi n r l h o) .1)
 
 -- ---- the counter
-grown-range : (c : ℕ) → c ≤ 100 → (c ≤ counterNext c) × (counterNext c ≤ 100) × (c ≤ 99 → c < counterNext c)
+grown : (c : ℕ) → c ≤ highest → c < counterNext c
 unfolding counterNext
-grown-range c h =
-    by-bool (ltb highest c) (λ q. rw q (omega arith, h, λ z. absurd (omega (arith, ltb-true highest c q))))
-    (λ q. rw q (omega arith, omega (arith, ltb-false highest c q), λ z. omega arith))
-
-counter-range : (p : Pool) → p .counter ≤ 100 → (p .counter ≤ counterOf p) × (counterOf p ≤ 100)
-unfolding counterOf
-counter-range p h =
-    by-bool (eqb (p .spare) 0) (λ q. rw q (grown-range (p .counter) h .0, grown-range (p .counter) h .1)) (λ q. rw q (omega arith, h))
+grown c h = rw (le-ltb highest c h) (omega arith)
 
 module _ (p : Pool) (pairs : List ℕ) (P : List Pair) (H : Holds p pairs P) (g : Distinct P) where
   -- a number that the words show open is that of a member
@@ -113,12 +100,8 @@ module _ (p : Pool) (pairs : List ℕ) (P : List Pair) (H : Holds p pairs P) (g 
     higher : hiOf (it .from) (it .onto) ≡ hi
 
   opened : (n lo hi : ℕ) → opens pairs n lo hi ≡ true → Opened n lo hi
-  unfolding opens
   opened n lo hi h =
-      let a : getD pairs (n * slotWords) 0 ≡ 1 = eqb-true _ 1 (both-first _ _ h) in
-      let t = both-second (eqb (getD pairs (n * slotWords) 0) 1) _ h in
-      let b : getD pairs (n * slotWords + 1) 0 ≡ lo = eqb-true _ lo (both-first _ _ t) in
-      let c : getD pairs (n * slotWords + 2) 0 ≡ hi = eqb-true _ hi (both-second (eqb (getD pairs (n * slotWords + 1) 0) lo) _ t) in
+      let w = words-of pairs n lo hi h in
       by-bool (numIn n P)
       (λ q. let f = num-find P n q in
       let s = H .slots (f .0) (f .1) in
@@ -126,17 +109,17 @@ module _ (p : Pool) (pairs : List ℕ) (P : List Pair) (H : Holds p pairs P) (g 
         it = f .0;
         member = f .1;
         is = f .2;
-        lower = sym (s .lower) ∙ ap (λ (m : ℕ). getD pairs (m * slotWords + 1) 0) (f .2) ∙ b;
-        higher = sym (s .higher) ∙ ap (λ (m : ℕ). getD pairs (m * slotWords + 2) 0) (f .2) ∙ c;
+        lower = sym (s .lower) ∙ ap (λ (m : ℕ). getD pairs (m * slotWords + 1) 0) (f .2) ∙ w .1;
+        higher = sym (s .higher) ∙ ap (λ (m : ℕ). getD pairs (m * slotWords + 2) 0) (f .2) ∙ w .2;
       })
-      (λ q. let z : _≡_ {A = ℕ} 0 1 = sym (H .free n q) ∙ a in absurd (omega arith))
+      (λ q. impossible (sym (H .free n q) ∙ w .0))
 
   next-facts : (nextOf p ≤ 99 → nextOf p < counterOf p) × (1 ≤ nextOf p) × (numIn (nextOf p) P ≡ false)
   unfolding nextOf counterOf
   next-facts =
       by-eq (p .spare) 0
       (λ e. rw (eq-eqb (p .spare) 0 e) (
-        grown-range (p .counter) (H .high) .2,
+        grown (p .counter),
         H .low,
         by-bool (numIn (p .counter) P) (λ q. absurd (omega (arith, H .below (p .counter) q .1))) (λ q. q),
       ))
@@ -176,7 +159,7 @@ module _ (p : Pool) (pairs : List ℕ) (P : List Pair) (H : Holds p pairs P) (g 
       close-holds =
           let f = look-in P t s x l in
           let b = H .below (x .num) (in-num x P (f .member)) in
-          let c = counter-range p (H .high) in
+          let c = counter-on p (H .high) in
           let gone : numIn (x .num) (del t s P) ≡ false = num-gone P t s x g l in
           let hc : p .counter ≤ 100 = H .high in
           let hr : length pairs ≡ 300 = H .room in
@@ -211,7 +194,7 @@ module _ (p : Pool) (pairs : List ℕ) (P : List Pair) (H : Holds p pairs P) (g 
       open-holds : nextOf p ≤ 99 → (j : ℕ) → Holds (pool (counterOf p) 0) (slot pairs (nextOf p) 1 (loOf s t) (hiOf s t)) (ringPair s t (nextOf p) j ∷ P)
       unfolding numIn
       open-holds h j =
-          let c = counter-range p (H .high) in
+          let c = counter-on p (H .high) in
           let n : ℕ = nextOf p in
           let nf = next-facts in
           let hr : length pairs ≡ 300 = H .room in
