@@ -15,7 +15,7 @@ use Rattle.walk_entry.specs.Graph.{BondEntry, Graph, degreeAt}
 use Rattle.walk_laws.specs.Trek.{degrees}
 use Rattle.builder_meaning.specs.Sketch.{countOf}
 use Rattle.trip_graph.specs.Opened.{Pair}
-use Rattle.trip_graph.proofs.Lists.{memb, Nodup, nil, cons, same-eq, same-ne, or-true-left, memb-here, memb-there}
+use Rattle.trip_graph.proofs.Lists.{memb, Nodup, nil, cons, or-true-left, memb-here, memb-there}
 use Rattle.trip_graph.proofs.View.{view}
 
 -- ---- sums over a list with no atom twice
@@ -39,8 +39,8 @@ zap-none : (f : ℕ → ℕ) (n : ℕ) (l : List ℕ) → memb n l ≡ false →
 unfolding sumOver memb
 zap-none f n [] h = refl
 zap-none f n (x ∷ l) h =
-    by-eq n x (λ e. clash (or-true-left _ (same-eq e)) h)
-    (λ e. ap₂ (λ (a b : ℕ). a + b) (zap-other f n x (λ z. e (sym z))) (zap-none f n l (rw (same-ne n x e) at h)))
+    by-eq n x (λ e. clash (or-true-left _ (eq-eqb _ _ e)) h)
+    (λ e. ap₂ (λ (a b : ℕ). a + b) (zap-other f n x (λ z. e (sym z))) (zap-none f n l (rw (ne-eqb n x e) at h)))
 
 zap-most : (f : ℕ → ℕ) (n : ℕ) {l : List ℕ} → Nodup l → sumOver f l ≤ sumOver (zap f n) l + f n
 unfolding sumOver
@@ -92,7 +92,7 @@ zap-least f n [] h = clash h refl
 zap-least f n (x ∷ l) h =
     by-eq n x
     (λ e. let a : f n ≡ f x = ap f e in omega (arith, zap-here f n x (sym e), zap-below f n l))
-    (λ e. omega (arith, zap-other f n x (λ z. e (sym z)), zap-least f n l (rw (same-ne n x e) at h)))
+    (λ e. omega (arith, zap-other f n x (λ z. e (sym z)), zap-least f n l (rw (ne-eqb n x e) at h)))
 
 sum-least : (g : Graph) (n : ℕ) (f : ℕ → ℕ) (l : List ℕ) → ((v : ℕ) → v < n → memb v l ≡ true) → ((v : ℕ) → v < n → f v ≡ degreeAt g v) → degrees g n ≤ sumOver f l
 unfolding degrees

@@ -13,7 +13,7 @@ use Rattle.feature.proofs.Cases.{by-eq, clash}
 use Rattle.walk_entry.specs.Graph.{BondEntry, Graph, degreeAt, bondOf}
 use Rattle.trip_graph.specs.Renumber.{Backed, Simple}
 use Rattle.trip_graph.specs.Renumbered.{othersOf, parentEntry, doneOf}
-use Rattle.trip_graph.proofs.Lists.{same-refl, same-eq, same-ne, by-bool, or-true, or-true-left}
+use Rattle.trip_graph.proofs.Lists.{same-refl, by-bool, or-true, or-true-left}
 use Rattle.trip_graph.proofs.View.{hasT, kindT, NodupB, bnil, bcons}
 use Rattle.trip_graph.proofs.Opens.{hasT-app}
 
@@ -42,17 +42,17 @@ unfolding hasT kindT
 first x [] anil h = clash h refl
 first {Q = Q} x (e ∷ l) (acons q a) h =
     by-eq x (e .to)
-    (λ p. record { entry = e; fact = q; leads = sym p; kind = rw (same-eq p) })
-    (λ p. let f = first {Q = Q} x l a (rw (same-ne x (e .to) p) at h) in
-    record { entry = f .entry; fact = f .fact; leads = f .leads; kind = rw (same-ne x (e .to) p) (f .kind) })
+    (λ p. record { entry = e; fact = q; leads = sym p; kind = rw (eq-eqb _ _ p) })
+    (λ p. let f = first {Q = Q} x l a (rw (ne-eqb x (e .to) p) at h) in
+    record { entry = f .entry; fact = f .fact; leads = f .leads; kind = rw (ne-eqb x (e .to) p) (f .kind) })
 
 nodup-snoc : (l : List BondEntry) (e : BondEntry) → NodupB l → hasT (e .to) l ≡ false → NodupB (l ++ (e ∷ []))
 unfolding hasT
 nodup-snoc [] e bnil h = bcons refl bnil
 nodup-snoc (x ∷ l) e (bcons k n) h =
     by-eq (e .to) (x .to)
-    (λ q. clash (or-true-left _ (same-eq q)) h)
-    (λ q. bcons (hasT-app (x .to) l (e ∷ []) ∙ rw (k, same-ne (x .to) (e .to) (λ z. q (sym z)))) (nodup-snoc l e n (rw (same-ne (e .to) (x .to) q) at h)))
+    (λ q. clash (or-true-left _ (eq-eqb _ _ q)) h)
+    (λ q. bcons (hasT-app (x .to) l (e ∷ []) ∙ rw (k, ne-eqb (x .to) (e .to) (λ z. q (sym z)))) (nodup-snoc l e n (rw (ne-eqb (e .to) (x .to) q) at h)))
 
 has-last : (l : List BondEntry) (e : BondEntry) → hasT (e .to) (l ++ (e ∷ [])) ≡ true
 unfolding hasT

@@ -8,7 +8,7 @@ use Prim.Native.Nat.{ℕ, zero, suc, _+_, _≤_, _<_}
 use native.Mathlib.Omega.{arith}
 use lib.ListN.{length, drop, length-map}
 use lib.Dec.{ltb, leb, eqb}
-use borrow.Author.Tests.{eq-eqb, ne-eqb, le-ltb, lt-leb}
+use borrow.Author.Tests.{eq-eqb, ne-eqb, le-ltb, lt-leb, eqb-true}
 use Rattle.feature.specs.Pick.{pick}
 use Rattle.feature.specs.Kinds.{invertOf}
 use Rattle.feature.specs.Bonds.{codeOf, reverseOf, isDirectional, reconcileOf}
@@ -27,8 +27,8 @@ use Rattle.builder_meaning.proofs.Rows.{count-append, count-add, count-fill, up
 use Rattle.walk_entry.specs.Graph.{BondEntry, Graph, entryTo}
 use Rattle.walk.specs.Walk.{popsOf}
 use Rattle.walk_laws.specs.Trek.{degrees}
-use Rattle.trip_graph.specs.Opened.{sameNumber, Pair, ringPair, look, del, numIn, joinIn, Distinct}
-use Rattle.trip_graph.proofs.Lists.{memb, idx, Nodup, same-refl, eq-of-same, by-bool, or-true, or-true-left, or-elim, idx-app, idx-new, idx-lt}
+use Rattle.trip_graph.specs.Opened.{Pair, ringPair, look, del, numIn, joinIn, Distinct}
+use Rattle.trip_graph.proofs.Lists.{memb, idx, Nodup, same-refl, by-bool, or-true, or-true-left, or-elim, idx-app, idx-new, idx-lt}
 use Rattle.trip_graph.proofs.View.{hasT, kindT, NodupB, view, push, view-open, view-extend, view-close, close-kind, view-root}
 use Rattle.trip_graph.proofs.Opens.{heldOf, look-in, look-one, lookup-none, lookup-some, without-map, join-del-true, Froms, held-snoc}
 use Rattle.trip_text.specs.Steps.{retoldOne, retold}
@@ -94,7 +94,7 @@ reconcile-back Down = refl
 idxs-snoc : (o : List ℕ) (t : ℕ) (fr : List ℕ) → ((v : ℕ) → memb v fr ≡ true → memb v o ≡ true) → idxs (o ++ (t ∷ [])) fr ≡ idxs o fr
 unfolding idxs memb
 idxs-snoc o t [] h = refl
-idxs-snoc o t (x ∷ fr) h = ap₂ (λ (a : ℕ) (l : List ℕ). a ∷ l) (idx-app x o (t ∷ []) (h x (or-true-left _ (same-refl x)))) (idxs-snoc o t fr (λ v k. h v (or-true (sameNumber v x) k)))
+idxs-snoc o t (x ∷ fr) h = ap₂ (λ (a : ℕ) (l : List ℕ). a ∷ l) (idx-app x o (t ∷ []) (h x (or-true-left _ (same-refl x)))) (idxs-snoc o t fr (λ v k. h v (or-true (eqb v x) k)))
 
 drop-suc : (n : ℕ) (l : List ℕ) {x : ℕ} {m : List ℕ} → drop n l ≡ x ∷ m → drop (suc n) l ≡ m
 drop-suc zero l h = ap (drop 1) h
@@ -269,7 +269,7 @@ module _ (g : Graph) (κ : ℕ → AtomKind) (o : List ℕ) (d : ℕ → List Bo
           fine = B .fine;
           places = B .places;
           slots = B .slots;
-          joins = λ j h. or-elim (sameNumber j (b .joins)) (joinIn j P) h (λ q. let z = eq-of-same j (b .joins) q in omega arith) (λ q. omega (arith, B .joins j q));
+          joins = λ j h. or-elim (eqb j (b .joins)) (joinIn j P) h (λ q. let z = eqb-true j (b .joins) q in omega arith) (λ q. omega (arith, B .joins j q));
         })
 
     -- the number of an open pair

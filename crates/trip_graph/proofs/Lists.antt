@@ -1,43 +1,28 @@
 -- Lists of numbers: membership and first index by a Boolean test, no element twice, update in place.
+use borrow.Author.Tests.{ne-eqb, eq-eqb}
 use mathlib.Core.Path.{_≡_, refl, sym, ap, ap₂, _∙_}
 use mathlib.Core.Logic.{_≢_}
 use mathlib.Core.List.{List, [], _∷_, _++_, map}
 use mathlib.Core.Bool.{Bool, true, false, _&&_, _||_, or-false, or-assoc}
 use Prim.Native.Nat.{ℕ, zero, suc, _<_}
 use native.Mathlib.Omega.{arith}
-use lib.Dec.{eqb, eqb-refl, eqb→eq}
+use lib.Dec.{eqb}
 use lib.ListN.{length}
 use Rattle.feature.specs.Pick.{pick}
-use Rattle.feature.proofs.Cases.{by-eq, clash, true-of, false-of}
+use Rattle.feature.proofs.Cases.{by-eq, clash}
 use Rattle.builder_meaning.specs.Sketch.{Node, upd}
-use Rattle.trip_graph.specs.Opened.{sameNumber}
 
-pub same-refl : (a : ℕ) → sameNumber a a ≡ true
-unfolding sameNumber
-same-refl a = true-of (eqb a a) (eqb-refl a)
-
-pub same-eq : {a b : ℕ} → a ≡ b → sameNumber a b ≡ true
-same-eq {a} e = rw (← e) (same-refl a)
-
-pub same-ne : (a b : ℕ) → a ≢ b → sameNumber a b ≡ false
-unfolding sameNumber
-same-ne a b h = false-of (eqb a b) (λ t. h (eqb→eq a b t))
-
-pub eq-of-same : (a b : ℕ) → sameNumber a b ≡ true → a ≡ b
-unfolding sameNumber
-eq-of-same a b h = eqb→eq a b (rw h tt)
-
-pub ne-of-same : (a b : ℕ) → sameNumber a b ≡ false → a ≢ b
-ne-of-same a b h e = clash (same-eq e) h
+pub same-refl : (a : ℕ) → eqb a a ≡ true
+same-refl a = eq-eqb a a refl
 
 -- ---- membership, index, no element twice
 unfoldable pub memb : ℕ → List ℕ → Bool
 memb v [] = false
-memb v (x ∷ l) = sameNumber v x || memb v l
+memb v (x ∷ l) = eqb v x || memb v l
 
 unfoldable pub idx : ℕ → List ℕ → ℕ
 idx v [] = zero
-idx v (x ∷ l) = pick (sameNumber v x) zero (suc (idx v l))
+idx v (x ∷ l) = pick (eqb v x) zero (suc (idx v l))
 
 pub data Nodup : List ℕ → Type 0 where
   nil : Nodup []
@@ -47,25 +32,25 @@ pub idx-app : (v : ℕ) (l m : List ℕ) → memb v l ≡ true → idx v (l ++ m
 unfolding memb idx
 idx-app v [] m h = clash h refl
 idx-app v (x ∷ l) m h =
-    by-eq v x (λ e. rw (same-eq e) refl) (λ n. let k : memb v l ≡ true = rw (same-ne v x n) at h in rw (idx-app v l m k))
+    by-eq v x (λ e. rw (eq-eqb _ _ e) refl) (λ n. let k : memb v l ≡ true = rw (ne-eqb v x n) at h in rw (idx-app v l m k))
 
 pub idx-new : (v : ℕ) (l : List ℕ) → memb v l ≡ false → idx v (l ++ (v ∷ [])) ≡ length l
 unfolding memb idx
 idx-new v [] h = rw same-refl
 idx-new v (x ∷ l) h =
-    by-eq v x (λ e. clash (rw (same-eq e)) h) (λ n. let k : memb v l ≡ false = rw (same-ne v x n) at h in rw (same-ne v x n) (ap suc (idx-new v l k)))
+    by-eq v x (λ e. clash (rw (eq-eqb _ _ e)) h) (λ n. let k : memb v l ≡ false = rw (ne-eqb v x n) at h in rw (ne-eqb v x n) (ap suc (idx-new v l k)))
 
 pub memb-app : (v : ℕ) (l m : List ℕ) → memb v (l ++ m) ≡ memb v l || memb v m
 unfolding memb
 memb-app v [] m = refl
-memb-app v (x ∷ l) m = rw (memb-app v l m) (sym (or-assoc (sameNumber v x) (memb v l) (memb v m)))
+memb-app v (x ∷ l) m = rw (memb-app v l m) (sym (or-assoc (eqb v x) (memb v l) (memb v m)))
 
 pub nodup-snoc : {l : List ℕ} (v : ℕ) → Nodup l → memb v l ≡ false → Nodup (l ++ (v ∷ []))
 unfolding memb
 nodup-snoc v nil h = cons refl nil
 nodup-snoc v (cons {x} {l} k n) h =
-    by-eq v x (λ e. clash (rw (same-eq e)) h)
-    (λ d. cons (rw (memb-app x l (v ∷ []), k) (rw (same-ne x v (λ e. d (sym e))))) (nodup-snoc v n (rw (same-ne v x d) at h)))
+    by-eq v x (λ e. clash (rw (eq-eqb _ _ e)) h)
+    (λ d. cons (rw (memb-app x l (v ∷ []), k) (rw (ne-eqb x v (λ e. d (sym e))))) (nodup-snoc v n (rw (ne-eqb v x d) at h)))
 
 -- ---- update in place
 pub or-true : (a : Bool) {b : Bool} → b ≡ true → a || b ≡ true
@@ -78,7 +63,7 @@ or-true-left {a} b k = rw k
 pub map-same : {A : Type 0} (F G : ℕ → A) (l : List ℕ) → ((v : ℕ) → memb v l ≡ true → G v ≡ F v) → map G l ≡ map F l
 unfolding memb
 map-same F G [] h = refl
-map-same F G (x ∷ l) h = ap₂ (λ a b. a ∷ b) (h x (rw same-refl)) (map-same F G l (λ v k. h v (or-true (sameNumber v x) k)))
+map-same F G (x ∷ l) h = ap₂ (λ a b. a ∷ b) (h x (rw same-refl)) (map-same F G l (λ v k. h v (or-true (eqb v x) k)))
 
 -- a table listed in the order l, where the entry of s alone has changed, is the table updated at s's index
 pub map-upd : (F G : ℕ → Node) (f : Node → Node) (s : ℕ) (l : List ℕ) → Nodup l → memb s l ≡ true
@@ -87,8 +72,8 @@ unfolding memb idx upd
 map-upd F G f s [] n m hs ho = refl
 map-upd F G f s (x ∷ l) (cons k n) m hs ho =
     by-eq s x
-    (λ e. rw (same-eq e) (ap₂ (λ a b. a ∷ b) (rw (← e) hs) (map-same F G l (λ v q. ho v (λ w. clash q (rw (w, e) k)) (or-true (sameNumber v x) q)))))
-    (λ d. let z : memb s l ≡ true = rw (same-ne s x d) at m in rw (same-ne s x d) (ap₂ (λ a b. a ∷ b) (ho x (λ e. d (sym e)) (rw same-refl)) (map-upd F G f s l n z hs (λ v w q. ho v w (or-true (sameNumber v x) q)))))
+    (λ e. rw (eq-eqb _ _ e) (ap₂ (λ a b. a ∷ b) (rw (← e) hs) (map-same F G l (λ v q. ho v (λ w. clash q (rw (w, e) k)) (or-true (eqb v x) q)))))
+    (λ d. let z : memb s l ≡ true = rw (ne-eqb s x d) at m in rw (ne-eqb s x d) (ap₂ (λ a b. a ∷ b) (ho x (λ e. d (sym e)) (rw same-refl)) (map-upd F G f s l n z hs (λ v w q. ho v w (or-true (eqb v x) q)))))
 
 -- ---- small facts
 pub by-bool {ℓ} : {X : Type ℓ} (b : Bool) → (b ≡ true → X) → (b ≡ false → X) → X
@@ -114,7 +99,7 @@ memb-new t o = memb-app t o (t ∷ []) ∙ or-true (memb t o) (or-true-left fals
 
 pub memb-old : (x t : ℕ) (o : List ℕ) → x ≢ t → memb x (o ++ (t ∷ [])) ≡ memb x o
 unfolding memb
-memb-old x t o h = memb-app x o (t ∷ []) ∙ rw (same-ne x t h) (or-false (memb x o))
+memb-old x t o h = memb-app x o (t ∷ []) ∙ rw (ne-eqb x t h) (or-false (memb x o))
 
 -- a new element is not the one that was there
 pub ne-of-memb : {x t : ℕ} (o : List ℕ) → memb x o ≡ true → memb t o ≡ false → x ≢ t
@@ -125,19 +110,19 @@ not-new x t o h q = clash (memb-new t o) (rw q at h)
 
 pub memb-cons : (v x : ℕ) (l : List ℕ) → memb v (x ∷ l) ≡ true → v ≢ x → memb v l ≡ true
 unfolding memb
-memb-cons v x l h q = rw (same-ne v x q) at h
+memb-cons v x l h q = rw (ne-eqb v x q) at h
 
 pub memb-there : (v x : ℕ) (l : List ℕ) → memb v l ≡ true → memb v (x ∷ l) ≡ true
 unfolding memb
-memb-there v x l h = or-true (sameNumber v x) h
+memb-there v x l h = or-true (eqb v x) h
 
 pub memb-here : {v x : ℕ} (l : List ℕ) → v ≡ x → memb v (x ∷ l) ≡ true
 unfolding memb
-memb-here l q = or-true-left _ (same-eq q)
+memb-here l q = or-true-left _ (eq-eqb _ _ q)
 
 pub idx-lt : (v : ℕ) (l : List ℕ) → memb v l ≡ true → idx v l < length l
 unfolding memb idx
 idx-lt v [] h = clash h refl
 idx-lt v (x ∷ l) h =
-    by-eq v x (λ e. rw (same-eq e) (omega arith))
-    (λ n. let k : memb v l ≡ true = rw (same-ne v x n) at h in rw (same-ne v x n) (omega (arith, idx-lt v l k)))
+    by-eq v x (λ e. rw (eq-eqb _ _ e) (omega arith))
+    (λ n. let k : memb v l ≡ true = rw (ne-eqb v x n) at h in rw (ne-eqb v x n) (omega (arith, idx-lt v l k)))

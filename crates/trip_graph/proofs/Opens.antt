@@ -1,17 +1,18 @@
 -- The open pairs: what taking one out keeps, how the builder holds them, and that a pair is open where one of its two entries is
 -- behind the walk and the other is not.
+use lib.Dec.{eqb}
 use mathlib.Core.Path.{_≡_, refl, sym, ap, ap₂, _∙_, subst}
 use mathlib.Core.Logic.{_≢_}
 use mathlib.Core.List.{List, [], _∷_, _++_, map}
 use mathlib.Core.Option.{Option, none, some}
 use mathlib.Core.Bool.{Bool, true, false, not, _&&_, _||_, or-false, and-false, or-assoc}
 use Prim.Native.Nat.{ℕ}
-use borrow.Author.Tests.{eq-eqb, ne-eqb}
+use borrow.Author.Tests.{eq-eqb, ne-eqb, eqb-true}
 use Rattle.feature.proofs.Cases.{by-eq, clash}
 use Rattle.walk_entry.specs.Graph.{BondEntry}
 use Rattle.builder_meaning.specs.Sketch.{Held, held, lookup, ringFreed}
-use Rattle.trip_graph.specs.Opened.{sameNumber, Pair, ringPair, pairIs, look, del, numIn, joinIn, Distinct, dnil, dcons}
-use Rattle.trip_graph.proofs.Lists.{memb, idx, same-refl, same-eq, same-ne, eq-of-same, by-bool, and-left, idx-app, or-true, or-true-left, memb-left}
+use Rattle.trip_graph.specs.Opened.{Pair, ringPair, pairIs, look, del, numIn, joinIn, Distinct, dnil, dcons}
+use Rattle.trip_graph.proofs.Lists.{memb, idx, same-refl, by-bool, and-left, idx-app, or-true, or-true-left, memb-left}
 use Rattle.trip_graph.proofs.View.{hasT, push, push-same, push-other, look-skip, look-here, look-del, look-gone, look-del-from, pair-from, pair-this, pair-a, pair-b, none≢some, some-inj}
 
 -- ---- members
@@ -36,19 +37,19 @@ look-in (y ∷ P) a b x h =
 pub in-num : (x : Pair) (P : List Pair) → In x P → numIn (x .num) P ≡ true
 unfolding numIn
 in-num x P (here {P = Q}) = or-true-left _ (same-refl (x .num))
-in-num x P (there {y = y} {P = Q} i) = or-true (sameNumber (x .num) (y .num)) (in-num x Q i)
+in-num x P (there {y = y} {P = Q} i) = or-true (eqb (x .num) (y .num)) (in-num x Q i)
 
 pub in-join : (x : Pair) (P : List Pair) → In x P → joinIn (x .join) P ≡ true
 unfolding joinIn
 in-join x P (here {P = Q}) = or-true-left _ (same-refl (x .join))
-in-join x P (there {y = y} {P = Q} i) = or-true (sameNumber (x .join) (y .join)) (in-join x Q i)
+in-join x P (there {y = y} {P = Q} i) = or-true (eqb (x .join) (y .join)) (in-join x Q i)
 
 -- a number that is open is the number of a member
 pub num-find : (P : List Pair) (r : ℕ) → numIn r P ≡ true → (x : Pair) × In x P × (x .num ≡ r)
 unfolding numIn
 num-find [] r h = clash h refl
 num-find (y ∷ P) r h =
-    by-bool (sameNumber r (y .num)) (λ q. (y, here, sym (eq-of-same r (y .num) q)))
+    by-bool (eqb r (y .num)) (λ q. (y, here, sym (eqb-true r (y .num) q)))
     (λ q. let f = num-find P r (rw q at h) in (f .0, there (f .1), f .2))
 
 look-none-in : (P : List Pair) (a b : ℕ) (x : Pair) → look P a b ≡ none → In x P → pairIs a b x ≡ false
@@ -97,8 +98,8 @@ pub lookup-none : (o : List ℕ) (P : List Pair) (r : ℕ) → numIn r P ≡ fal
 unfolding numIn lookup heldOf
 lookup-none o [] r h = refl
 lookup-none o (x ∷ P) r h =
-    by-eq r (x .num) (λ q. clash (or-true-left _ (same-eq q)) h)
-    (λ q. rw (ne-eqb (x .num) r (λ z. q (sym z))) (lookup-none o P r (rw (same-ne r (x .num) q) at h)))
+    by-eq r (x .num) (λ q. clash (or-true-left _ (eq-eqb _ _ q)) h)
+    (λ q. rw (ne-eqb (x .num) r (λ z. q (sym z))) (lookup-none o P r (rw (ne-eqb r (x .num) q) at h)))
 
 pub lookup-some : (o : List ℕ) (P : List Pair) (a b : ℕ) (x : Pair) → Distinct P → look P a b ≡ some x → lookup (x .num) (map (heldOf o) P) ≡ some (heldOf o x)
 unfolding look lookup heldOf
@@ -119,8 +120,8 @@ without-none : (o : List ℕ) (P : List Pair) (r : ℕ) → numIn r P ≡ false 
 unfolding numIn ringFreed heldOf
 without-none o [] r h = refl
 without-none o (x ∷ P) r h =
-    by-eq r (x .num) (λ q. clash (or-true-left _ (same-eq q)) h)
-    (λ q. rw (ne-eqb (x .num) r (λ z. q (sym z))) (ap (λ (l : List Held). heldOf o x ∷ l) (without-none o P r (rw (same-ne r (x .num) q) at h))))
+    by-eq r (x .num) (λ q. clash (or-true-left _ (eq-eqb _ _ q)) h)
+    (λ q. rw (ne-eqb (x .num) r (λ z. q (sym z))) (ap (λ (l : List Held). heldOf o x ∷ l) (without-none o P r (rw (ne-eqb r (x .num) q) at h))))
 
 pub without-map : (o : List ℕ) (P : List Pair) (a b : ℕ) (x : Pair) → Distinct P → look P a b ≡ some x → ringFreed (x .num) (map (heldOf o) P) ≡ map (heldOf o) (del a b P)
 unfolding look ringFreed del heldOf
@@ -137,14 +138,14 @@ pub num-del : (P : List Pair) (a b r : ℕ) → numIn r P ≡ false → numIn r 
 unfolding numIn del
 num-del [] a b r h = refl
 num-del (x ∷ P) a b r h =
-    by-bool (sameNumber r (x .num)) (λ q. clash (or-true-left _ q) h)
+    by-bool (eqb r (x .num)) (λ q. clash (or-true-left _ q) h)
     (λ q. let m : numIn r P ≡ false = rw q at h in by-bool (pairIs a b x) (λ w. rw w (num-del P a b r m)) (λ w. rw (w, q) (num-del P a b r m)))
 
 pub join-del : (P : List Pair) (a b r : ℕ) → joinIn r P ≡ false → joinIn r (del a b P) ≡ false
 unfolding joinIn del
 join-del [] a b r h = refl
 join-del (x ∷ P) a b r h =
-    by-bool (sameNumber r (x .join)) (λ q. clash (or-true-left _ q) h)
+    by-bool (eqb r (x .join)) (λ q. clash (or-true-left _ q) h)
     (λ q. let m : joinIn r P ≡ false = rw q at h in by-bool (pairIs a b x) (λ w. rw w (join-del P a b r m)) (λ w. rw (w, q) (join-del P a b r m)))
 
 look-del-none : (P : List Pair) (a b c d : ℕ) → look P c d ≡ none → look (del a b P) c d ≡ none
@@ -169,7 +170,7 @@ num-gone (y ∷ P) a b x (dcons n u j g) h =
     by-bool (pairIs a b y)
     (λ q. rw q (num-del P a b (x .num) (rw (← ap (λ (v : Pair). v .num) (some-inj (rw q at h))) n)))
     (λ q. let m : look P a b ≡ some x = rw q at h in
-    rw (q, same-ne (x .num) (y .num) (λ w. clash (look-num P a b x m) (rw w n))) (num-gone P a b x g m))
+    rw (q, ne-eqb (x .num) (y .num) (λ w. clash (look-num P a b x m) (rw w n))) (num-gone P a b x g m))
 
 pub num-del-true : (P : List Pair) (a b r : ℕ) → numIn r (del a b P) ≡ true → numIn r P ≡ true
 num-del-true P a b r h = by-bool (numIn r P) (λ q. q) (λ q. clash h (num-del P a b r q))
@@ -252,11 +253,11 @@ both-ahead {d = d} K a b h l =
 pub hasT-app : (x : ℕ) (l m : List BondEntry) → hasT x (l ++ m) ≡ hasT x l || hasT x m
 unfolding hasT
 hasT-app x [] m = refl
-hasT-app x (e ∷ l) m = rw (hasT-app x l m) (sym (or-assoc (sameNumber x (e .to)) (hasT x l) (hasT x m)))
+hasT-app x (e ∷ l) m = rw (hasT-app x l m) (sym (or-assoc (eqb x (e .to)) (hasT x l) (hasT x m)))
 
-pub hasT-push : (s : ℕ) (e : BondEntry) (d : ℕ → List BondEntry) (x : ℕ) → hasT x (push s e d s) ≡ hasT x (d s) || sameNumber x (e .to)
+pub hasT-push : (s : ℕ) (e : BondEntry) (d : ℕ → List BondEntry) (x : ℕ) → hasT x (push s e d s) ≡ hasT x (d s) || eqb x (e .to)
 unfolding hasT
-hasT-push s e d x = rw (push-same s e d) (hasT-app x (d s) (e ∷ []) ∙ ap (λ (b : Bool). hasT x (d s) || b) (or-false (sameNumber x (e .to))))
+hasT-push s e d x = rw (push-same s e d) (hasT-app x (d s) (e ∷ []) ∙ ap (λ (b : Bool). hasT x (d s) || b) (or-false (eqb x (e .to))))
 
 module _ (s : ℕ) (e : BondEntry) (d : ℕ → List BondEntry) where
   pub push-has : hasT (e .to) (push s e d s) ≡ true
@@ -264,7 +265,7 @@ module _ (s : ℕ) (e : BondEntry) (d : ℕ → List BondEntry) where
 
   pub push-skip : (v x : ℕ) → (v ≡ s → x ≡ e .to → ⊥) → hasT x (push s e d v) ≡ hasT x (d v)
   push-skip v x h = by-eq v s
-      (λ q. rw q (hasT-push s e d x ∙ rw (same-ne x (e .to) (h q)) (or-false (hasT x (d s)))))
+      (λ q. rw q (hasT-push s e d x ∙ rw (ne-eqb x (e .to) (h q)) (or-false (hasT x (d s)))))
       (λ q. rw (push-other s e d v q))
 
 pair-no : (a b : ℕ) (x : Pair) → (a ≡ x .from → b ≡ x .onto → ⊥) → pairIs a b x ≡ false

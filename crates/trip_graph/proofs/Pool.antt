@@ -8,8 +8,8 @@ use mathlib.Core.Bool.{true, false}
 use Prim.Native.Nat.{ℕ, _+_, _*_, _≤_, _<_}
 use native.Mathlib.Omega.{arith}
 use lib.ListN.{length, getD, length-replicate}
-use lib.Dec.{ltb}
-use borrow.Author.Tests.{eq-eqb, ne-eqb, lt-ltb, le-ltb, ltb-true, ltb-false}
+use lib.Dec.{ltb, eqb}
+use borrow.Author.Tests.{eq-eqb, ne-eqb, lt-ltb, le-ltb, ltb-true, ltb-false, eqb-true}
 use Rattle.feature.specs.Pick.{pick}
 use Rattle.feature.proofs.Cases.{by-eq, clash, impossible}
 use Rattle.table.proofs.Zeros.{zero-at}
@@ -17,8 +17,8 @@ use Rattle.join_pool.specs.declared.Pool.{Pool}
 use Rattle.join_pool.specs.declared.Given.the-variants.{Number}
 use Rattle.join_pool.specs.Pairs.{highest, slotWords, pool, opens, openNumber, slot, counterNext, counterOf, nextOf, hits, openOf, closeOf, openOrClose, hitPair, hitOf}
 use Rattle.join_pool.proofs.Slots.{slot-length, slot-beside, slot-open, slot-lower, slot-higher, words-of, found, finds, counter-on}
-use Rattle.trip_graph.specs.Opened.{sameNumber, Pair, ringPair, pairIs, look, del, numIn, Distinct, Opens, full, number, Serves}
-use Rattle.trip_graph.proofs.Lists.{same-eq, same-ne, eq-of-same, by-bool, or-true-left, or-elim}
+use Rattle.trip_graph.specs.Opened.{Pair, ringPair, pairIs, look, del, numIn, Distinct, Opens, full, number, Serves}
+use Rattle.trip_graph.proofs.Lists.{by-bool, or-true-left, or-elim}
 use Rattle.trip_graph.proofs.View.{some-inj, pair-a, pair-b}
 use Rattle.trip_graph.proofs.Opens.{In, in-case, look-in, in-num, num-find, no-member, in-look, in-del, in-kept, num-gone, num-del-true}
 
@@ -213,11 +213,11 @@ module _ (p : Pool) (pairs : List ℕ) (P : List Pair) (H : Holds p pairs P) (g 
                 }))
                 (λ k. slot-kept pairs n 1 (loOf s t) (hiOf s t) y (λ z. clash (in-num y P k) (rw z (nf .2))) (H .slots y k));
             free = λ m k. by-eq m (nextOf p)
-                (λ e. clash (or-true-left _ (same-eq e)) k)
+                (λ e. clash (or-true-left _ (eq-eqb _ _ e)) k)
                 (λ e. slot-beside pairs n 1 (loOf s t) (hiOf s t) m (m * slotWords) e (omega arith) (omega arith)
-                ∙ H .free m (rw (same-ne m (nextOf p) e) at k));
-            below = λ m k. or-elim (sameNumber m (nextOf p)) (numIn m P) k
-                (λ q. let e : m ≡ nextOf p = eq-of-same m (nextOf p) q in (omega (arith, nf .1), omega arith))
+                ∙ H .free m (rw (ne-eqb m (nextOf p) e) at k));
+            below = λ m k. or-elim (eqb m (nextOf p)) (numIn m P) k
+                (λ q. let e : m ≡ nextOf p = eqb-true m (nextOf p) q in (omega (arith, nf .1), omega arith))
                 (λ q. let a = H .below m q in (a .0, omega (arith, c .0)));
             spare = λ z. absurd (z refl);
           }

@@ -1,5 +1,6 @@
 -- What holds of the walk's tables at every turn of a walk over a simple graph: the order of the atoms met, the entries behind the
 -- walk, and the way from the standing atom up to its root.
+use borrow.Author.Tests.{ne-eqb, eqb-true}
 use mathlib.Core.Path.{_≡_, refl, sym, ap, ap₂, _∙_, subst, fun-ext}
 use mathlib.Core.Logic.{_≢_}
 use mathlib.Core.List.{List, [], _∷_, _++_}
@@ -9,6 +10,7 @@ use native.Mathlib.Omega.{arith}
 use native.Mathlib.Numerals.{add-one}
 use lib.ListN.{length, getD, set, length-append, length-set}
 use lib.Seq.{getD-set-same, getD-set-other}
+use lib.Dec.{eqb}
 use Rattle.feature.specs.Pick.{pick}
 use Rattle.feature.specs.Bonds.{reverseOf}
 use Rattle.feature.specs.declared.atom_kind.AtomKind.{AtomKind}
@@ -18,11 +20,10 @@ use Rattle.walk_entry.specs.Graph.{BondEntry, Graph, kindAt, degreeAt, bondIn, 
 use Rattle.walk.specs.declared.walker.Walker.{Walker}
 use Rattle.walk.specs.Walk.{Walk, rootPassed, backAt, atEnd, ringSaid, withWalker, pooled, metAt, tookAt}
 use Rattle.walk_laws.proofs.Moves.{parentOf}
-use Rattle.trip_graph.specs.Opened.{sameNumber}
 use Rattle.trip_graph.specs.Renumber.{Backed, Simple}
 use Rattle.trip_graph.specs.Renumbered.{doneOf, firstAtoms}
 use Rattle.trip_graph.specs.Marks.{backKind}
-use Rattle.trip_graph.proofs.Lists.{memb, idx, Nodup, same-ne, eq-of-same, by-bool, or-elim, idx-app, idx-new, nodup-snoc, memb-left, memb-new, memb-old, ne-of-memb, not-new, memb-cons, memb-there, memb-here}
+use Rattle.trip_graph.proofs.Lists.{memb, idx, Nodup, by-bool, or-elim, idx-app, idx-new, nodup-snoc, memb-left, memb-new, memb-old, ne-of-memb, not-new, memb-cons, memb-there, memb-here}
 use Rattle.trip_graph.proofs.View.{hasT, push, push-same, push-other}
 use Rattle.trip_graph.proofs.Opens.{hasT-push}
 use Rattle.trip_graph.proofs.Entries.{done-step, done-pass, done-nothing, done-parent, done-fresh}
@@ -197,7 +198,7 @@ module _ {g : Graph} {w : Walk} {o fr : List ℕ} (S : Sta g w o fr) where
         seen = S .seen;
         backs = S .backs;
         takes = S .takes;
-        left = λ v m k. by-eq v (w .at .here) (λ q. rw q h) (λ q. S .left v m (rw (e, same-ne v (w .at .here) q)));
+        left = λ v m k. by-eq v (w .at .here) (λ q. rw q h) (λ q. S .left v m (rw (e, ne-eqb v (w .at .here) q)));
         held = λ v m. clash m refl;
         line = λ q. clash q refl;
         rest = λ q. refl;
@@ -219,7 +220,7 @@ module _ {g : Graph} {w : Walk} {o fr : List ℕ} (S : Sta g w o fr) where
         seen = S .seen;
         backs = S .backs;
         takes = S .takes;
-        left = λ v m k. by-eq v (w .at .here) (λ q. rw q h) (λ q. S .left v m (rw (A .is, same-ne v (w .at .here) q) k));
+        left = λ v m k. by-eq v (w .at .here) (λ q. rw q h) (λ q. S .left v m (rw (A .is, ne-eqb v (w .at .here) q) k));
         held = λ v m. S .held v (rw (A .is) (memb-there v (w .at .here) (A .rest) m));
         line = λ q. A .line;
         rest = λ q. clash refl q;
@@ -280,7 +281,7 @@ module _ {g : Graph} {w : Walk} {o fr : List ℕ} (S : Sta g w o fr) where
           let e : BondEntry = bondOf g s (getD (w .taken) s 0) in
           let d : ℕ → List BondEntry = doneIn g (w .back) (w .taken) in
           by-eq v s
-          (λ q. or-elim (hasT x (d s)) (sameNumber x (e .to)) (sym (hasT-push s e d x) ∙ (rw q at h)) (λ z. inc x (S .seen s x z)) (λ z. rw (eq-of-same x (e .to) z) mt))
+          (λ q. or-elim (hasT x (d s)) (eqb x (e .to)) (sym (hasT-push s e d x) ∙ (rw q at h)) (λ z. inc x (S .seen s x z)) (λ z. rw (eqb-true x (e .to) z) mt))
           (λ q. inc x (S .seen v x (rw (push-other s e d v q) at h)))
 
       pub sta-joins : (pairs : List ℕ) (p : Pool) → memb (bondOf g (w .at .here) (getD (w .taken) (w .at .here) 0) .to) o ≡ true
@@ -402,9 +403,9 @@ module _ {g : Graph} {w : Walk} {o fr : List ℕ} (S : Sta g w o fr)
         untaken = λ v m. untaken-next S rt r more v (sym (memb-old v t o (not-new v t o m)) ∙ m);
         seen = subst (λ (d : ℕ → List BondEntry). (v x : ℕ) → hasT x (d v) ≡ true → memb x (o ++ (t ∷ [])) ≡ true) (sym entered-done)
             (λ v x q. by-eq v t
-            (λ p. or-elim (hasT x (push s e d t)) (sameNumber x s) (sym (hasT-push t bb (push s e d) x) ∙ (rw p at q))
+            (λ p. or-elim (hasT x (push s e d t)) (eqb x s) (sym (hasT-push t bb (push s e d) x) ∙ (rw p at q))
             (λ y. seen-push S rt r more apart (o ++ (t ∷ [])) (λ x m. memb-left x t o m) (rw to (memb-new t o)) t x y)
-            (λ y. rw (eq-of-same x s y) (memb-left s t o (here-held S r))))
+            (λ y. rw (eqb-true x s y) (memb-left s t o (here-held S r))))
             (λ p. seen-push S rt r more apart (o ++ (t ∷ [])) (λ x m. memb-left x t o m) (rw to (memb-new t o)) v x (rw (push-other t bb (push s e d) v p) at q)));
         backs = backs-next S t rm rb ht mt few b (k .within);
         takes = takes-next S rt r more;

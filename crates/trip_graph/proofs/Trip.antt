@@ -1,4 +1,5 @@
 -- What a walk over a simple graph says, told to the builder, builds the graph renumbered in walk order.
+use borrow.Author.Tests.{ne-eqb, eq-eqb}
 use mathlib.Core.Path.{_≡_, refl, sym, ap, ap₂, _∙_, subst}
 use mathlib.Core.Logic.{_≢_}
 use mathlib.Core.List.{List, [], _∷_, _++_, map}
@@ -26,7 +27,7 @@ use Rattle.trip_graph.specs.Renumber.{Simple, Known, Backed, Numbering}
 use Rattle.trip_graph.specs.Steps.{Built}
 use Rattle.trip_graph.specs.Renumbered.{entriesOf, edgeOf, nodeOf, Numbers, byWalk, firstAtoms, renumbered}
 use Rattle.trip_graph.specs.Marks.{Tetrahedral, backKind}
-use Rattle.trip_graph.proofs.Lists.{memb, idx, Nodup, nil, cons, same-refl, same-eq, same-ne, map-same, idx-lt, memb-here, memb-there}
+use Rattle.trip_graph.proofs.Lists.{memb, idx, Nodup, nil, cons, same-refl, map-same, idx-lt, memb-here, memb-there}
 use Rattle.trip_graph.proofs.View.{hasT, tgt, encT, aim, view, enc-same, look-here, pair-this}
 use Rattle.trip_graph.proofs.Opens.{Pol, fnil, from-first, isSome, heldOf}
 use Rattle.trip_graph.proofs.Entries.{Behind, first, done-all, done-has, done-length, done-nothing, entries-length}
@@ -139,7 +140,7 @@ module _ (H : Pool → List ℕ → List Pair → Type 0) (Q : Serves H) (g : Gr
 at-idx : (x : ℕ) (o : List ℕ) → memb x o ≡ true → getD o (idx x o) 0 ≡ x
 unfolding memb idx
 at-idx x [] h = clash h refl
-at-idx x (y ∷ o) h = by-eq x y (λ e. rw (same-eq e) (sym e)) (λ e. rw (same-ne x y e) (at-idx x o (rw (same-ne x y e) at h)))
+at-idx x (y ∷ o) h = by-eq x y (λ e. rw (eq-eqb _ _ e) (sym e)) (λ e. rw (ne-eqb x y e) (at-idx x o (rw (ne-eqb x y e) at h)))
 
 at-memb : (o : List ℕ) (v : ℕ) → v < length o → memb (getD o v 0) o ≡ true
 at-memb [] v h = absurd (omega arith)
@@ -151,7 +152,7 @@ unfolding idx
 idx-at v nil h = absurd (omega arith)
 idx-at zero (cons {x = y} {l = o} k n) h = rw (same-refl y)
 idx-at (suc v) (cons {x = y} {l = o} k n) h =
-    rw (same-ne (getD o v 0) y (λ e. clash (at-memb o v (omega arith)) (rw e k))) (ap suc (idx-at v n (omega arith)))
+    rw (ne-eqb (getD o v 0) y (λ e. clash (at-memb o v (omega arith)) (rw e k))) (ap suc (idx-at v n (omega arith)))
 
 pub atoms-length : (atom : ℕ → ℕ) (n : ℕ) → length (firstAtoms atom n) ≡ n
 unfolding firstAtoms

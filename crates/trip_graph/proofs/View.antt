@@ -1,4 +1,5 @@
 -- What the builder holds, as a view of the walk's state, and the changes of the one as changes of the other.
+use borrow.Author.Tests.{ne-eqb, eqb-true, eq-eqb}
 use mathlib.Core.Path.{_≡_, refl, sym, ap, ap₂, _∙_}
 use mathlib.Core.Logic.{_≢_}
 use mathlib.Core.List.{List, [], _∷_, _++_, map, map-append}
@@ -6,6 +7,7 @@ use mathlib.Core.Option.{Option, none, some}
 use mathlib.Core.Bool.{Bool, true, false, _||_, and-false}
 use Prim.Native.Nat.{ℕ}
 use lib.ListN.{length}
+use lib.Dec.{eqb}
 use Rattle.feature.specs.Pick.{pick}
 use Rattle.feature.specs.Bonds.{reverseOf}
 use Rattle.feature.specs.declared.atom_kind.AtomKind.{AtomKind}
@@ -14,12 +16,12 @@ use Rattle.feature.specs.declared.bond_kind.BondKind.the-variants.{Elided}
 use Rattle.feature.proofs.Cases.{by-eq, clash, impossible}
 use Rattle.builder_meaning.specs.Sketch.{Target, To, Open, Edge, Node, edge, node, upd, edgesAt, addEdge, waits, openKind, fillEdges, fill}
 use Rattle.walk_entry.specs.Graph.{BondEntry, entryTo}
-use Rattle.trip_graph.specs.Opened.{sameNumber, Pair, ringPair, pairIs, look, del}
-use Rattle.trip_graph.proofs.Lists.{memb, idx, Nodup, same-refl, same-eq, same-ne, eq-of-same, by-bool, and-left, and-right, idx-app, idx-new, map-same, map-upd, or-true}
+use Rattle.trip_graph.specs.Opened.{Pair, ringPair, pairIs, look, del}
+use Rattle.trip_graph.proofs.Lists.{memb, idx, Nodup, same-refl, by-bool, and-left, and-right, idx-app, idx-new, map-same, map-upd, or-true}
 
 unfoldable pub hasT : ℕ → List BondEntry → Bool
 hasT x [] = false
-hasT x (e ∷ l) = sameNumber x (e .to) || hasT x l
+hasT x (e ∷ l) = eqb x (e .to) || hasT x l
 
 unfoldable pub tgt : Option Pair → ℕ → Target
 tgt none i = To i
@@ -37,14 +39,14 @@ view κ o P d v = node (κ v) (map (encT (aim o P v)) (d v))
 
 -- one entry more of s
 unfoldable pub push : ℕ → BondEntry → (ℕ → List BondEntry) → ℕ → List BondEntry
-push s e d v = pick (sameNumber v s) (d v ++ (e ∷ [])) (d v)
+push s e d v = pick (eqb v s) (d v ++ (e ∷ [])) (d v)
 
 -- ---- small laws
 pub enc-same : (τ σ : ℕ → Target) (l : List BondEntry) → ((x : ℕ) → hasT x l ≡ true → τ x ≡ σ x) → map (encT τ) l ≡ map (encT σ) l
 unfolding hasT encT
 enc-same τ σ [] h = refl
 enc-same τ σ (e ∷ l) h =
-    ap₂ (λ (a : Target) (b : List Edge). edge (e .kind) a ∷ b) (h (e .to) (rw same-refl)) (enc-same τ σ l (λ x k. h x (or-true (sameNumber x (e .to)) k)))
+    ap₂ (λ (a : Target) (b : List Edge). edge (e .kind) a ∷ b) (h (e .to) (rw same-refl)) (enc-same τ σ l (λ x k. h x (or-true (eqb x (e .to)) k)))
 
 pub push-same : (s : ℕ) (e : BondEntry) (d : ℕ → List BondEntry) → push s e d s ≡ d s ++ (e ∷ [])
 unfolding push
@@ -52,7 +54,7 @@ push-same s e d = rw same-refl
 
 pub push-other : (s : ℕ) (e : BondEntry) (d : ℕ → List BondEntry) (v : ℕ) → v ≢ s → push s e d v ≡ d v
 unfolding push
-push-other s e d v h = rw (same-ne v s h)
+push-other s e d v h = rw (ne-eqb v s h)
 
 -- an atom whose entries stay, and whose entries' aims stay, stays
 view-same : (κ κ′ : ℕ → AtomKind) (o o′ : List ℕ) (P P′ : List Pair) (d d′ : ℕ → List BondEntry) (v : ℕ) → κ′ v ≡ κ v → d′ v ≡ d v
@@ -71,15 +73,15 @@ view-add κ κ′ o o′ P P′ d d′ v e g kq q h k =
 
 pub pair-from : (a b : ℕ) (x : Pair) → a ≢ x .from → pairIs a b x ≡ false
 unfolding pairIs
-pair-from a b x h = rw (same-ne a (x .from) h)
+pair-from a b x h = rw (ne-eqb a (x .from) h)
 
 pub pair-onto : (a b : ℕ) (x : Pair) → b ≢ x .onto → pairIs a b x ≡ false
 unfolding pairIs
-pair-onto a b x h = rw (same-ne b (x .onto) h) (and-false (sameNumber a (x .from)))
+pair-onto a b x h = rw (ne-eqb b (x .onto) h) (and-false (eqb a (x .from)))
 
 pub pair-this : (a b : ℕ) (x : Pair) → a ≡ x .from → b ≡ x .onto → pairIs a b x ≡ true
 unfolding pairIs
-pair-this a b x p q = rw (same-eq p, same-eq q)
+pair-this a b x p q = rw (eq-eqb _ _ p, eq-eqb _ _ q)
 
 pub look-skip : (x : Pair) (P : List Pair) (a b : ℕ) → pairIs a b x ≡ false → look (x ∷ P) a b ≡ look P a b
 unfolding look
@@ -113,11 +115,11 @@ look-gone (z ∷ P) t s = by-bool (pairIs t s z) (λ q. rw q (look-gone P t s)) 
 
 pub pair-a : (a b : ℕ) (z : Pair) → pairIs a b z ≡ true → a ≡ z .from
 unfolding pairIs
-pair-a a b z h = eq-of-same a (z .from) (and-left _ _ h)
+pair-a a b z h = eqb-true a (z .from) (and-left _ _ h)
 
 pub pair-b : (a b : ℕ) (z : Pair) → pairIs a b z ≡ true → b ≡ z .onto
 unfolding pairIs
-pair-b a b z h = eq-of-same b (z .onto) (and-right (sameNumber a (z .from)) _ h)
+pair-b a b z h = eqb-true b (z .onto) (and-right (eqb a (z .from)) _ h)
 
 pub look-del-from : (P : List Pair) (t s a b : ℕ) → a ≢ t → look (del t s P) a b ≡ look P a b
 look-del-from P t s a b h = look-del P t s a b (λ z q. pair-from a b z (λ p. h (p ∙ sym (pair-a t s z q))))
@@ -132,7 +134,7 @@ pub data NodupB : List BondEntry → Type 0 where
 
 unfoldable pub kindT : ℕ → List BondEntry → BondKind
 kindT x [] = Elided
-kindT x (e ∷ l) = pick (sameNumber x (e .to)) (e .kind) (kindT x l)
+kindT x (e ∷ l) = pick (eqb x (e .to)) (e .kind) (kindT x l)
 
 edge-eq : {a b : BondKind} {t u : Target} → a ≡ b → t ≡ u → edge a t ≡ edge b u
 edge-eq p q = λ i. record { kind = p i; target = q i }
@@ -145,19 +147,19 @@ module _ (τ τ′ : ℕ → Target) (r : ℕ) (k : BondKind) (s i : ℕ) (here 
   fill-enc (e ∷ l) (bcons f n) h q = by-eq s (e .to)
       (λ p.
       let z : waits r (τ (e .to)) ≡ true = rw p at here in
-      let kq : e .kind ≡ k = rw (same-eq p) at q in
+      let kq : e .kind ≡ k = rw (eq-eqb _ _ p) at q in
       let g : τ′ (e .to) ≡ To i = rw p at set in
       rw z (ap₂ (λ (a : Edge) (b : List Edge). a ∷ b) (edge-eq (sym kq) (sym g))
       (enc-same τ τ′ l (λ x m. sym (keep x (λ w. clash (rw (w, p) at m) f))))))
       (λ p. rw (others (e .to) (λ w. p (sym w))) (ap₂ (λ (a : Edge) (b : List Edge). a ∷ b) (edge-eq refl (sym (keep (e .to) (λ w. p (sym w)))))
-      (fill-enc l n (rw (same-ne s (e .to) p) at h) (rw (same-ne s (e .to) p) at q))))
+      (fill-enc l n (rw (ne-eqb s (e .to) p) at h) (rw (ne-eqb s (e .to) p) at q))))
 
   kind-enc : (l : List BondEntry) → hasT s l ≡ true → openKind r (map (encT τ) l) ≡ kindT s l
   unfolding openKind encT hasT kindT
   kind-enc [] h = refl
   kind-enc (e ∷ l) h = by-eq s (e .to)
-      (λ p. rw (same-eq p) (let z : waits r (τ (e .to)) ≡ true = rw p at here in rw z))
-      (λ p. rw (same-ne s (e .to) p, others (e .to) (λ w. p (sym w))) (kind-enc l (rw (same-ne s (e .to) p) at h)))
+      (λ p. rw (eq-eqb _ _ p) (let z : waits r (τ (e .to)) ≡ true = rw p at here in rw z))
+      (λ p. rw (ne-eqb s (e .to) p, others (e .to) (λ w. p (sym w))) (kind-enc l (rw (ne-eqb s (e .to) p) at h)))
 
 -- ---- the three steps
 module _ (κ : ℕ → AtomKind) (o : List ℕ) (P : List Pair) (d : ℕ → List BondEntry) (s : ℕ) (e : BondEntry)
@@ -203,7 +205,7 @@ module _ (κ : ℕ → AtomKind) (o : List ℕ) (P : List Pair) (d : ℕ → Lis
 edges-map : (t : ℕ) (F : ℕ → Node) (o : List ℕ) → memb t o ≡ true → edgesAt (idx t o) (map F o) ≡ F t .edges
 unfolding edgesAt idx memb
 edges-map t F [] m = clash m refl
-edges-map t F (x ∷ o) m = by-eq t x (λ p. rw (same-eq p) (rw p refl)) (λ p. rw (same-ne t x p) (edges-map t F o (rw (same-ne t x p) at m)))
+edges-map t F (x ∷ o) m = by-eq t x (λ p. rw (eq-eqb _ _ p) (rw p refl)) (λ p. rw (ne-eqb t x p) (edges-map t F o (rw (ne-eqb t x p) at m)))
 
 pub none≢some : {a : Pair} → _≡_ {A = Option Pair} none (some a) → ⊥
 none≢some h = impossible cc
@@ -220,11 +222,11 @@ module _ (κ : ℕ → AtomKind) (o : List ℕ) (P : List Pair) (d : ℕ → Lis
   waits-one : (x : ℕ) (q : Option Pair) (i : ℕ) → look P (e .to) x ≡ q → waits (r .join) (tgt q i) ≡ true → x ≡ s
   unfolding waits tgt
   waits-one x none i l h = clash h refl
-  waits-one x (some a) i l h = one x a l (eq-of-same (a .join) (r .join) (unfold sameNumber in h))
+  waits-one x (some a) i l h = one x a l (eqb-true (a .join) (r .join) (unfold eqb in h))
 
   waits-here : waits (r .join) (aim o P (e .to) s) ≡ true
   unfolding aim tgt waits
-  waits-here = rw open-t (unfold sameNumber in same-refl (r .join))
+  waits-here = rw open-t (unfold eqb in same-refl (r .join))
 
   waits-others : (x : ℕ) → x ≢ s → waits (r .join) (aim o P (e .to) x) ≡ false
   unfolding aim

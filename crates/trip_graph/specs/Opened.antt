@@ -15,9 +15,6 @@ use Rattle.join_pool.specs.Pairs.{highest, hits, hitOf, emptyOf}
 use Rattle.writer.specs.Line.{Event, Root, Extend, Join, Pop}
 use Rattle.write.specs.Write.{pairWords}
 
-unfoldable pub sameNumber : ℕ → ℕ → Bool
-sameNumber a b = eqb a b
-
 -- a pair opened at one atom towards another: its number, and the join that opened it
 pub record Pair : Type 0 where
   pub from : ℕ
@@ -29,7 +26,7 @@ abbrev pub ringPair : ℕ → ℕ → ℕ → ℕ → Pair
 ringPair a b n j = record { from = a; onto = b; num = n; join = j }
 
 unfoldable pub pairIs : ℕ → ℕ → Pair → Bool
-pairIs a b x = sameNumber a (x .from) && sameNumber b (x .onto)
+pairIs a b x = eqb a (x .from) && eqb b (x .onto)
 
 -- the pair opened at a towards b
 unfoldable pub look : List Pair → ℕ → ℕ → Option Pair
@@ -44,11 +41,11 @@ del a b (x ∷ P) = pick (pairIs a b x) (del a b P) (x ∷ del a b P)
 -- whether a number is open, and whether a join waits
 unfoldable pub numIn : ℕ → List Pair → Bool
 numIn r [] = false
-numIn r (x ∷ P) = sameNumber r (x .num) || numIn r P
+numIn r (x ∷ P) = eqb r (x .num) || numIn r P
 
 unfoldable pub joinIn : ℕ → List Pair → Bool
 joinIn r [] = false
-joinIn r (x ∷ P) = sameNumber r (x .join) || joinIn r P
+joinIn r (x ∷ P) = eqb r (x .join) || joinIn r P
 
 -- numbers, pairs and joins are distinct
 pub data Distinct : List Pair → Type 0 where
