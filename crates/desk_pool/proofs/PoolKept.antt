@@ -1,7 +1,7 @@
 -- What stands for a pool still does after a call, so that what was handed out can be handed in again, and the number is from 1
 -- to 99. A pool that has handed out nothing is one. In what stands for a pool no pair is open under two numbers. Assumes nothing.
 use Prim.{⊥}
-use Prim.Native.Nat.{ℕ, zero, suc, _+_, _*_, _≤_, _<_}
+use Prim.Native.Nat.{ℕ, _+_, _*_, _≤_, _<_}
 use mathlib.Core.Path.{_≡_, refl, sym, _∙_}
 use mathlib.Core.Bool.{Bool, true, false, false≢true}
 use mathlib.Core.List.{List}
