@@ -1,5 +1,5 @@
 -- What holds of the walk's tables at every turn of a walk over a simple graph: the order of the atoms met, the entries behind the
--- walk, and the way from the standing atom up to its root.
+-- walk, and the way from the current atom up to its root.
 use borrow.Author.Tests.{ne-eqb, eqb-true}
 use mathlib.Core.Path.{_≡_, refl, sym, ap, ap₂, _∙_, subst, fun-ext}
 use mathlib.Core.Logic.{_≢_}
@@ -52,7 +52,7 @@ mark-out : (x : ℕ) (o : List ℕ) → memb x o ≡ false → mark x o ≡ 0
 unfolding mark
 mark-out x o h = rw h
 
--- ---- from the standing atom up to its root
+-- ---- from the current atom up to its root
 pub data Line (g : Graph) (back : List ℕ) : ℕ → List ℕ → Type 0 where
   base : (a : ℕ) → getD back a 0 ≡ 0 → Line g back a (a ∷ [])
   up : (a : ℕ) (fr : List ℕ) → getD back a 0 ≢ 0 → Line g back (parentOf g back a) fr → Line g back a (a ∷ fr)
@@ -363,7 +363,7 @@ module _ {g : Graph} {w : Walk} {o fr : List ℕ} (S : Sta g w o fr) where
           rest = λ q. clash refl q;
         }
 
--- a new atom entered from the standing one, whose entry at hand is taken
+-- a new atom entered from the current one, whose entry at hand is taken
 module _ {g : Graph} {w : Walk} {o fr : List ℕ} (S : Sta g w o fr)
     (rt : w .at .here < length (w .taken)) (r : w .at .standing ≡ true) (more : getD (w .taken) (w .at .here) 0 < degreeAt g (w .at .here))
     (apart : getD (w .back) (w .at .here) 0 ≢ getD (w .taken) (w .at .here) 0 + 1)

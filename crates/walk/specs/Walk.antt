@@ -1,6 +1,6 @@
 -- The walk: roots in number order, bonds in table order, depth first.
 --
--- At a bond of the atom that stands: 5 if the target is none of the atoms, 6 if it is the source itself. If the target is
+-- At a bond of the current atom: 5 if the target is none of the atoms, 6 if it is the source itself. If the target is
 -- new, `Ways` says whether it can be entered: 10, 8, 7 and 9. If it was met before, a ring number is asked for and nothing is
 -- compared; 11 if there is none left. Atoms that were left since the last event are popped before the next one; those left at
 -- the end of a component never are.
@@ -26,7 +26,7 @@ use Rattle.walk.specs.declared.walker.Walker.{Walker}
 use Rattle.walk.specs.declared.walker.Numbered.{Numbered}
 
 -- ---- how far a walk has come
--- at: the next root to try, the atom that stands, the atoms left since the last event, how many were met, the pool's numbers
+-- at: the next root to try, the current atom, the atoms left since the last event, how many were met, the pool's numbers
 -- and a refusal. For each atom: its number in walk order plus 1, or 0; the place of its entry back, from 1; how many of its
 -- entries were taken. For each number in walk order: the atom. And the words of the pool.
 pub record Walk : Type 0 where
@@ -62,7 +62,7 @@ abbrev pub rootPassed : Walker → Walker
 rootPassed z =
     walker (z .next + 1) (z .standing) (z .here) (z .pend) (z .count) (z .pool) (z .refusal) (z .first) (z .second)
 
--- another place: whether an atom stands and which, the atoms left since the last event, how many were met
+-- another place: whether there is a current atom and which, the atoms left since the last event, how many were met
 abbrev pub placedAt : Walker → Bool → ℕ → ℕ → ℕ → Walker
 placedAt z standing here pend count =
     walker (z .next) standing here pend count (z .pool) (z .refusal) (z .first) (z .second)
@@ -72,11 +72,11 @@ abbrev pub poolPut : Walker → ℕ → Pool → Walker
 poolPut z pend pool =
     walker (z .next) (z .standing) (z .here) pend (z .count) pool (z .refusal) (z .first) (z .second)
 
--- the atom a met and standing, so all pops were said
+-- the atom a met and current, so all pops were said
 abbrev pub standingAt : Walker → ℕ → Walker
 standingAt z a = placedAt z true a 0 (z .count + 1)
 
--- the atom that stands left for the one before, or for none
+-- the current atom left for the one before, or for none
 abbrev pub backAt : Walker → ℕ → Walker
 backAt z a = placedAt z true a (z .pend + 1) (z .count)
 
@@ -140,7 +140,7 @@ rootTurn g w =
     (turn (metAt w (rootPassed (w .at)) (w .at .next) 0) (Root (saidAs (kindAt g (w .at .next)) 0) ∷ []))
     (quiet (withWalker w (rootPassed (w .at)))))
 
--- the atom a that stands has no entry left: back to the one that it was reached from
+-- the current atom a has no entry left: back to the one that it was reached from
 unfoldable pub leftIn : List ℕ → List ℕ → List ℕ → Walker → ℕ → Walker
 leftIn bonds first back z a =
     pick (eqb (getD back a 0) 0) (atEnd z) (backAt z (bondIn bonds first a (getD back a 0 - 1) .to))
@@ -179,7 +179,7 @@ unfoldable pub entryTurn : Graph → Walk → ℕ → ℕ → Turn
 entryTurn g w a i =
     pick (eqb (getD (w .back) a 0) (i + 1)) (quiet (tookAt w a i)) (bondTurn g (tookAt w a i) a (bondOf g a i))
 
--- the atom a that stands
+-- the current atom a
 unfoldable pub atomOf : Graph → Walk → ℕ → Turn
 atomOf g w a =
     pick (leb (degreeAt g a) (getD (w .taken) a 0)) (leaveOf g w a) (entryTurn g w a (getD (w .taken) a 0))
