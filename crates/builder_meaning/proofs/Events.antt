@@ -18,6 +18,7 @@ use Rattle.read_line.specs.declared.lead.Lead.{Lead}
 use Rattle.read_line.specs.declared.lead.Lead.the-variants.{Dot, Bond}
 use Rattle.read_line.specs.Events.{ReadEvent}
 use Rattle.read_line.specs.Parse.{Rest, ledAt, bodyAt, missP, foundP, atomP, ringP, unionBy, unionP, unitBy, unitP, lineP, closeP, branchP, bodies, endP, parse}
+use Rattle.read_line.proofs.Bodies.{by-body}
 use Rattle.builder_meaning.proofs.Run.{AllOk}
 
 -- what follows is such
@@ -78,10 +79,9 @@ bodies-ok : (f : ℕ) (s : List ℕ) (room at n : ℕ) (k : Rest) → OkRest k �
 unfolding bodies
 bodies-ok zero s room at n k ok = tt
 bodies-ok (suc f) s room at n k ok =
-    by-either AllOk (eqb (bodyAt s at) (byte "0")) (ok at n)
-    (by-either AllOk (eqb (bodyAt s at) (byte "1"))
+    by-body AllOk (bodyAt s at) (ok at n)
     (branch-ok (bodies f s) s (λ r a m j o. bodies-ok f s r a m j o) at room (λ at′. bodies f s room at′ n k) (λ at′. bodies-ok f s room at′ n k ok))
-    (unit-ok s (λ at′ n′. bodies f s room at′ n′ k) (λ at′ n′. bodies-ok f s room at′ n′ k ok) at n))
+    (unit-ok s (λ at′ n′. bodies f s room at′ n′ k) (λ at′ n′. bodies-ok f s room at′ n′ k ok) at n)
 
 end-ok : (s : List ℕ) → OkRest (endP s)
 unfolding endP

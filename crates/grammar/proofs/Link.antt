@@ -26,7 +26,10 @@ use Rattle.read_line.specs.declared.lead.Lead.{Lead}
 use Rattle.read_line.specs.declared.lead.Lead.the-variants as lead
 use Rattle.read_line.specs.declared.lead.Led.{Led}
 use Rattle.read_line.specs.Events.{ReadEvent, Enter, Join, Pop, Miss, Nest}
-use Rattle.read_line.specs.Parse.{Rest, ledAt, bodyOf, bodyAt, missP, foundP, atomP, ringP, unionBy, unionP, unitBy, unitP, lineP, closeP, branchP, bodies, endP, parse}
+use Rattle.read_line.specs.declared.lead.Body.{Body}
+use Rattle.read_line.specs.declared.lead.Body.the-variants as begun
+use Rattle.read_line.specs.Parse.{Rest, ledAt, bodyOf, bodyAt, byBody, missP, foundP, atomP, ringP, unionBy, unionP, unitBy, unitP, lineP, closeP, branchP, bodies, endP, parse}
+use Rattle.read_line.proofs.Bodies.{markOf, same-body}
 use Rattle.grammar.specs.Names.{has1}
 use Rattle.grammar.specs.Grammar.{Digit, d0, d1, d2, d3, d4, d5, d6, d7, d8, d9, value, digitS, BondSign, single, double, triple, quadruple, aromatic, up, down, bondS, bondK, bond?S, bond?K, organics, Atom, atomS, atomK, Rnum, ring1, ring2, rnumS, rnumK, Link, elided, bond, dot, linkS, linkK, Line, ring, branch, spell, enter, joinEvent, atoms, tells}
 use Rattle.grammar.proofs.Machine.{leads, on, digitOf, bondOf, Part, bare, whole, isotope, symbol, chiral1, chiral2, family, class, coded1, coded2, hcount, hcountN, signed, doubled, charge1, charge2, colon, map1, map2, map3, closed, begins, partStep, partEnd, Around, top, inside, Where, begin, after, around, put, State, want, inAtom, body, percent, percent1, fromPart, shut, bodyStep, wantStep, atomStep, step, topmost, atomEnd, ending}
@@ -175,17 +178,17 @@ union-found s at x n k (b ∷ bs) q m = by (partStep q b) (partEnd q) (λ r. uni
 
 -- ---- facts of bytes
 -- what a byte begins, in the machine's order
-unfoldable sort : ℕ → ℕ
+unfoldable sort : ℕ → Body
 sort b =
-    on (digitOf b) (λ d. byte "2") (pick (eqb b (byte "%")) (byte "2") (on (bondOf b) (λ x. byte "2") (pick (eqb b (byte ".")) (byte "2")
-    (pick (eqb b (byte "(")) (byte "1") (on (begins b) (λ q. byte "2") (byte "0"))))))
+    on (digitOf b) (λ d. begun.Unit) (pick (eqb b (byte "%")) begun.Unit (on (bondOf b) (λ x. begun.Unit) (pick (eqb b (byte ".")) begun.Unit
+    (pick (eqb b (byte "(")) begun.Branch (on (begins b) (λ q. begun.Unit) begun.Ends)))))
 
 sort-right : ℕ → Bool
-sort-right b = eqb (pick (ltb b 128) (bodyOf b) (byte "0")) (sort b)
+sort-right b = eqb (markOf (pick (ltb b 128) (bodyOf b) begun.Ends)) (markOf (sort b))
 
-sort-of : (b : ℕ) → b < 256 → pick (ltb b 128) (bodyOf b) (byte "0") ≡ sort b
+sort-of : (b : ℕ) → b < 256 → pick (ltb b 128) (bodyOf b) begun.Ends ≡ sort b
 unfolding sort-right sort digitOf bondOf begins leads organics bodyOf
-sort-of b h = eqb→eq _ _ (each sort-right tt b h)
+sort-of b h = same-body _ _ (eqb→eq _ _ (each sort-right tt b h))
 
 -- a digit is no bond, no dot, no bracket and begins no atom
 record Figure (b : ℕ) : Type 0 where
@@ -531,10 +534,10 @@ module _ (s : List ℕ) where
         ∙ union-atom a c elided none g m n b bs refl ih l e placeB q (subst (Grew [] b) r (begins-ok b))
 
     body-byte : toldLine a c ++ k n (atoms c) ≡ stepB (pick (eqb b (byte ")")) (shut a c) none)
-        → toldLine a c ++ pick (eqb (bodyAt s n) (byte "0")) (k n (atoms c)) (pick (eqb (bodyAt s n) (byte "1")) (branchP more s n room (λ at. g at (atoms c))) (unitP s n (atoms c) g)) ≡ full (body a c) n (b ∷ bs)
+        → toldLine a c ++ byBody (bodyAt s n) (k n (atoms c)) (branchP more s n room (λ at. g at (atoms c))) (unitP s n (atoms c) g) ≡ full (body a c) n (b ∷ bs)
     unfolding full step told bodyStep refusal late lacked sort
     body-byte last =
-        let P : ℕ → Option State → Type 0 = λ v o. toldLine a c ++ pick (eqb v (byte "0")) (k n (atoms c)) (pick (eqb v (byte "1")) (branchP more s n room (λ at. g at (atoms c))) (unitP s n (atoms c) g)) ≡ stepB o in
+        let P : Body → Option State → Type 0 = λ v o. toldLine a c ++ byBody v (k n (atoms c)) (branchP more s n room (λ at. g at (atoms c))) (unitP s n (atoms c) g) ≡ stepB o in
         let h : bodyAt s n ≡ sort b = unfold bodyAt in rw (here-byte e) (sort-of b (here-small e)) in
         rw h
         (guardOn2 P (digitOf b) _ _ _ _ (λ d z. unit-digit d z)

@@ -33,6 +33,7 @@ use Rattle.read_line.specs.declared.lead.Lead.{Lead}
 use Rattle.read_line.specs.declared.lead.Lead.the-variants.{Dot, Bond}
 use Rattle.read_line.specs.Events.{ReadEvent, on, Enter, Join, Pop, Miss, Nest, countedSt, markJudged, unstoredOf, ledOf, enterOf, ringOf, missingSt, step, run}
 use Rattle.read_line.specs.Parse.{Rest, oneOf, ledAt, bodyAt, missP, foundP, atomP, ringP, unionBy, unionP, unitBy, unitP, lineP, closeP, branchP, bodies, endP, parse}
+use Rattle.read_line.proofs.Bodies.{by-body}
 use Rattle.builder.specs.declared.build.Built.{Built}
 use Rattle.builder.specs.declared.build.Built.the-variants as built
 use Rattle.read.specs.declared.Answer.{Answer}
@@ -269,11 +270,10 @@ bodies-sound (suc g) s room at base n k some f =
     (λ at′ n′ some′. bodies-sound g s (room - 1) at′ (base + n) n′ _ some′
     (close-sound s (base + n) _ (omega arith) (λ at″. bodies-sound g s room at″ base n k some f))) in
     let flat : base + n + 0 ≡ base + n = omega arith in
-    by-either (λ (es : List ReadEvent). Sound (base + n) es) (eqb (bodyAt s at) (byte "0")) (f at n some)
-    (by-either (λ (es : List ReadEvent). Sound (base + n) es) (eqb (bodyAt s at) (byte "1"))
+    by-body (λ (es : List ReadEvent). Sound (base + n) es) (bodyAt s at) (f at n some)
     (by-either (λ (es : List ReadEvent). Sound (base + n) es) (eqb room 0) tt
     (subst (λ (d : ℕ). Sound d (lineP (bodies g s (room - 1)) s (ledAt s (at + 1) .next) (ledAt s (at + 1) .lead) (closeP s (λ at′. bodies g s room at′ n k)))) flat line))
-    (unit-sound s (ledAt s at .next) base n _ some (λ at′ n′ some′. bodies-sound g s room at′ base n′ k some′ f) (ledAt s at .lead)))
+    (unit-sound s (ledAt s at .next) base n _ some (λ at′ n′ some′. bodies-sound g s room at′ base n′ k some′ f) (ledAt s at .lead))
 
 end-sound : (s : List ℕ) → Follows 0 (endP s)
 unfolding endP Follows

@@ -1,4 +1,5 @@
 -- Laws that several proofs cite.
 
+pub mod Bodies
 pub mod Counts
 pub mod Turn

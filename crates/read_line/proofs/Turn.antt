@@ -21,12 +21,15 @@ use Rattle.read_token.proofs.Within.{byte-in, ring-in, bond-in, atom-in}
 use Rattle.builder.specs.declared.builder.Builder.{Builder}
 use Rattle.table.specs.Limits.{textLimit}
 use Rattle.builder.specs.State.{Bld, refusedSt, poppedSt, popOf}
+use Rattle.read_line.specs.declared.lead.Body.{Body}
+use Rattle.read_line.specs.declared.lead.Body.the-variants.{Ends, Branch, Unit}
 use Rattle.read_line.specs.declared.lead.Lead.{Lead}
 use Rattle.read_line.specs.declared.lead.Lead.the-variants.{Dot, Bond}
 use Rattle.read_line.specs.declared.lead.Led.{Led}
 use Rattle.read_line.specs.Events.{ReadEvent, Pop, Miss, Nest, on, enterOf, ringOf, missingSt, step, run}
 use Rattle.read_line.specs.Parse.{Rest, ledAt, oneOf, bodyOf, bodyAt, missP, foundP, atomP, ringP, unionBy, unionP, unitBy, unitP, lineP, closeP, branchP, bodies}
 use Rattle.read_line.specs.Steps.{reachedAt, reachedMissing, reachedClosed, Counted, ReadReady, Moved, AtomRead, RingRead, UnionRead, UnitRead, RestRead, LineRead, BranchRead}
+use Rattle.read_line.proofs.Bodies.{markOf}
 use Rattle.read_line.proofs.Counts.{counted-more, enter-at, ring-at, pop-at, refused-at, missing-at, missing-not}
 
 -- ---- running
@@ -255,33 +258,32 @@ module _ (s : List ℕ) (b : Bld) (at room : ℕ) (ready : ReadReady s at (b .st
       branch-closed = closed-split (eqb (peekAt s at₁) (byte ")")) refl
 
 -- ---- a line's turns
-
-open-split : (c : ℕ) (q : Bool) → eqb c (byte "(") ≡ q → pick q (byte "1") (pick (oneOf c (bytes ".-=#$:/\\ABCFINOPSTbcnops[*0123456789%")) (byte "2") (byte "0")) ≡ byte "1" → c ≡ byte "("
+open-split : (c : ℕ) (q : Bool) → eqb c (byte "(") ≡ q → pick q Branch (pick (oneOf c (bytes ".-=#$:/\\ABCFINOPSTbcnops[*0123456789%")) Unit Ends) ≡ Branch → c ≡ byte "("
 open-split c true e h = eqb-true _ _ e
 open-split c false e h = absurd (other (oneOf c (bytes ".-=#$:/\\ABCFINOPSTbcnops[*0123456789%")) h) where
-  other : (q : Bool) → pick q (byte "2") (byte "0") ≡ byte "1" → ⊥
-  other true h = omega arith
-  other false h = omega arith
+  other : (q : Bool) → pick q Unit Ends ≡ Branch → ⊥
+  other true h = let z : _≡_ {A = ℕ} 2 1 = ap markOf h in omega (arith, z)
+  other false h = let z : _≡_ {A = ℕ} 0 1 = ap markOf h in omega (arith, z)
 
-ascii-split : (c : ℕ) (q : Bool) → pick q (bodyOf c) (byte "0") ≡ byte "1" → bodyOf c ≡ byte "1"
+ascii-split : (c : ℕ) (q : Bool) → pick q (bodyOf c) Ends ≡ Branch → bodyOf c ≡ Branch
 ascii-split c true h = h
-ascii-split c false h = absurd (omega arith)
+ascii-split c false h = absurd (let z : _≡_ {A = ℕ} 0 1 = ap markOf h in omega (arith, z))
 
 -- a branch begins at "("
-pub body-open : (s : List ℕ) (at : ℕ) → bodyAt s at ≡ byte "1" → peekAt s at ≡ byte "("
+pub body-open : (s : List ℕ) (at : ℕ) → bodyAt s at ≡ Branch → peekAt s at ≡ byte "("
 unfolding bodyAt bodyOf
 body-open s at h =
     open-split (peekAt s at) (eqb (peekAt s at) (byte "(")) refl (ascii-split (peekAt s at) (ltb (peekAt s at) 128) h)
 
 -- no body begins at ")"
-body-closed : (s : List ℕ) (at : ℕ) → peekAt s at ≡ byte ")" → bodyAt s at ≡ byte "0"
+body-closed : (s : List ℕ) (at : ℕ) → peekAt s at ≡ byte ")" → bodyAt s at ≡ Ends
 unfolding bodyAt bodyOf
 body-closed s at e = simp e
 
-at-end : (s : List ℕ) (room i n : ℕ) → i ≤ length s → bodyAt s i ≡ byte "0" → (g : ℕ) (k : Rest) → length s < i + g → bodies g s room i n k ≡ k i n
+at-end : (s : List ℕ) (room i n : ℕ) → i ≤ length s → bodyAt s i ≡ Ends → (g : ℕ) (k : Rest) → length s < i + g → bodies g s room i n k ≡ k i n
 unfolding bodies
 at-end s room i n within e zero k big = absurd (omega (arith, within))
-at-end s room i n within e (suc g) k big = simp (eq-eqb _ _ e)
+at-end s room i n within e (suc g) k big = simp e
 
 -- at the head of the loop: what the events of the bodies from i₀ on make of the first state, those from i on make of this one
 pub record Turn (s : List ℕ) (room : ℕ) (b₀ : Bld) (i₀ n₀ : ℕ) (b : Bld) (i n : ℕ) : Type 0 where
@@ -327,8 +329,8 @@ module _ (s : List ℕ) (room : ℕ) (b₀ : Bld) (i₀ n₀ : ℕ) (ready₀ : 
   pub rest-first : n₀ ≤ i₀ → Turn s room b₀ i₀ n₀ b₀ i₀ n₀
   rest-first few = record { ready = ready₀; past = omega arith; count = few; same = λ f k big. (f, big, refl) }
 
-  module _ (b : Bld) (i n : ℕ) (turn : Turn s room b₀ i₀ n₀ b i n) (what : ℕ) (is-what : what ≡ bodyAt s i) where
-    pub rest-end : what ≡ byte "0" → RestRead s room b₀ i₀ n₀ b i n
+  module _ (b : Bld) (i n : ℕ) (turn : Turn s room b₀ i₀ n₀ b i n) (what : Body) (is-what : what ≡ bodyAt s i) where
+    pub rest-end : what ≡ Ends → RestRead s room b₀ i₀ n₀ b i n
     rest-end e =
         record {
           same = λ f k big. let t = turn .same f k big in t .2 ∙ ap (run b) (at-end s room i n (turn .ready .within) (sym is-what ∙ e) (t .0) k (t .1));
@@ -363,12 +365,12 @@ module _ (s : List ℕ) (room : ℕ) (b₀ : Bld) (i₀ n₀ : ℕ) (ready₀ : 
             counted = moved .counted;
           }
 
-    module _ (b′ : Bld) (i′ : ℕ) (e : what ≡ byte "1") (read : BranchRead s i room b b′ i′) where
+    module _ (b′ : Bld) (i′ : ℕ) (e : what ≡ Branch) (read : BranchRead s i room b b′ i′) where
       next-branch : Next b′ i′ n
       unfolding Next bodies
       next-branch zero k big = absurd (omega (arith, turn .ready .within))
       next-branch (suc g) k big =
-          let e₁ : bodyAt s i ≡ byte "1" = sym is-what ∙ e in
+          let e₁ : bodyAt s i ≡ Branch = sym is-what ∙ e in
           (g, (λ z. omega (arith, read .moved .on z)), simp e₁ (read .same g (λ at′. bodies g s room at′ n k) (omega arith)))
 
       pub after-branch : b′ .st .refusal ≡ 0 → Turn s room b₀ i₀ n₀ b′ i′ n
@@ -377,14 +379,14 @@ module _ (s : List ℕ) (room : ℕ) (b₀ : Bld) (i₀ n₀ : ℕ) (ready₀ : 
       pub stuck-branch : (m : ℕ) → (b′ .st .refusal ≡ 0 → ⊥) → RestRead s room b₀ i₀ n₀ b′ i′ m
       stuck-branch m nz = stuck-next b′ i′ n next-branch (read .moved) m nz
 
-    module _ (b′ : Bld) (i′ n′ : ℕ) (e₀ : what ≡ byte "0" → ⊥) (e₁ : what ≡ byte "1" → ⊥) (read : UnitRead s i n b b′ i′ n′) where
+    module _ (b′ : Bld) (i′ n′ : ℕ) (e : what ≡ Unit) (read : UnitRead s i n b b′ i′ n′) where
       next-unit : Next b′ i′ n′
       unfolding Next bodies
       next-unit zero k big = absurd (omega (arith, turn .ready .within))
       next-unit (suc g) k big = (
         g,
         (λ z. omega (arith, read .moved .on z)),
-        simp (ne-eqb _ _ (λ z. e₀ (is-what ∙ z)), ne-eqb _ _ (λ z. e₁ (is-what ∙ z))) (read .same (λ at′ n″. bodies g s room at′ n″ k)),
+        (let e₁ : bodyAt s i ≡ Unit = sym is-what ∙ e in simp e₁ (read .same (λ at′ n″. bodies g s room at′ n″ k))),
       )
 
       pub after-unit : b′ .st .refusal ≡ 0 → Turn s room b₀ i₀ n₀ b′ i′ n′

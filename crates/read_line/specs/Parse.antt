@@ -16,6 +16,8 @@ use Rattle.read_token.specs.declared.scanner.Missing.the-variants.{Character}
 use Rattle.read_token.specs.declared.read_rnum.Ring.{Ring}
 use Rattle.read_token.specs.declared.read_rnum.Ring.the-variants as ring
 use Rattle.table.specs.Limits.{branchLimit}
+use Rattle.read_line.specs.declared.lead.Body.{Body}
+use Rattle.read_line.specs.declared.lead.Body.the-variants.{Ends, Branch, Unit}
 use Rattle.read_line.specs.declared.lead.Lead.{Lead}
 use Rattle.read_line.specs.declared.lead.Lead.the-variants.{Dot, Bond}
 use Rattle.read_line.specs.declared.lead.Led.{Led}
@@ -32,14 +34,20 @@ oneOf c [] = false
 oneOf c (x ∷ xs) = pick (eqb c x) true (oneOf c xs)
 
 -- what a byte begins: a branch, a split or a union, or neither
-unfoldable pub bodyOf : ℕ → ℕ
+unfoldable pub bodyOf : ℕ → Body
 bodyOf c =
-    pick (eqb c (byte "(")) (byte "1")
-    (pick (oneOf c (bytes ".-=#$:/\\ABCFINOPSTbcnops[*0123456789%")) (byte "2")
-    (byte "0"))
+    pick (eqb c (byte "(")) Branch
+    (pick (oneOf c (bytes ".-=#$:/\\ABCFINOPSTbcnops[*0123456789%")) Unit
+    Ends)
 
-unfoldable pub bodyAt : List ℕ → ℕ → ℕ
-bodyAt s at = pick (ltb (peekAt s at) 128) (bodyOf (peekAt s at)) (byte "0")
+unfoldable pub bodyAt : List ℕ → ℕ → Body
+bodyAt s at = pick (ltb (peekAt s at) 128) (bodyOf (peekAt s at)) Ends
+
+-- what is said where nothing, a branch, a split or a union begins
+abbrev pub byBody : Body → List ReadEvent → List ReadEvent → List ReadEvent → List ReadEvent
+byBody Ends ends branch unit = ends
+byBody Branch ends branch unit = branch
+byBody Unit ends branch unit = unit
 
 -- what follows
 abbrev pub Rest : Type 0
@@ -98,9 +106,9 @@ branchP more s at room k =
 unfoldable pub bodies : ℕ → List ℕ → ℕ → ℕ → ℕ → Rest → List ReadEvent
 bodies zero s room at n k = []
 bodies (suc f) s room at n k =
-    pick (eqb (bodyAt s at) (byte "0")) (k at n)
-    (pick (eqb (bodyAt s at) (byte "1")) (branchP (bodies f s) s at room (λ at′. bodies f s room at′ n k))
-    (unitP s at n (λ at′ n′. bodies f s room at′ n′ k)))
+    byBody (bodyAt s at) (k at n)
+    (branchP (bodies f s) s at room (λ at′. bodies f s room at′ n k))
+    (unitP s at n (λ at′ n′. bodies f s room at′ n′ k))
 
 -- a whole text: a line, and no byte more
 unfoldable pub endP : List ℕ → Rest

@@ -35,61 +35,69 @@ pub fn read_lead(s: &[u8], at: usize) -> Led
     }
 }
 
-// What a byte begins: '1' a branch, '2' a split or a union, '0' neither. The arms of the match become a constant table; the
-// words of an array would be stored again at each call.
-fn begun(b: u8) -> u8
+// What a byte begins.
+pub enum Body {
+    // Nothing: the line ends before it.
+    Ends,
+    Branch,
+    // A split or a union.
+    Unit,
+}
+
+// The arms become a table that is not laid anew for each call, as an array's words would be.
+fn begun(b: u8) -> Body
     ensures { λ r. ⌜ r ≡ bodyOf b ⌝ }
 {
     match b {
-        b'(' => b'1',
-        b'.' => b'2',
-        b'-' => b'2',
-        b'=' => b'2',
-        b'#' => b'2',
-        b'$' => b'2',
-        b':' => b'2',
-        b'/' => b'2',
-        b'\\' => b'2',
-        b'A' => b'2',
-        b'B' => b'2',
-        b'C' => b'2',
-        b'F' => b'2',
-        b'I' => b'2',
-        b'N' => b'2',
-        b'O' => b'2',
-        b'P' => b'2',
-        b'S' => b'2',
-        b'T' => b'2',
-        b'b' => b'2',
-        b'c' => b'2',
-        b'n' => b'2',
-        b'o' => b'2',
-        b'p' => b'2',
-        b's' => b'2',
-        b'[' => b'2',
-        b'*' => b'2',
-        b'0' => b'2',
-        b'1' => b'2',
-        b'2' => b'2',
-        b'3' => b'2',
-        b'4' => b'2',
-        b'5' => b'2',
-        b'6' => b'2',
-        b'7' => b'2',
-        b'8' => b'2',
-        b'9' => b'2',
-        b'%' => b'2',
-        _ => b'0',
+        b'(' => Body::Branch,
+        b'.' => Body::Unit,
+        b'-' => Body::Unit,
+        b'=' => Body::Unit,
+        b'#' => Body::Unit,
+        b'$' => Body::Unit,
+        b':' => Body::Unit,
+        b'/' => Body::Unit,
+        b'\\' => Body::Unit,
+        b'A' => Body::Unit,
+        b'B' => Body::Unit,
+        b'C' => Body::Unit,
+        b'F' => Body::Unit,
+        b'I' => Body::Unit,
+        b'N' => Body::Unit,
+        b'O' => Body::Unit,
+        b'P' => Body::Unit,
+        b'S' => Body::Unit,
+        b'T' => Body::Unit,
+        b'b' => Body::Unit,
+        b'c' => Body::Unit,
+        b'n' => Body::Unit,
+        b'o' => Body::Unit,
+        b'p' => Body::Unit,
+        b's' => Body::Unit,
+        b'[' => Body::Unit,
+        b'*' => Body::Unit,
+        b'0' => Body::Unit,
+        b'1' => Body::Unit,
+        b'2' => Body::Unit,
+        b'3' => Body::Unit,
+        b'4' => Body::Unit,
+        b'5' => Body::Unit,
+        b'6' => Body::Unit,
+        b'7' => Body::Unit,
+        b'8' => Body::Unit,
+        b'9' => Body::Unit,
+        b'%' => Body::Unit,
+        _ => Body::Ends,
     }
 }
 
 // The same at a place; the end begins nothing.
-pub fn body(s: &[u8], at: usize) -> u8
+pub fn body_at(s: &[u8], at: usize) -> Body
     ensures { λ r. ⌜ r ≡ bodyAt (now (s .entry)) at ⌝ }
 {
     let c = peek(s, at);
     if c < 128 {
         return begun(c as u8);
     }
-    b'0'
+    Body::Ends
 }

@@ -11,8 +11,9 @@ ghost use Rattle.read_line.specs.Steps.{reachedAt, reachedMissing, reach
 use crate::event::put_atom;
 use crate::event::put_missing;
 use crate::event::put_ring;
+use crate::lead::Body;
 use crate::lead::Lead;
-use crate::lead::body;
+use crate::lead::body_at;
 use crate::lead::read_lead;
 use builder::builder::Builder;
 use desk_numbers::NESTING;
@@ -247,27 +248,28 @@ fn line_rest(
     let mut i = at;
     let mut n = count;
     loop {
-        let what = body(text, i);
-        if what == b'0' {
-            return Reached { at: i, n, b: state };
-        }
-        if what == b'1' {
-            let r = read_branch(text, i, room, atoms, entries, path, rings, state);
-            let s = r.b;
-            if s.refusal != 0 {
-                return r;
+        let what = body_at(text, i);
+        match what {
+            Body::Ends => return Reached { at: i, n, b: state },
+            Body::Branch => {
+                let r = read_branch(text, i, room, atoms, entries, path, rings, state);
+                let s = r.b;
+                if s.refusal != 0 {
+                    return r;
+                }
+                i = r.at;
+                state = s;
             }
-            i = r.at;
-            state = s;
-        } else {
-            let r = line_unit(text, i, n, atoms, entries, path, rings, state);
-            let s = r.b;
-            if s.refusal != 0 {
-                return r;
+            Body::Unit => {
+                let r = line_unit(text, i, n, atoms, entries, path, rings, state);
+                let s = r.b;
+                if s.refusal != 0 {
+                    return r;
+                }
+                i = r.at;
+                n = r.n;
+                state = s;
             }
-            i = r.at;
-            n = r.n;
-            state = s;
         }
     }
 }

@@ -22,13 +22,15 @@ use Rattle.read_token.specs.Scan.{signKind, markWidth}
 use Rattle.survive.specs.Survive.{survives, canFollow}
 use Rattle.survive.proofs.Checked.{below}
 use Rattle.survive.proofs.ReadBack.{survives-ranged, text-of}
+use Rattle.read_line.specs.declared.lead.Body.the-variants.{Unit}
 use Rattle.read_line.specs.Parse.{bodyOf}
+use Rattle.read_line.proofs.Bodies.{markOf, same-body}
 
 -- a byte of ASCII that begins a union with its bond left out, and that no organic atom takes for its second letter
 unfoldable pub plain : ℕ → Bool
 plain x =
     both (ltb x 128)
-    (both (eqb (bodyOf x) (byte "2"))
+    (both (eqb (markOf (bodyOf x)) (markOf Unit))
     (both (eqb (markWidth (signKind x)) 0)
     (both (neither (eqb x (byte ".")))
     (neither (either (eqb x (byte "l")) (eqb x (byte "r")))))))
@@ -89,7 +91,7 @@ not-true false e = refl
 
 pub record Facts (x : ℕ) : Type 0 where
   pub ascii : ltb x 128 ≡ true
-  pub body : bodyOf x ≡ byte "2"
+  pub body : bodyOf x ≡ Unit
   pub bond : signKind x ≡ kind.Elided
   pub dot : eqb x (byte ".") ≡ false
   pub second : neither (either (eqb x (byte "l")) (eqb x (byte "r"))) ≡ true
@@ -98,12 +100,12 @@ pub facts : (x : ℕ) → plain x ≡ true → Facts x
 unfolding plain
 facts x e =
     let a = both-true (ltb x 128) _ e in
-    let b = both-true (eqb (bodyOf x) (byte "2")) _ (a .1) in
+    let b = both-true (eqb (markOf (bodyOf x)) (markOf Unit)) _ (a .1) in
     let c = both-true (eqb (markWidth (signKind x)) 0) _ (b .1) in
     let d = both-true (neither (eqb x (byte "."))) _ (c .1) in
     record {
       ascii = a .0;
-      body = eqb-true (bodyOf x) (byte "2") (b .0);
+      body = same-body (bodyOf x) Unit (eqb-true (markOf (bodyOf x)) (markOf Unit) (b .0));
       bond = no-width (signKind x) (eqb-true (markWidth (signKind x)) 0 (c .0));
       dot = not-true (eqb x (byte ".")) (d .0);
       second = d .1;

@@ -15,13 +15,14 @@ use Rattle.read_token.specs.declared.scanner.Found.the-variants.{Nothing}
 use Rattle.read_token.specs.declared.read_rnum.Ring.the-variants.{Number}
 use Rattle.read_token.specs.Scan.{peekAt, digitOf, digitAt, signKind, markWidth, bondAt, percentAt, rnumAt, aromaticOf, aliphaticOf, organicAt, bracketAt, starAt, orElse, otherAt, atomAt}
 use Rattle.read_line.specs.declared.lead.Lead.the-variants.{Bond}
+use Rattle.read_line.specs.declared.lead.Body.the-variants.{Unit}
 use Rattle.read_line.specs.Parse.{bodyOf, bodyAt, ledAt}
 use Rattle.trip_text.proofs.Stands.{Stands, next, first}
 use Rattle.trip_text.proofs.Heads.{Plain, Facts, facts}
 
 -- a bond leads a text in
 pub record Leads (s : List ℕ) (at : ℕ) (b : BondKind) : Type 0 where
-  pub body : bodyAt s at ≡ byte "2"
+  pub body : bodyAt s at ≡ Unit
   pub lead : ledAt s at .lead ≡ Bond b
   pub next : ledAt s at .next ≡ at + length (bondText b)
 
@@ -34,7 +35,7 @@ module _ (s : List ℕ) (at : ℕ) where
     next = rw (z, f .dot, f .bond) refl;
   }
 
-  mark-leads : (b : BondKind) (x : ℕ) → peekAt s at ≡ x → bodyOf x ≡ byte "2" → ltb x 128 ≡ true → eqb x (byte ".") ≡ false → signKind x ≡ b
+  mark-leads : (b : BondKind) (x : ℕ) → peekAt s at ≡ x → bodyOf x ≡ Unit → ltb x 128 ≡ true → eqb x (byte ".") ≡ false → signKind x ≡ b
       → markWidth b ≡ length (bondText b) → Leads s at b
   unfolding bodyAt ledAt bondAt
   mark-leads b x z f a d g w = record {

@@ -16,7 +16,7 @@ use Rattle.read_line.proofs.line.read_branch.Kinds as read-branch-kinds
 use Rattle.read_line.proofs.line.+line_rest+read_branch.Lts-read_branch as read-branch-lts
 use Rattle.builder.proofs.builder.Builder.refused.Reads as refused-reads
 use Rattle.read_atom.proofs.scanner.peek.Reads as peek-reads
-use Rattle.read_line.proofs.lead.body.Reads as body-reads
+use Rattle.read_line.proofs.lead.body_at.Reads as body-at-reads
 use Rattle.read_line.proofs.lead.read_lead.Reads as read-lead-reads
 use Rattle.read_line.proofs.line.leave_branch.Reads as leave-branch-reads
 use Rattle.read_line.proofs.line.line_atom.Reads as line-atom-reads
@@ -47,7 +47,7 @@ read-branch-below t =
 
 abbrev rest-calls : ℕ → line-rest-lts.Claims
 rest-calls t =
-    (body-reads.Asked, body-reads.Learnt, read-branch-below t, read-branch.Post, line-unit-reads.Asked, line-unit-reads.Learnt)
+    (body-at-reads.Asked, body-at-reads.Learnt, read-branch-below t, read-branch.Post, line-unit-reads.Asked, line-unit-reads.Learnt)
 
 abbrev branch-calls : ℕ → read-branch-lts.Claims
 branch-calls t =
@@ -69,32 +69,38 @@ line-rest-loop-holds : (t : ℕ) → line-rest-lts.Need-loop-holds (rest-calls t
 line-rest-loop-holds t c = (rest-first _ _ _ _ _ (c .before .before .before .before .before .pre .1 .0) (c .before .before .before .before .before .pre .1 .1), refl, refl, refl, refl)
 
 -- src/line.rt:239:13
-line-rest-body-requires : (t : ℕ) → line-rest-lts.Need-body-requires (rest-calls t) (line-rest-at t) line-rest.Post line-rest-Inv-loop line-rest-μ-loop
-line-rest-body-requires t c κs = tt
+line-rest-body-at-requires : (t : ℕ) → line-rest-lts.Need-body-at-requires (rest-calls t) (line-rest-at t) line-rest.Post line-rest-Inv-loop line-rest-μ-loop
+line-rest-body-at-requires t c κs = tt
+
+line-rest-enum-told : (t : ℕ) → line-rest-lts.Need-enum-told (rest-calls t) (line-rest-at t) line-rest.Post line-rest-Inv-loop line-rest-μ-loop
+line-rest-enum-told t c = search needs
 
 -- src/line.rt:241:13
 line-rest-same-length : (t : ℕ) → line-rest-lts.Need-same-length (rest-calls t) (line-rest-at t) line-rest.Post line-rest-Inv-loop line-rest-μ-loop
-line-rest-same-length t c = c .before .before .loop .inv .1
+line-rest-same-length t c = c .before .before .before .loop .inv .1
 
 -- src/line.rt:241:13
 line-rest-same-length-2 : (t : ℕ) → line-rest-lts.Need-same-length-2 (rest-calls t) (line-rest-at t) line-rest.Post line-rest-Inv-loop line-rest-μ-loop
-line-rest-same-length-2 t c = c .before .before .loop .inv .2
+line-rest-same-length-2 t c = c .before .before .before .loop .inv .2
 
 -- src/line.rt:241:13
 line-rest-same-length-3 : (t : ℕ) → line-rest-lts.Need-same-length-3 (rest-calls t) (line-rest-at t) line-rest.Post line-rest-Inv-loop line-rest-μ-loop
-line-rest-same-length-3 t c = c .before .before .loop .inv .3
+line-rest-same-length-3 t c = c .before .before .before .loop .inv .3
 
 -- src/line.rt:241:13
 line-rest-same-length-4 : (t : ℕ) → line-rest-lts.Need-same-length-4 (rest-calls t) (line-rest-at t) line-rest.Post line-rest-Inv-loop line-rest-μ-loop
-line-rest-same-length-4 t c = c .before .before .loop .inv .4
+line-rest-same-length-4 t c = c .before .before .before .loop .inv .4
 
 -- src/line.rt:241:13
 line-rest-returns : (t : ℕ) → line-rest-lts.Need-returns (rest-calls t) (line-rest-at t) line-rest.Post line-rest-Inv-loop line-rest-μ-loop
-line-rest-returns t c = rest-end _ _ _ _ _ (c .before .before .before .before .before .before .before .before .pre .1 .0) _ _ _ (c .before .before .loop .inv .0) _ (c .before .body .ensures) (c .if1 .taken)
+line-rest-returns t c = rest-end _ _ _ _ _ (c .before .before .before .before .before .before .before .before .before .pre .1 .0) _ _ _ (c .before .before .before .loop .inv .0) _ (c .before .before .body-at .ensures) (c .enum-told .given .1)
+
+line-rest-enum-told-2 : (t : ℕ) → line-rest-lts.Need-enum-told-2 (rest-calls t) (line-rest-at t) line-rest.Post line-rest-Inv-loop line-rest-μ-loop
+line-rest-enum-told-2 t c = search needs
 
 -- src/line.rt:244:17
 line-rest-read-branch-requires : (t : ℕ) → line-rest-lts.Need-read-branch-requires (rest-calls t) (line-rest-at t) line-rest.Post line-rest-Inv-loop line-rest-μ-loop
-line-rest-read-branch-requires t c κs = (omega (arith, c .before .before .before .before .before .before .before .before .before .before .before .before .before .pre .0, c .before .before .before .before .before .before .before .loop .inv .0 .past, c .before .before .before .before .before .before .before .loop .inv .0 .ready .within), (c .before .before .before .before .before .before .before .loop .inv .0 .ready, body-open _ _ (sym (c .before .before .before .before .before .before .body .ensures) ∙ c .before .before .before .before .if2 .taken)))
+line-rest-read-branch-requires t c κs = (omega (arith, c .before .before .before .before .before .before .before .before .before .before .before .before .before .pre .0, c .before .before .before .before .before .before .before .loop .inv .0 .past, c .before .before .before .before .before .before .before .loop .inv .0 .ready .within), (c .before .before .before .before .before .before .before .loop .inv .0 .ready, body-open _ _ (sym (c .before .before .before .before .before .before .body-at .ensures) ∙ c .before .before .before .before .enum-told2 .given .1)))
 
 -- src/line.rt:247:17
 line-rest-same-length-5 : (t : ℕ) → line-rest-lts.Need-same-length-5 (rest-calls t) (line-rest-at t) line-rest.Post line-rest-Inv-loop line-rest-μ-loop
@@ -114,15 +120,18 @@ line-rest-same-length-8 t c = c .before .before .before .before .before .before 
 
 -- src/line.rt:247:17
 line-rest-returns-2 : (t : ℕ) → line-rest-lts.Need-returns-2 (rest-calls t) (line-rest-at t) line-rest.Post line-rest-Inv-loop line-rest-μ-loop
-line-rest-returns-2 t c = stuck-branch _ _ _ _ _ (c .before .before .before .before .before .before .before .before .before .before .before .before .before .before .before .before .before .before .before .before .before .before .before .before .before .pre .1 .0) _ _ _ (c .before .before .before .before .before .before .before .before .before .before .before .before .before .before .before .before .before .before .before .loop .inv .0) _ (c .before .before .before .before .before .before .before .before .before .before .before .before .before .before .before .before .before .before .body .ensures) _ _ (c .before .before .before .before .before .before .before .before .before .before .before .before .before .before .before .before .if2 .taken) (c .before .before .before .before .before .before .before .before .before .before .before .read-branch .ensures) _ (c .if3 .taken)
+line-rest-returns-2 t c = stuck-branch _ _ _ _ _ (c .before .before .before .before .before .before .before .before .before .before .before .before .before .before .before .before .before .before .before .before .before .before .before .before .before .pre .1 .0) _ _ _ (c .before .before .before .before .before .before .before .before .before .before .before .before .before .before .before .before .before .before .before .loop .inv .0) _ (c .before .before .before .before .before .before .before .before .before .before .before .before .before .before .before .before .before .before .body-at .ensures) _ _ (c .before .before .before .before .before .before .before .before .before .before .before .before .before .before .before .before .enum-told2 .given .1) (c .before .before .before .before .before .before .before .before .before .before .before .read-branch .ensures) _ (c .if1 .taken)
 
 -- src/line.rt:238:5
 line-rest-loop-less : (t : ℕ) → line-rest-lts.Need-loop-less (rest-calls t) (line-rest-at t) line-rest.Post line-rest-Inv-loop line-rest-μ-loop
-line-rest-loop-less t c = omega (arith, c .before .before .before .before .before .before .before .before .before .before .before .read-branch .ensures .moved .on (c .if3 .left), c .before .before .before .before .before .before .before .before .before .before .before .read-branch .ensures .moved .within)
+line-rest-loop-less t c = omega (arith, c .before .before .before .before .before .before .before .before .before .before .before .read-branch .ensures .moved .on (c .if1 .left), c .before .before .before .before .before .before .before .before .before .before .before .read-branch .ensures .moved .within)
 
 -- src/line.rt:238:5
 line-rest-loop-again : (t : ℕ) → line-rest-lts.Need-loop-again (rest-calls t) (line-rest-at t) line-rest.Post line-rest-Inv-loop line-rest-μ-loop
-line-rest-loop-again t c = (after-branch _ _ _ _ _ (c .before .before .before .before .before .before .before .before .before .before .before .before .before .before .before .before .before .before .before .before .before .before .before .before .before .pre .1 .0) _ _ _ (c .before .before .before .before .before .before .before .before .before .before .before .before .before .before .before .before .before .before .before .loop .inv .0) _ (c .before .before .before .before .before .before .before .before .before .before .before .before .before .before .before .before .before .before .body .ensures) _ _ (c .before .before .before .before .before .before .before .before .before .before .before .before .before .before .before .before .if2 .taken) (c .before .before .before .before .before .before .before .before .before .before .before .read-branch .ensures) (c .if3 .left), c .before .before .before .before .before .before .before .before .before .before .before .read-branch .kept .1 .1 .1 .0 ∙ c .before .before .before .before .before .before .before .before .before .before .before .before .before .before .before .before .before .before .before .loop .inv .1, c .before .before .before .before .before .before .before .before .before .before .before .read-branch .kept .1 .1 .1 .1 .0 ∙ c .before .before .before .before .before .before .before .before .before .before .before .before .before .before .before .before .before .before .before .loop .inv .2, c .before .before .before .before .before .before .before .before .before .before .before .read-branch .kept .1 .1 .1 .1 .1 .0 ∙ c .before .before .before .before .before .before .before .before .before .before .before .before .before .before .before .before .before .before .before .loop .inv .3, c .before .before .before .before .before .before .before .before .before .before .before .read-branch .kept .1 .1 .1 .1 .1 .1 .0 ∙ c .before .before .before .before .before .before .before .before .before .before .before .before .before .before .before .before .before .before .before .loop .inv .4)
+line-rest-loop-again t c = (after-branch _ _ _ _ _ (c .before .before .before .before .before .before .before .before .before .before .before .before .before .before .before .before .before .before .before .before .before .before .before .before .before .pre .1 .0) _ _ _ (c .before .before .before .before .before .before .before .before .before .before .before .before .before .before .before .before .before .before .before .loop .inv .0) _ (c .before .before .before .before .before .before .before .before .before .before .before .before .before .before .before .before .before .before .body-at .ensures) _ _ (c .before .before .before .before .before .before .before .before .before .before .before .before .before .before .before .before .enum-told2 .given .1) (c .before .before .before .before .before .before .before .before .before .before .before .read-branch .ensures) (c .if1 .left), c .before .before .before .before .before .before .before .before .before .before .before .read-branch .kept .1 .1 .1 .0 ∙ c .before .before .before .before .before .before .before .before .before .before .before .before .before .before .before .before .before .before .before .loop .inv .1, c .before .before .before .before .before .before .before .before .before .before .before .read-branch .kept .1 .1 .1 .1 .0 ∙ c .before .before .before .before .before .before .before .before .before .before .before .before .before .before .before .before .before .before .before .loop .inv .2, c .before .before .before .before .before .before .before .before .before .before .before .read-branch .kept .1 .1 .1 .1 .1 .0 ∙ c .before .before .before .before .before .before .before .before .before .before .before .before .before .before .before .before .before .before .before .loop .inv .3, c .before .before .before .before .before .before .before .before .before .before .before .read-branch .kept .1 .1 .1 .1 .1 .1 .0 ∙ c .before .before .before .before .before .before .before .before .before .before .before .before .before .before .before .before .before .before .before .loop .inv .4)
+
+line-rest-enum-told-3 : (t : ℕ) → line-rest-lts.Need-enum-told-3 (rest-calls t) (line-rest-at t) line-rest.Post line-rest-Inv-loop line-rest-μ-loop
+line-rest-enum-told-3 t c = search needs
 
 -- src/line.rt:252:17
 line-rest-line-unit-requires : (t : ℕ) → line-rest-lts.Need-line-unit-requires (rest-calls t) (line-rest-at t) line-rest.Post line-rest-Inv-loop line-rest-μ-loop
@@ -146,15 +155,15 @@ line-rest-same-length-12 t c = c .before .before .before .before .before .before
 
 -- src/line.rt:255:17
 line-rest-returns-3 : (t : ℕ) → line-rest-lts.Need-returns-3 (rest-calls t) (line-rest-at t) line-rest.Post line-rest-Inv-loop line-rest-μ-loop
-line-rest-returns-3 t c = stuck-unit _ _ _ _ _ (c .before .before .before .before .before .before .before .before .before .before .before .before .before .before .before .before .before .before .before .before .before .before .before .before .before .pre .1 .0) _ _ _ (c .before .before .before .before .before .before .before .before .before .before .before .before .before .before .before .before .before .before .before .loop .inv .0) _ (c .before .before .before .before .before .before .before .before .before .before .before .before .before .before .before .before .before .before .body .ensures) _ _ _ (c .before .before .before .before .before .before .before .before .before .before .before .before .before .before .before .before .before .if1 .left) (c .before .before .before .before .before .before .before .before .before .before .before .before .before .before .before .before .if2 .left) (c .before .before .before .before .before .before .before .before .before .before .before .line-unit .ensures) (c .if4 .taken)
+line-rest-returns-3 t c = stuck-unit _ _ _ _ _ (c .before .before .before .before .before .before .before .before .before .before .before .before .before .before .before .before .before .before .before .before .before .before .before .before .before .pre .1 .0) _ _ _ (c .before .before .before .before .before .before .before .before .before .before .before .before .before .before .before .before .before .before .before .loop .inv .0) _ (c .before .before .before .before .before .before .before .before .before .before .before .before .before .before .before .before .before .before .body-at .ensures) _ _ _ (c .before .before .before .before .before .before .before .before .before .before .before .before .before .before .before .before .enum-told3 .given .1) (c .before .before .before .before .before .before .before .before .before .before .before .line-unit .ensures) (c .if2 .taken)
 
 -- src/line.rt:238:5
 line-rest-loop-less-2 : (t : ℕ) → line-rest-lts.Need-loop-less-2 (rest-calls t) (line-rest-at t) line-rest.Post line-rest-Inv-loop line-rest-μ-loop
-line-rest-loop-less-2 t c = omega (arith, c .before .before .before .before .before .before .before .before .before .before .before .line-unit .ensures .moved .on (c .if4 .left), c .before .before .before .before .before .before .before .before .before .before .before .line-unit .ensures .moved .within)
+line-rest-loop-less-2 t c = omega (arith, c .before .before .before .before .before .before .before .before .before .before .before .line-unit .ensures .moved .on (c .if2 .left), c .before .before .before .before .before .before .before .before .before .before .before .line-unit .ensures .moved .within)
 
 -- src/line.rt:238:5
 line-rest-loop-again-2 : (t : ℕ) → line-rest-lts.Need-loop-again-2 (rest-calls t) (line-rest-at t) line-rest.Post line-rest-Inv-loop line-rest-μ-loop
-line-rest-loop-again-2 t c = (after-unit _ _ _ _ _ (c .before .before .before .before .before .before .before .before .before .before .before .before .before .before .before .before .before .before .before .before .before .before .before .before .before .pre .1 .0) _ _ _ (c .before .before .before .before .before .before .before .before .before .before .before .before .before .before .before .before .before .before .before .loop .inv .0) _ (c .before .before .before .before .before .before .before .before .before .before .before .before .before .before .before .before .before .before .body .ensures) _ _ _ (c .before .before .before .before .before .before .before .before .before .before .before .before .before .before .before .before .before .if1 .left) (c .before .before .before .before .before .before .before .before .before .before .before .before .before .before .before .before .if2 .left) (c .before .before .before .before .before .before .before .before .before .before .before .line-unit .ensures) (c .if4 .left), c .before .before .before .before .before .before .before .before .before .before .before .line-unit .kept .1 .1 .1 .0 ∙ c .before .before .before .before .before .before .before .before .before .before .before .before .before .before .before .before .before .before .before .loop .inv .1, c .before .before .before .before .before .before .before .before .before .before .before .line-unit .kept .1 .1 .1 .1 .0 ∙ c .before .before .before .before .before .before .before .before .before .before .before .before .before .before .before .before .before .before .before .loop .inv .2, c .before .before .before .before .before .before .before .before .before .before .before .line-unit .kept .1 .1 .1 .1 .1 .0 ∙ c .before .before .before .before .before .before .before .before .before .before .before .before .before .before .before .before .before .before .before .loop .inv .3, c .before .before .before .before .before .before .before .before .before .before .before .line-unit .kept .1 .1 .1 .1 .1 .1 .0 ∙ c .before .before .before .before .before .before .before .before .before .before .before .before .before .before .before .before .before .before .before .loop .inv .4)
+line-rest-loop-again-2 t c = (after-unit _ _ _ _ _ (c .before .before .before .before .before .before .before .before .before .before .before .before .before .before .before .before .before .before .before .before .before .before .before .before .before .pre .1 .0) _ _ _ (c .before .before .before .before .before .before .before .before .before .before .before .before .before .before .before .before .before .before .before .loop .inv .0) _ (c .before .before .before .before .before .before .before .before .before .before .before .before .before .before .before .before .before .before .body-at .ensures) _ _ _ (c .before .before .before .before .before .before .before .before .before .before .before .before .before .before .before .before .enum-told3 .given .1) (c .before .before .before .before .before .before .before .before .before .before .before .line-unit .ensures) (c .if2 .left), c .before .before .before .before .before .before .before .before .before .before .before .line-unit .kept .1 .1 .1 .0 ∙ c .before .before .before .before .before .before .before .before .before .before .before .before .before .before .before .before .before .before .before .loop .inv .1, c .before .before .before .before .before .before .before .before .before .before .before .line-unit .kept .1 .1 .1 .1 .0 ∙ c .before .before .before .before .before .before .before .before .before .before .before .before .before .before .before .before .before .before .before .loop .inv .2, c .before .before .before .before .before .before .before .before .before .before .before .line-unit .kept .1 .1 .1 .1 .1 .0 ∙ c .before .before .before .before .before .before .before .before .before .before .before .before .before .before .before .before .before .before .before .loop .inv .3, c .before .before .before .before .before .before .before .before .before .before .before .line-unit .kept .1 .1 .1 .1 .1 .1 .0 ∙ c .before .before .before .before .before .before .before .before .before .before .before .before .before .before .before .before .before .before .before .loop .inv .4)
 
 -- src/line.rt:197:13
 read-branch-refused-requires : (t : ℕ) → read-branch-lts.Need-refused-requires (branch-calls t) (read-branch-at t) read-branch.Post
@@ -279,12 +288,14 @@ pub +line-rest+read-branch-spec : {M : Type 1} → statement M
     line-rest-Inv-loop
     line-rest-μ-loop
     (line-rest-loop-holds t)
-    (line-rest-body-requires t)
+    (line-rest-body-at-requires t)
+    (line-rest-enum-told t)
     (line-rest-same-length t)
     (line-rest-same-length-2 t)
     (line-rest-same-length-3 t)
     (line-rest-same-length-4 t)
     (line-rest-returns t)
+    (line-rest-enum-told-2 t)
     (line-rest-read-branch-requires t)
     (line-rest-same-length-5 t)
     (line-rest-same-length-6 t)
@@ -293,6 +304,7 @@ pub +line-rest+read-branch-spec : {M : Type 1} → statement M
     (line-rest-returns-2 t)
     (line-rest-loop-less t)
     (line-rest-loop-again t)
+    (line-rest-enum-told-3 t)
     (line-rest-line-unit-requires t)
     (line-rest-same-length-9 t)
     (line-rest-same-length-10 t)

@@ -1,9 +1,9 @@
--- `read_line::lead::body` meets its contract. Assumes nothing.
+-- `read_line::lead::body_at` meets its contract. Assumes nothing.
 use borrow.Author.Tests.{lt-ltb, le-ltb}
 use Rattle.read_line.specs.Parse.{bodyAt}
 use borrow.Author.Needs.{needs}
-use Rattle.read_line.proofs.lead.body.Statement.{statement}
-use Rattle.read_line.proofs.lead.body.Tie as tie
+use Rattle.read_line.proofs.lead.body_at.Statement.{statement}
+use Rattle.read_line.proofs.lead.body_at.Tie as tie
 
 -- src/lead.rt:51:9
 peek-requires : tie.Need-peek-requires
@@ -27,5 +27,5 @@ returns-2 : tie.Need-returns-2
 unfolding bodyAt
 returns-2 c = simp (← c .before .peek .ensures .is, le-ltb _ _ (c .if1 .left))
 
-pub body-spec : {M : Type 1} → statement M
-body-spec = tie.close (tie.spec peek-requires cast-begun begun-requires returns returns-2)
+pub body-at-spec : {M : Type 1} → statement M
+body-at-spec = tie.close (tie.spec peek-requires cast-begun begun-requires returns returns-2)
