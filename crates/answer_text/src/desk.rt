@@ -2,55 +2,24 @@
 ghost use Prim.Native.Nat.{_≤_};
 ghost use lib.ListN.{length};
 use desk_answer::Said;
-use desk_numbers::ATOM_ROOM;
-use desk_numbers::BAD_TABLE;
-use desk_numbers::BOND_ROOM;
-use desk_numbers::CHARACTER;
-use desk_numbers::DUPLICATE_BOND;
-use desk_numbers::END_OF_LINE;
-use desk_numbers::HALF_BOND;
-use desk_numbers::INCOMPATIBLE_BOND;
-use desk_numbers::INVERSION;
-use desk_numbers::JOIN;
-use desk_numbers::LOOP;
-use desk_numbers::NESTING;
-use desk_numbers::NO_ATOM;
-use desk_numbers::OUT_ROOM;
 use desk_numbers::OVERPOP;
-use desk_numbers::RING_NUMBERS;
-use desk_numbers::RNUM;
-use desk_numbers::TEXT_TOO_LONG;
-use desk_numbers::UNKNOWN_TARGET;
 use oracle_form::byte::put;
-use oracle_form::byte::put_word;
+use oracle_form::list::put_nth;
 use oracle_form::number;
+
+// The refusals' names by their numbers. 0 is none.
+const NAMES: [u8; 183] =
+    *b"?;EndOfLine;Character;Join;Rnum;UnknownTarget;Loop;HalfBond;DuplicateBond;IncompatibleBond;Inversion;\
+    RingNumbers;TextTooLong;AtomRoom;BondRoom;Nesting;OutRoom;BadTable;NoAtom;Overpop;";
 
 // The name of a refusal, `?` for a number that is none.
 fn print_name(out: &mut [u8], at: usize, no: u32) -> usize
     ensures { λ r. ⌜ r ≤ length (now (out .exit)) ⌝ }
 {
-    match no {
-        END_OF_LINE => put_word(out, at, b"EndOfLine"),
-        CHARACTER => put_word(out, at, b"Character"),
-        JOIN => put_word(out, at, b"Join"),
-        RNUM => put_word(out, at, b"Rnum"),
-        UNKNOWN_TARGET => put_word(out, at, b"UnknownTarget"),
-        LOOP => put_word(out, at, b"Loop"),
-        HALF_BOND => put_word(out, at, b"HalfBond"),
-        DUPLICATE_BOND => put_word(out, at, b"DuplicateBond"),
-        INCOMPATIBLE_BOND => put_word(out, at, b"IncompatibleBond"),
-        INVERSION => put_word(out, at, b"Inversion"),
-        RING_NUMBERS => put_word(out, at, b"RingNumbers"),
-        TEXT_TOO_LONG => put_word(out, at, b"TextTooLong"),
-        ATOM_ROOM => put_word(out, at, b"AtomRoom"),
-        BOND_ROOM => put_word(out, at, b"BondRoom"),
-        NESTING => put_word(out, at, b"Nesting"),
-        OUT_ROOM => put_word(out, at, b"OutRoom"),
-        BAD_TABLE => put_word(out, at, b"BadTable"),
-        NO_ATOM => put_word(out, at, b"NoAtom"),
-        OVERPOP => put_word(out, at, b"Overpop"),
-        _ => put(out, at, b'?'),
+    if OVERPOP < no {
+        return put(out, at, b'?');
     }
+    put_nth(out, at, &NAMES, no as usize)
 }
 
 // A number of the desk's, and the tab that ends it.

@@ -5,118 +5,99 @@
 ghost use Prim.Native.Nat.{_≤_};
 ghost use lib.ListN.{length};
 use crate::desk::print_named;
+use crate::tables::least;
 use desk_answer::Said;
 use oracle_form::byte::NOWHERE;
 use oracle_form::byte::put;
-use oracle_form::byte::put_word;
+use oracle_form::list::word;
 use oracle_form::number;
 use table::limits::ATOMS;
 use table::limits::BONDS;
 use table::limits::BRANCHES;
 use table::limits::TEXT;
 
-// Words, a number and words.
-fn put_with(out: &mut [u8], at: usize, before: &[u8], n: usize, after: &[u8]) -> usize
-    ensures { λ r. ⌜ r ≤ length (now (out .exit)) ⌝ }
-{
-    let at = put_word(out, at, before);
-    let at = number::print(out, at, n);
-    put_word(out, at, after)
+// The words for each number, with `#` where a number is said. None are kept for those that go by their names.
+const PHRASES: [u8; 556] = *b";the text ends where more has to follow;\
+    this character cannot stand here;\
+    the two ends of the ring bond between atoms # and # disagree;\
+    a ring number is opened and never closed: the use numbered #;\
+    ;atom # is bonded to itself;\
+    ;atoms # and # are bonded twice;\
+    ;atom # bears hydrogen, so its mark had to be turned, and only @ and @@ can be;\
+    the ring bond between atoms # and # needs a number above 99;\
+    the text has # bytes: # are the most;\
+    one atom too many: # are the most;\
+    one bond too many: # ends of bonds are the most;\
+    one branch too many: # may be open at once;";
+
+// Stands for a number in the words.
+const NUMBER: u8 = b'#';
+
+// The numbers that are said, the first before the second.
+struct Numbers {
+    first: usize,
+    second: usize,
 }
 
-// The like with two numbers.
-fn put_pair(out: &mut [u8], at: usize, before: &[u8], s: Said, after: &[u8]) -> usize
-    ensures { λ r. ⌜ r ≤ length (now (out .exit)) ⌝ }
-{
-    let at = put_with(out, at, before, s.first, b" and ");
-    put_with(out, at, b"", s.second, after)
-}
-
-// What names two atoms.
-fn print_pair(out: &mut [u8], at: usize, s: Said) -> usize
-    ensures { λ r. ⌜ r ≤ length (now (out .exit)) ⌝ }
-{
+// What is carried, or what the most is.
+fn numbers_of(s: Said) -> Numbers {
     let no = s.no;
-    match no {
-        desk_numbers::JOIN => put_pair(
-            out,
-            at,
-            b"the two ends of the ring bond between atoms ",
-            s,
-            b" disagree",
-        ),
-        desk_numbers::DUPLICATE_BOND => put_pair(out, at, b"atoms ", s, b" are bonded twice"),
-        desk_numbers::RING_NUMBERS => put_pair(
-            out,
-            at,
-            b"the ring bond between atoms ",
-            s,
-            b" needs a number above 99",
-        ),
-        _ => print_named(out, at, s),
-    }
+    let first = match no {
+        desk_numbers::ATOM_ROOM => ATOMS,
+        desk_numbers::BOND_ROOM => BONDS,
+        desk_numbers::NESTING => BRANCHES,
+        _ => s.first,
+    };
+    let second = match no {
+        desk_numbers::TEXT_TOO_LONG => TEXT,
+        _ => s.second,
+    };
+    Numbers { first, second }
 }
 
-// What names an atom, a join or a length.
-fn print_single(out: &mut [u8], at: usize, s: Said) -> usize
+// A byte of the words, or a number.
+fn print_part(out: &mut [u8], at: usize, b: u8, n: usize) -> usize
     ensures { λ r. ⌜ r ≤ length (now (out .exit)) ⌝ }
 {
-    let no = s.no;
-    match no {
-        desk_numbers::RNUM => put_with(
-            out,
-            at,
-            b"a ring number is opened and never closed: the use numbered ",
-            s.first,
-            b"",
-        ),
-        desk_numbers::LOOP => put_with(out, at, b"atom ", s.first, b" is bonded to itself"),
-        desk_numbers::INVERSION => put_with(
-            out,
-            at,
-            b"atom ",
-            s.first,
-            b" bears hydrogen, so its mark had to be turned, and only @ and @@ can be",
-        ),
-        desk_numbers::TEXT_TOO_LONG => {
-            let at = put_with(out, at, b"the text has ", s.first, b" bytes: ");
-            put_with(out, at, b"", TEXT, b" are the most")
-        }
-        _ => print_pair(out, at, s),
+    if b == NUMBER {
+        return number::print(out, at, n);
     }
+    put(out, at, b)
+}
+
+// The number that is said next, once a byte of the words was printed.
+fn next_number(b: u8, n: usize, second: usize) -> usize {
+    if b == NUMBER {
+        return second;
+    }
+    n
+}
+
+// Words with their numbers.
+fn print_phrase(out: &mut [u8], at: usize, phrase: &[u8], numbers: Numbers) -> usize
+    ensures { λ r. ⌜ r ≤ length (now (out .exit)) ⌝ }
+{
+    let mut next = least(at, out.len());
+    let mut n = numbers.first;
+    let mut i = 0;
+    while i < phrase.len() {
+        let b = phrase[i];
+        next = print_part(out, next, b, n);
+        n = next_number(b, n, numbers.second);
+        i += 1;
+    }
+    next
 }
 
 // The words for what was said, without its number.
 pub fn print_words(out: &mut [u8], at: usize, s: Said) -> usize
     ensures { λ r. ⌜ r ≤ length (now (out .exit)) ⌝ }
 {
-    let no = s.no;
-    match no {
-        desk_numbers::END_OF_LINE => put_word(out, at, b"the text ends where more has to follow"),
-        desk_numbers::CHARACTER => put_word(out, at, b"this character cannot stand here"),
-        desk_numbers::ATOM_ROOM => put_with(
-            out,
-            at,
-            b"one atom too many: ",
-            ATOMS,
-            b" are the most",
-        ),
-        desk_numbers::BOND_ROOM => put_with(
-            out,
-            at,
-            b"one bond too many: ",
-            BONDS,
-            b" ends of bonds are the most",
-        ),
-        desk_numbers::NESTING => put_with(
-            out,
-            at,
-            b"one branch too many: ",
-            BRANCHES,
-            b" may be open at once",
-        ),
-        _ => print_single(out, at, s),
+    let phrase = word(&PHRASES, s.no as usize);
+    if phrase.len() == 0 {
+        return print_named(out, at, s);
     }
+    print_phrase(out, at, phrase, numbers_of(s))
 }
 
 // The place that was said, in a text of so many bytes: its end, where more has to follow; NOWHERE, where no place was said.

@@ -1,45 +1,39 @@
 // A bond's kind as one byte: `e` where it is elided, else the mark that a line has for it.
 ghost use Prim.Native.Nat.{_≤_};
 ghost use lib.ListN.{length};
+use crate::byte::NOWHERE;
 use crate::byte::after;
+use crate::byte::find;
 use crate::byte::peek;
 use crate::byte::put;
 use feature::bond_kind::BondKind;
+use feature::bond_kind::Coded;
+use feature::bond_kind::code;
+use feature::bond_kind::decode;
 
-pub enum Bond {
-    Kind(BondKind, usize),
-    Bad,
-}
+// The marks, each at its kind's number in a table. No kind has the number 0, and no text that is parsed has the byte.
+const MARKS: [u8; 9] = *b"\0e-=#$:/\\";
 
-fn letter(k: BondKind) -> u8 {
-    match k {
-        BondKind::Elided => b'e',
-        BondKind::Single => b'-',
-        BondKind::Double => b'=',
-        BondKind::Triple => b'#',
-        BondKind::Quadruple => b'$',
-        BondKind::Aromatic => b':',
-        BondKind::Up => b'/',
-        BondKind::Down => b'\\',
-    }
+pub struct Bond {
+    pub kind: BondKind,
+    pub next: usize,
 }
 
 pub fn print(out: &mut [u8], at: usize, k: BondKind) -> usize
     ensures { λ r. ⌜ r ≤ length (now (out .exit)) ⌝ }
 {
-    put(out, at, letter(k))
+    put(out, at, peek(&MARKS, code(k) as usize))
 }
 
 pub fn parse(s: &[u8], at: usize) -> Bond {
-    match peek(s, at) {
-        b'e' => Bond::Kind(BondKind::Elided, after(at)),
-        b'-' => Bond::Kind(BondKind::Single, after(at)),
-        b'=' => Bond::Kind(BondKind::Double, after(at)),
-        b'#' => Bond::Kind(BondKind::Triple, after(at)),
-        b'$' => Bond::Kind(BondKind::Quadruple, after(at)),
-        b':' => Bond::Kind(BondKind::Aromatic, after(at)),
-        b'/' => Bond::Kind(BondKind::Up, after(at)),
-        b'\\' => Bond::Kind(BondKind::Down, after(at)),
-        _ => Bond::Bad,
+    match decode(find(&MARKS, 0, peek(s, at)) as u32) {
+        Coded::Kind(kind) => Bond {
+            kind,
+            next: after(at),
+        },
+        Coded::Bad => Bond {
+            kind: BondKind::Elided,
+            next: NOWHERE,
+        },
     }
 }

@@ -5,6 +5,21 @@ ghost use lib.ListN.{length};
 // The place of what is missing, which no text has.
 pub const NOWHERE: usize = usize::MAX;
 
+// The first place from a start on at which a byte stands, or the text's end where it does not.
+pub fn find(s: &[u8], start: usize, b: u8) -> usize
+    requires { ⌜ start ≤ length (now s) ⌝ }
+    ensures { λ r. ⌜ (start ≤ r) × (r ≤ length (now (s .entry))) ⌝ }
+{
+    let mut i = start;
+    while i < s.len() {
+        if s[i] == b {
+            return i;
+        }
+        i += 1;
+    }
+    i
+}
+
 // Lays a byte and answers the place after it, or the output's end where there is no room.
 pub fn put(out: &mut [u8], at: usize, b: u8) -> usize
     ensures { λ r. ⌜ r ≤ length (now (out .exit)) ⌝ }
@@ -30,7 +45,7 @@ pub fn put_word(out: &mut [u8], at: usize, word: &[u8]) -> usize
 }
 
 // A place of the output, or its end.
-fn within(out: &[u8], at: usize) -> usize
+pub fn within(out: &[u8], at: usize) -> usize
     ensures { λ r. ⌜ r ≤ length (now (out .entry)) ⌝ }
 {
     if at < out.len() {
@@ -48,7 +63,9 @@ pub fn peek(s: &[u8], at: usize) -> u8 {
 }
 
 // The place after a place.
-pub fn after(at: usize) -> usize {
+pub fn after(at: usize) -> usize
+    ensures { λ r. ⌜ at ≤ r ⌝ }
+{
     if at < NOWHERE {
         return at + 1;
     }
@@ -61,4 +78,12 @@ pub fn pass(s: &[u8], at: usize, b: u8) -> usize {
         return after(at);
     }
     NOWHERE
+}
+
+// The same, or the text's end where nothing follows.
+pub fn pass_or_end(s: &[u8], at: usize, b: u8) -> usize {
+    if at == s.len() {
+        return at;
+    }
+    pass(s, at, b)
 }

@@ -3,114 +3,76 @@ use crate::bond;
 use crate::bond::Bond;
 use crate::byte::NOWHERE;
 use crate::byte::after;
-use crate::byte::pass;
+use crate::byte::pass_or_end;
 use crate::byte::peek;
 use crate::kind;
 use crate::kind::Kind;
 use crate::number;
+use crate::number::Number;
 use feature::atom_kind::AtomKind;
 use feature::bond_kind::BondKind;
 
-// How many ring numbers there are, from 0 on.
-const NUMBERS: usize = 100;
+pub const ROOT: u8 = b'r';
 
-pub enum Event {
-    Root(AtomKind),
-    Extend(BondKind, AtomKind),
-    Join(BondKind, usize),
-    Pop(usize),
-    Bad,
-}
+pub const EXTEND: u8 = b'x';
 
-// An event and the place after it.
-pub struct Parsed {
-    pub event: Event,
+pub const JOIN: u8 = b'j';
+
+pub const POP: u8 = b'p';
+
+// An event by its letter, with the place after it. What it has not is an elided bond, a star or 0.
+pub struct Event {
+    pub letter: u8,
+    pub bond: BondKind,
+    pub kind: AtomKind,
+    pub number: usize,
     pub next: usize,
 }
 
-fn bad() -> Parsed {
-    Parsed {
-        event: Event::Bad,
-        next: NOWHERE,
-    }
-}
-
-fn parse_root(s: &[u8], at: usize) -> Parsed {
-    match kind::parse(s, at) {
-        Kind::Is(k, next) => Parsed {
-            event: Event::Root(k),
-            next,
+fn bond_of(letter: u8, s: &[u8], at: usize) -> Bond {
+    match letter {
+        EXTEND | JOIN => bond::parse(s, at),
+        _ => Bond {
+            kind: BondKind::Elided,
+            next: at,
         },
-        Kind::Bad => bad(),
     }
 }
 
-fn parse_extend(s: &[u8], at: usize, b: BondKind) -> Parsed {
-    match kind::parse(s, at) {
-        Kind::Is(k, next) => Parsed {
-            event: Event::Extend(b, k),
-            next,
+fn kind_of(letter: u8, s: &[u8], at: usize) -> Kind {
+    match letter {
+        ROOT | EXTEND => kind::parse(s, at),
+        _ => Kind {
+            kind: AtomKind::Star,
+            next: at,
         },
-        Kind::Bad => bad(),
     }
 }
 
-fn parse_join(s: &[u8], at: usize, b: BondKind) -> Parsed {
-    let n = number::parse(s, at);
-    if NUMBERS <= n.value {
-        return bad();
-    }
-    Parsed {
-        event: Event::Join(b, n.value),
-        next: n.next,
-    }
-}
-
-fn parse_pop(s: &[u8], at: usize) -> Parsed {
-    let n = number::parse(s, at);
-    Parsed {
-        event: Event::Pop(n.value),
-        next: n.next,
+fn number_of(letter: u8, s: &[u8], at: usize) -> Number {
+    match letter {
+        ROOT | EXTEND => Number { value: 0, next: at },
+        JOIN | POP => number::parse(s, at),
+        _ => Number {
+            value: 0,
+            next: NOWHERE,
+        },
     }
 }
 
-// An event that begins with a bond.
-fn parse_bonded(s: &[u8], at: usize, extends: bool) -> Parsed {
-    match bond::parse(s, at) {
-        Bond::Kind(b, next) => {
-            if extends {
-                return parse_extend(s, next, b);
-            }
-            parse_join(s, next, b)
-        }
-        Bond::Bad => bad(),
+// The event at a place, with the place after the `;` that follows it. The last one has none, and is followed by the text's end.
+pub fn parse(s: &[u8], at: usize) -> Event {
+    let letter = peek(s, at);
+    let b = bond_of(letter, s, after(at));
+    let k = kind_of(letter, s, b.next);
+    let n = number_of(letter, s, k.next);
+    let bond = b.kind;
+    let kind = k.kind;
+    Event {
+        letter,
+        bond,
+        kind,
+        number: n.value,
+        next: pass_or_end(s, n.next, b';'),
     }
-}
-
-fn parse_one(s: &[u8], at: usize) -> Parsed {
-    match peek(s, at) {
-        b'r' => parse_root(s, after(at)),
-        b'x' => parse_bonded(s, after(at), true),
-        b'j' => parse_bonded(s, after(at), false),
-        b'p' => parse_pop(s, after(at)),
-        _ => bad(),
-    }
-}
-
-// The event at a place, with the place after the `;` that follows it. The last one has no `;`, and is followed by the
-// text's end.
-pub fn parse(s: &[u8], at: usize) -> Parsed {
-    let parsed = parse_one(s, at);
-    let next = parsed.next;
-    if next == s.len() {
-        return parsed;
-    }
-    if peek(s, next) == b';' {
-        let event = parsed.event;
-        return Parsed {
-            event,
-            next: after(next),
-        };
-    }
-    bad()
 }

@@ -6,21 +6,23 @@
 //
 // A parser looks at a place of a text and answers what it found with the place after it. Where the text has something
 // else there, that place is `byte::NOWHERE`: whatever is looked for at it is missing too, so parsers can be chained, and
-// one test at the end tells whether all of it was there. A bond or a kind that is not there is `Bad`.
+// one test at the end tells whether all of it was there.
 //
 // byte: a byte at a place, and what holds of places.
+// list: words in one text.
 // number: a plain number.
 // text: any bytes, escaped.
 // bond: a bond's kind.
 // event: an event of a builder or a writer.
-// kind: an atom's kind. symbol, configuration and field: the fields of a bracket atom; organic: the atoms without one.
+// kind: an atom's kind. symbol and field: the fields of a bracket atom.
+// operation: what a request asks.
 pub mod bond;
 pub mod byte;
-mod configuration;
 pub mod event;
-pub mod field;
+mod field;
 pub mod kind;
+pub mod list;
 pub mod number;
-mod organic;
+pub mod operation;
 mod symbol;
 pub mod text;

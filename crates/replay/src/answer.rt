@@ -1,7 +1,8 @@
 // Our answer to a request, in the form that the oracle has for it.
 ghost use Prim.Native.Nat.{_≤_};
 ghost use lib.ListN.{length};
-use crate::slices::find;
+use oracle_form::byte::find;
+use oracle_form::operation;
 
 // Lays the answer from the output's first byte on, and answers its length, 0 where the request is unknown. `text` is room
 // to work in.
@@ -12,7 +13,7 @@ pub fn answer(request: &[u8], out: &mut [u8], text: &mut [u8]) -> usize
     if request.len() <= end {
         return 0;
     }
-    let operation = &request[0..end];
+    let operation = operation::named(&request[0..end]);
     let arguments = &request[end + 1..];
     let n = replay_read::answer(operation, arguments, out, text);
     if n > 0 {

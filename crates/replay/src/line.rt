@@ -2,10 +2,10 @@
 ghost use Prim.Native.Nat.{_≤_};
 ghost use lib.ListN.{length};
 use crate::answer::answer;
-use crate::slices::find;
 use crate::tally::Tally;
 use check::same;
 use libc::STDOUT_FILENO;
+use oracle_form::byte::find;
 
 // How many lines of a list that differ are shown.
 const SHOWN: usize = 20;

@@ -5,10 +5,10 @@ ghost use lib.ListN.{length};
 ghost use Rattle.replay.specs.Steps.{heldAfter};
 use crate::line::give_up;
 use crate::line::judge;
-use crate::slices::find;
 use crate::slices::move_to_front;
 use crate::tally::Tally;
 use libc::STDOUT_FILENO;
+use oracle_form::byte::find;
 
 // How far the reading has come.
 struct Progress {

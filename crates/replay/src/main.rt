@@ -1,7 +1,7 @@
 // Replays lists of answers. Each argument names a list that the oracle made: for each of its lines our own answer to the
 // request is computed and compared, byte for byte, with the one that is listed. oracle/README.md describes the lists.
 //
-// slices: what is asked of a slice of bytes.
+// slices: bytes moved within a slice.
 // tally: what came of the lines so far.
 // answer: our answer to a request, which replay_read or replay_write has.
 // line: a list's line judged.

@@ -1,16 +1,16 @@
 // Requests about bonds: `spellbond` and `reverse` of one, `reconcile` of two.
 ghost use Prim.Native.Nat.{_≤_};
 ghost use lib.ListN.{length};
-use check::same;
+use crate::say;
+use crate::say::say;
 use feature::bond_kind::BondKind;
 use feature::bond_kind::Reconciled;
 use feature::bond_kind::reconcile;
 use feature::bond_kind::reverse;
 use oracle_form::bond;
-use oracle_form::bond::Bond;
 use oracle_form::byte::pass;
 use oracle_form::byte::put;
-use oracle_form::byte::put_word;
+use oracle_form::operation;
 use oracle_form::text;
 use spell::spell_bond;
 
@@ -34,45 +34,35 @@ fn print_reconciled(out: &mut [u8], r: Reconciled) -> usize
             let at = put(out, at, b' ');
             bond::print(out, at, right)
         }
-        Reconciled::Fails => put_word(out, 0, b"fails"),
+        Reconciled::Fails => say(out, say::FAILS),
     }
 }
 
-fn answer_of_one(operation: &[u8], k: BondKind, out: &mut [u8]) -> usize
+// Of a first bond and of the one at a place.
+fn answer_of_two(left: BondKind, arguments: &[u8], at: usize, out: &mut [u8]) -> usize
     ensures { λ r. ⌜ r ≤ length (now (out .exit)) ⌝ }
 {
-    if same(operation, b"spellbond") {
-        return print_spelling(out, k);
+    let parsed = bond::parse(arguments, at);
+    if parsed.next != arguments.len() {
+        return 0;
     }
-    if same(operation, b"reverse") {
+    let right = parsed.kind;
+    print_reconciled(out, reconcile(left, right))
+}
+
+pub fn answer(operation: usize, arguments: &[u8], out: &mut [u8]) -> usize
+    ensures { λ r. ⌜ r ≤ length (now (out .exit)) ⌝ }
+{
+    let parsed = bond::parse(arguments, 0);
+    let k = parsed.kind;
+    if operation == operation::RECONCILE {
+        return answer_of_two(k, arguments, pass(arguments, parsed.next, b' '), out);
+    }
+    if parsed.next != arguments.len() {
+        return 0;
+    }
+    if operation == operation::REVERSE {
         return bond::print(out, 0, reverse(k));
     }
-    0
-}
-
-fn answer_of_two(operation: &[u8], left: BondKind, right: BondKind, out: &mut [u8]) -> usize
-    ensures { λ r. ⌜ r ≤ length (now (out .exit)) ⌝ }
-{
-    if same(operation, b"reconcile") {
-        return print_reconciled(out, reconcile(left, right));
-    }
-    0
-}
-
-pub fn answer(operation: &[u8], arguments: &[u8], out: &mut [u8]) -> usize
-    ensures { λ r. ⌜ r ≤ length (now (out .exit)) ⌝ }
-{
-    let Bond::Kind(left, next) = bond::parse(arguments, 0) else {
-        return 0;
-    };
-    if next == arguments.len() {
-        return answer_of_one(operation, left, out);
-    }
-    let Bond::Kind(right, end) = bond::parse(arguments, pass(arguments, next, b' ')) else {
-        return 0;
-    };
-    if end == arguments.len() {
-        return answer_of_two(operation, left, right, out);
-    }
-    0
+    print_spelling(out, k)
 }

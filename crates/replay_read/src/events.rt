@@ -3,6 +3,8 @@
 ghost use Prim.Native.Nat.{_≤_};
 ghost use lib.ListN.{length};
 use crate::lines::print_answer;
+use crate::say;
+use crate::say::say;
 use answer_text::desk::print_said;
 use builder::build::build;
 use builder::builder::Builder;
@@ -10,13 +12,12 @@ use builder::builder::ENTRY_WORDS;
 use builder::builder::extend;
 use builder::builder::join;
 use builder::builder::root;
-use check::same;
 use desk_answer::Said;
 use desk_answer::alone;
 use desk_answer::with_one;
 use desk_numbers::NO_ATOM;
+use oracle_form::byte::NOWHERE;
 use oracle_form::byte::put;
-use oracle_form::byte::put_word;
 use oracle_form::event;
 use oracle_form::event::Event;
 use oracle_form::number;
@@ -39,8 +40,11 @@ fn take(
     path: &mut [u32],
     rings: &mut [u32],
     b: Builder,
-    event: Event,
+    e: Event,
 ) -> Builder {
+    if e.next == NOWHERE {
+        return b.refused(UNREADABLE, 0);
+    }
     if ENOUGH < b.atoms {
         return b.refused(UNREADABLE, 0);
     }
@@ -53,18 +57,20 @@ fn take(
     if ENOUGH < b.joins {
         return b.refused(UNREADABLE, 0);
     }
+    let k = e.kind;
+    let bond = e.bond;
     let held = b.atoms;
-    match event {
-        Event::Root(k) => root(atoms, path, b, k, held),
-        Event::Extend(bond, k) => extend(atoms, entries, path, b, bond, k, held),
-        Event::Join(bond, n) => {
-            if RING_NUMBER_COUNT <= n {
+    let letter = e.letter;
+    match letter {
+        event::ROOT => root(atoms, path, b, k, held),
+        event::EXTEND => extend(atoms, entries, path, b, bond, k, held),
+        event::JOIN => {
+            if RING_NUMBER_COUNT <= e.number {
                 return b.refused(UNREADABLE, 0);
             }
-            join(entries, path, rings, b, bond, n, held)
+            join(entries, path, rings, b, bond, e.number, held)
         }
-        Event::Pop(n) => b.pop(n),
-        Event::Bad => b.refused(UNREADABLE, 0),
+        _ => b.pop(e.number),
     }
 }
 
@@ -91,10 +97,9 @@ fn run(
             return Ran { events, b };
         }
         events += 1;
-        let parsed = event::parse(s, at);
-        let event = parsed.event;
-        b = take(atoms, entries, path, rings, b, event);
-        at = parsed.next;
+        let e = event::parse(s, at);
+        at = e.next;
+        b = take(atoms, entries, path, rings, b, e);
         if b.refusal != 0 {
             return Ran { events, b };
         }
@@ -121,18 +126,15 @@ fn print_refused(out: &mut [u8], ran: Ran) -> usize
     if ran.events == 0 {
         return 0;
     }
-    let at = put_word(out, 0, b"refused ");
+    let at = say(out, say::REFUSED_AT);
     let at = number::print(out, at, ran.events - 1);
     let at = put(out, at, b' ');
     print_said(out, at, refusal_of(b))
 }
 
-pub fn answer(operation: &[u8], arguments: &[u8], out: &mut [u8]) -> usize
+pub fn answer(arguments: &[u8], out: &mut [u8]) -> usize
     ensures { λ r. ⌜ r ≤ length (now (out .exit)) ⌝ }
 {
-    if !same(operation, b"builder") {
-        return 0;
-    }
     let mut atoms = [0u32; ATOMS * ATOM_WORDS];
     let mut bonds = [0u32; BONDS * BOND_WORDS];
     let mut entries = [0u32; BONDS * ENTRY_WORDS];

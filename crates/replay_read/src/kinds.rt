@@ -1,16 +1,16 @@
 // Requests about an atom's kind: `spell`, `invert`, `targets` and `aromatic`.
 ghost use Prim.Native.Nat.{_≤_};
 ghost use lib.ListN.{length};
-use check::same;
+use crate::say;
+use crate::say::say;
 use feature::atom_kind::AtomKind;
 use feature::atom_kind::Inverted;
 use feature::atom_kind::invert;
 use feature::element;
 use oracle_form::byte::put;
-use oracle_form::byte::put_word;
 use oracle_form::kind;
-use oracle_form::kind::Kind;
 use oracle_form::number;
+use oracle_form::operation;
 use oracle_form::text;
 use spell::spell_atom;
 use targets::Valences;
@@ -32,7 +32,7 @@ fn print_inverted(out: &mut [u8], i: Inverted) -> usize
 {
     match i {
         Inverted::Turned(k) => kind::print(out, 0, k),
-        Inverted::Refused => put_word(out, 0, b"refused"),
+        Inverted::Refused => say(out, say::REFUSED),
     }
 }
 
@@ -62,45 +62,33 @@ fn print_targets(out: &mut [u8], v: Valences) -> usize
     }
 }
 
-// Whether the kind is written as aromatic.
-fn is_aromatic(k: AtomKind) -> bool {
+// Whether the kind is written as aromatic, in a word.
+fn is_aromatic(k: AtomKind) -> usize {
     match k {
-        AtomKind::Star => false,
-        AtomKind::Aliphatic(_) => false,
-        AtomKind::Aromatic(_) => true,
-        AtomKind::Bracket(b) => element::AROMATIC <= b.symbol,
+        AtomKind::Star => say::NO,
+        AtomKind::Aliphatic(_) => say::NO,
+        AtomKind::Aromatic(_) => say::YES,
+        AtomKind::Bracket(b) => {
+            if b.symbol < element::AROMATIC {
+                return say::NO;
+            }
+            say::YES
+        }
     }
 }
 
-fn print_is(out: &mut [u8], is: bool) -> usize
+pub fn answer(operation: usize, arguments: &[u8], out: &mut [u8]) -> usize
     ensures { λ r. ⌜ r ≤ length (now (out .exit)) ⌝ }
 {
-    if is {
-        return put_word(out, 0, b"yes");
-    }
-    put_word(out, 0, b"no")
-}
-
-pub fn answer(operation: &[u8], arguments: &[u8], out: &mut [u8]) -> usize
-    ensures { λ r. ⌜ r ≤ length (now (out .exit)) ⌝ }
-{
-    let Kind::Is(k, end) = kind::parse(arguments, 0) else {
-        return 0;
-    };
-    if end != arguments.len() {
+    let parsed = kind::parse(arguments, 0);
+    if parsed.next != arguments.len() {
         return 0;
     }
-    if same(operation, b"spell") {
-        return print_spelling(out, k);
+    let k = parsed.kind;
+    match operation {
+        operation::SPELL => print_spelling(out, k),
+        operation::INVERT => print_inverted(out, invert(k)),
+        operation::TARGETS => print_targets(out, targets(k)),
+        _ => say(out, is_aromatic(k)),
     }
-    if same(operation, b"invert") {
-        return print_inverted(out, invert(k));
-    }
-    if same(operation, b"targets") {
-        return print_targets(out, targets(k));
-    }
-    if same(operation, b"aromatic") {
-        return print_is(out, is_aromatic(k));
-    }
-    0
 }

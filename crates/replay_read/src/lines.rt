@@ -1,15 +1,17 @@
 // Requests about a line: `read` and `readbytes`, its graph, and `readin A B`, the same into tables of A and B words.
 ghost use Prim.Native.Nat.{_≤_};
 ghost use lib.ListN.{length};
+use crate::say;
+use crate::say::say;
 use answer_text::desk::print_said;
+use answer_text::tables::least;
 use answer_text::tables::print_graph;
-use check::same;
 use desk_answer::of_read;
 use desk_numbers::DONE;
 use oracle_form::byte::pass;
 use oracle_form::byte::put;
-use oracle_form::byte::put_word;
 use oracle_form::number;
+use oracle_form::operation;
 use oracle_form::text;
 use read::Answer;
 use read::read;
@@ -50,15 +52,21 @@ fn blank_from(table: &[u32], from: usize) -> bool {
     true
 }
 
-// What a reading leaves in the tables, of records: those of a graph, or none.
+// What a reading leaves in the tables, of words: those of a graph, or none.
 struct Counts {
     atoms: usize,
     bonds: usize,
 }
 
+// No graph has more.
+const MOST: usize = 1_000_000;
+
 fn left_by(a: Answer) -> Counts {
     match a {
-        Answer::Done(n, m) => Counts { atoms: n, bonds: m },
+        Answer::Done(n, m) => Counts {
+            atoms: least(n, MOST) * ATOM_WORDS,
+            bonds: least(m, MOST) * BOND_WORDS,
+        },
         _ => Counts { atoms: 0, bonds: 0 },
     }
 }
@@ -69,11 +77,11 @@ fn answer_in(out: &mut [u8], line: &[u8], atoms: &mut [u32], bonds: &mut [u32]) 
 {
     let a = read(line, atoms, bonds);
     let c = left_by(a);
-    if ATOMS < c.atoms || !blank_from(atoms, c.atoms * ATOM_WORDS) {
-        return put_word(out, 0, b"atoms not blank");
+    if !blank_from(atoms, c.atoms) {
+        return say(out, say::ATOMS_LEFT);
     }
-    if BONDS < c.bonds || !blank_from(bonds, c.bonds * BOND_WORDS) {
-        return put_word(out, 0, b"bonds not blank");
+    if !blank_from(bonds, c.bonds) {
+        return say(out, say::BONDS_LEFT);
     }
     print_answer(out, a, atoms, bonds)
 }
@@ -113,21 +121,18 @@ fn answer_within(arguments: &[u8], out: &mut [u8], room: &mut [u8]) -> usize
     answer_from(arguments, at, a.value, b.value, out, room)
 }
 
-pub fn answer(operation: &[u8], arguments: &[u8], out: &mut [u8], room: &mut [u8]) -> usize
+pub fn answer(operation: usize, arguments: &[u8], out: &mut [u8], room: &mut [u8]) -> usize
     ensures { λ r. ⌜ r ≤ length (now (out .exit)) ⌝ }
 {
-    if same(operation, b"read") || same(operation, b"readbytes") {
-        return answer_from(
-            arguments,
-            0,
-            ATOMS * ATOM_WORDS,
-            BONDS * BOND_WORDS,
-            out,
-            room,
-        );
-    }
-    if same(operation, b"readin") {
+    if operation == operation::READ_IN {
         return answer_within(arguments, out, room);
     }
-    0
+    answer_from(
+        arguments,
+        0,
+        ATOMS * ATOM_WORDS,
+        BONDS * BOND_WORDS,
+        out,
+        room,
+    )
 }

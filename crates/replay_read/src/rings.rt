@@ -1,7 +1,6 @@
 // Requests about a ring number: `spellrnum`.
 ghost use Prim.Native.Nat.{_≤_};
 ghost use lib.ListN.{length};
-use check::same;
 use oracle_form::number;
 use oracle_form::text;
 use spell::spell_rnum;
@@ -18,7 +17,7 @@ fn print_spelling(out: &mut [u8], n: u32) -> usize
     text::print(out, 0, &spelling[0..m])
 }
 
-pub fn answer(operation: &[u8], arguments: &[u8], out: &mut [u8]) -> usize
+pub fn answer(arguments: &[u8], out: &mut [u8]) -> usize
     ensures { λ r. ⌜ r ≤ length (now (out .exit)) ⌝ }
 {
     let n = number::parse(arguments, 0);
@@ -28,8 +27,5 @@ pub fn answer(operation: &[u8], arguments: &[u8], out: &mut [u8]) -> usize
     if HIGHEST < n.value {
         return 0;
     }
-    if same(operation, b"spellrnum") {
-        return print_spelling(out, n.value as u32);
-    }
-    0
+    print_spelling(out, n.value as u32)
 }

@@ -1,12 +1,13 @@
 // Requests about a text: `atom`, `rnum` and `bond`, what is at its start.
 ghost use Prim.Native.Nat.{_≤_};
 ghost use lib.ListN.{length};
-use check::same;
+use crate::say;
+use crate::say::say;
 use oracle_form::bond;
 use oracle_form::byte::put;
-use oracle_form::byte::put_word;
 use oracle_form::kind;
 use oracle_form::number;
+use oracle_form::operation;
 use oracle_form::text;
 use read_atom::read_atom::read_atom;
 use read_token::read_bond::Bond;
@@ -20,12 +21,20 @@ fn print_missing(out: &mut [u8], m: Missing) -> usize
     ensures { λ r. ⌜ r ≤ length (now (out .exit)) ⌝ }
 {
     match m {
-        Missing::EndOfLine => put_word(out, 0, b"end"),
+        Missing::EndOfLine => say(out, say::END),
         Missing::Character(place) => {
-            let at = put_word(out, 0, b"character ");
+            let at = say(out, say::CHARACTER);
             number::print(out, at, place)
         }
     }
+}
+
+// The place after what was found.
+fn print_next(out: &mut [u8], at: usize, next: usize) -> usize
+    ensures { λ r. ⌜ r ≤ length (now (out .exit)) ⌝ }
+{
+    let at = put(out, at, b' ');
+    number::print(out, at, next)
 }
 
 fn print_atom(out: &mut [u8], f: Found) -> usize
@@ -33,12 +42,11 @@ fn print_atom(out: &mut [u8], f: Found) -> usize
 {
     match f {
         Found::Atom(k, next) => {
-            let at = put_word(out, 0, b"atom ");
+            let at = say(out, say::ATOM);
             let at = kind::print(out, at, k);
-            let at = put(out, at, b' ');
-            number::print(out, at, next)
+            print_next(out, at, next)
         }
-        Found::Nothing => put_word(out, 0, b"none"),
+        Found::Nothing => say(out, say::NONE),
         Found::Lacks(m) => print_missing(out, m),
     }
 }
@@ -48,12 +56,11 @@ fn print_rnum(out: &mut [u8], r: Ring) -> usize
 {
     match r {
         Ring::Number(n, next) => {
-            let at = put_word(out, 0, b"rnum ");
+            let at = say(out, say::RNUM);
             let at = number::print(out, at, n as usize);
-            let at = put(out, at, b' ');
-            number::print(out, at, next)
+            print_next(out, at, next)
         }
-        Ring::Nothing => put_word(out, 0, b"none"),
+        Ring::Nothing => say(out, say::NONE),
         Ring::Lacks(m) => print_missing(out, m),
     }
 }
@@ -61,14 +68,13 @@ fn print_rnum(out: &mut [u8], r: Ring) -> usize
 fn print_bond(out: &mut [u8], b: Bond) -> usize
     ensures { λ r. ⌜ r ≤ length (now (out .exit)) ⌝ }
 {
-    let at = put_word(out, 0, b"bond ");
+    let at = say(out, say::BOND);
     let k = b.kind;
     let at = bond::print(out, at, k);
-    let at = put(out, at, b' ');
-    number::print(out, at, b.next)
+    print_next(out, at, b.next)
 }
 
-pub fn answer(operation: &[u8], arguments: &[u8], out: &mut [u8], room: &mut [u8]) -> usize
+pub fn answer(operation: usize, arguments: &[u8], out: &mut [u8], room: &mut [u8]) -> usize
     ensures { λ r. ⌜ r ≤ length (now (out .exit)) ⌝ }
 {
     let n = text::parse(arguments, 0, room);
@@ -76,14 +82,9 @@ pub fn answer(operation: &[u8], arguments: &[u8], out: &mut [u8], room: &mut [u8
         return 0;
     }
     let line = &room[0..n];
-    if same(operation, b"atom") {
-        return print_atom(out, read_atom(line, 0));
+    match operation {
+        operation::ATOM => print_atom(out, read_atom(line, 0)),
+        operation::RNUM => print_rnum(out, read_rnum(line, 0)),
+        _ => print_bond(out, read_bond(line, 0)),
     }
-    if same(operation, b"rnum") {
-        return print_rnum(out, read_rnum(line, 0));
-    }
-    if same(operation, b"bond") {
-        return print_bond(out, read_bond(line, 0));
-    }
-    0
 }

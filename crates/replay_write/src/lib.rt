@@ -3,11 +3,11 @@
 // tables: a graph parsed into tables.
 // words: plain words parsed into a table.
 // blank: whether lent room holds zeros only.
-// lines, orders, pieces, pairs and reasons: the requests by what they are about. Each group answers 0 bytes where the operation is
-// none of its own or the arguments cannot be read, and then the next one is asked. No answer is empty, so 0 in the end
-// says that none of them knows the request.
+// say: the words of answers.
+// lines, orders, pieces, pairs and reasons: the requests by what they are about.
 ghost use Prim.Native.Nat.{_≤_};
 ghost use lib.ListN.{length};
+use oracle_form::operation;
 
 mod blank;
 mod lines;
@@ -15,28 +15,21 @@ mod orders;
 mod pairs;
 mod pieces;
 mod reasons;
+mod say;
 mod tables;
 mod words;
 
-// Lays the answer from the output's first byte on, and answers its length. `room` is room to work in.
-pub fn answer(operation: &[u8], arguments: &[u8], out: &mut [u8], room: &mut [u8]) -> usize
+// Lays the answer from the output's first byte on, and answers its length: 0, which no answer has, where the operation is none of
+// these or the arguments cannot be read. `room` is room to work in.
+pub fn answer(operation: usize, arguments: &[u8], out: &mut [u8], room: &mut [u8]) -> usize
     ensures { λ r. ⌜ r ≤ length (now (out .exit)) ⌝ }
 {
-    let n = lines::answer(operation, arguments, out, room);
-    if n > 0 {
-        return n;
+    match operation {
+        operation::WRITE..=operation::REWRITE => lines::answer(operation, arguments, out, room),
+        operation::ORDER => orders::answer(arguments, out),
+        operation::WRITER..=operation::WRITER_IN => pieces::answer(operation, arguments, out),
+        operation::POOL => pairs::answer(arguments, out),
+        operation::WHY => reasons::answer(arguments, out, room),
+        _ => 0,
     }
-    let n = orders::answer(operation, arguments, out);
-    if n > 0 {
-        return n;
-    }
-    let n = pieces::answer(operation, arguments, out);
-    if n > 0 {
-        return n;
-    }
-    let n = pairs::answer(operation, arguments, out);
-    if n > 0 {
-        return n;
-    }
-    reasons::answer(operation, arguments, out, room)
 }

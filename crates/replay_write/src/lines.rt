@@ -4,20 +4,21 @@
 ghost use Prim.Native.Nat.{_≤_};
 ghost use lib.ListN.{length};
 use crate::blank::are_blank_from;
+use crate::say;
+use crate::say::say;
 use crate::tables;
 use crate::tables::ATOM_TABLE;
 use crate::tables::BOND_TABLE;
 use crate::words;
 use answer_text::desk::print_said;
-use check::same;
 use desk_answer::Said;
 use desk_answer::of_read;
 use desk_answer::of_written;
 use desk_numbers::DONE;
 use oracle_form::byte::pass;
 use oracle_form::byte::put;
-use oracle_form::byte::put_word;
 use oracle_form::number;
+use oracle_form::operation;
 use oracle_form::text;
 use read::read;
 use table::limits::ATOMS;
@@ -53,10 +54,10 @@ fn answer_in(
     let s = of_written(write(atoms, n, bonds, m, line));
     let end = left_by(s);
     if line.len() < end {
-        return put_word(out, 0, b"longer than the output");
+        return say(out, 0, say::LONGER);
     }
     if !are_blank_from(line, end) {
-        return put_word(out, 0, b"output not blank");
+        return say(out, 0, say::OUTPUT_LEFT);
     }
     let at = print_said(out, 0, s);
     if s.no != DONE {
@@ -160,20 +161,13 @@ fn answer_text(arguments: &[u8], out: &mut [u8], room: &mut [u8]) -> usize
     answer_within(out, &atoms, s.first, &bonds, s.second, LINE)
 }
 
-pub fn answer(operation: &[u8], arguments: &[u8], out: &mut [u8], room: &mut [u8]) -> usize
+pub fn answer(operation: usize, arguments: &[u8], out: &mut [u8], room: &mut [u8]) -> usize
     ensures { λ r. ⌜ r ≤ length (now (out .exit)) ⌝ }
 {
-    if same(operation, b"write") {
-        return answer_graph(arguments, 0, LINE, out);
+    match operation {
+        operation::WRITE => answer_graph(arguments, 0, LINE, out),
+        operation::WRITE_IN => answer_room(arguments, out),
+        operation::WRITE_WORDS => answer_words(arguments, out),
+        _ => answer_text(arguments, out, room),
     }
-    if same(operation, b"writein") {
-        return answer_room(arguments, out);
-    }
-    if same(operation, b"writewords") {
-        return answer_words(arguments, out);
-    }
-    if same(operation, b"rewrite") {
-        return answer_text(arguments, out, room);
-    }
-    0
 }

@@ -2,17 +2,17 @@
 ghost use Prim.Native.Nat.{_≤_};
 ghost use lib.ListN.{length};
 use crate::blank::is_blank_from;
+use crate::say;
+use crate::say::say;
 use crate::tables;
 use crate::tables::ATOM_TABLE;
 use crate::tables::BOND_TABLE;
 use answer_text::desk::print_said;
 use answer_text::order::print_order;
-use check::same;
 use desk_answer::Said;
 use desk_answer::of_written;
 use desk_numbers::DONE;
 use oracle_form::byte::put;
-use oracle_form::byte::put_word;
 use table::limits::ATOMS;
 use write::order::order;
 
@@ -40,7 +40,7 @@ fn print_left(
 {
     let n = left_by(s);
     if !is_blank_from(walked, n) || !is_blank_from(number, n) || !is_blank_from(back, n) {
-        return put_word(out, 0, b"tables not blank");
+        return say(out, 0, say::TABLES_LEFT);
     }
     let at = print_said(out, 0, s);
     if s.no != DONE {
@@ -50,12 +50,9 @@ fn print_left(
     print_order(out, at, atoms, n, walked, number, back)
 }
 
-pub fn answer(operation: &[u8], arguments: &[u8], out: &mut [u8]) -> usize
+pub fn answer(arguments: &[u8], out: &mut [u8]) -> usize
     ensures { λ r. ⌜ r ≤ length (now (out .exit)) ⌝ }
 {
-    if !same(operation, b"order") {
-        return 0;
-    }
     let mut atoms = [0u32; ATOM_TABLE];
     let mut bonds = [0u32; BOND_TABLE];
     let mut walked = [OTHER; ATOMS];

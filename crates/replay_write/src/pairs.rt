@@ -2,15 +2,16 @@
 // other. A refusal ends them; without a pair there is a `-`.
 ghost use Prim.Native.Nat.{_≤_};
 ghost use lib.ListN.{length};
-use check::same;
+use crate::say;
+use crate::say::say;
 use join_pool::Given;
 use join_pool::PAIRS;
 use join_pool::Pool;
 use join_pool::hit;
 use oracle_form::byte::NOWHERE;
 use oracle_form::byte::pass;
+use oracle_form::byte::pass_or_end;
 use oracle_form::byte::put;
-use oracle_form::byte::put_word;
 use oracle_form::number;
 
 // The highest word.
@@ -31,14 +32,6 @@ fn missing() -> Pair {
     }
 }
 
-// The place after a pair's `,`, or the text's end.
-fn pass_comma(s: &[u8], at: usize) -> usize {
-    if at == s.len() {
-        return at;
-    }
-    pass(s, at, b',')
-}
-
 fn parse_pair(s: &[u8], at: usize) -> Pair {
     let left = number::parse(s, at);
     let right = number::parse(s, pass(s, left.next, b'-'));
@@ -51,7 +44,7 @@ fn parse_pair(s: &[u8], at: usize) -> Pair {
     Pair {
         left: left.value as u32,
         right: right.value as u32,
-        next: pass_comma(s, right.next),
+        next: pass_or_end(s, right.next, b','),
     }
 }
 
@@ -85,7 +78,7 @@ fn print_numbers(out: &mut [u8], s: &[u8], pairs: &mut [u32]) -> usize
         }
         next = print_mark(out, next);
         let Given::Number(after, n) = hit(pairs, pool, pair.left, pair.right) else {
-            return put_word(out, next, b"refused");
+            return say(out, next, say::REFUSED);
         };
         next = number::print(out, next, n as usize);
         pool = after;
@@ -95,12 +88,9 @@ fn print_numbers(out: &mut [u8], s: &[u8], pairs: &mut [u32]) -> usize
     next
 }
 
-pub fn answer(operation: &[u8], arguments: &[u8], out: &mut [u8]) -> usize
+pub fn answer(arguments: &[u8], out: &mut [u8]) -> usize
     ensures { λ r. ⌜ r ≤ length (now (out .exit)) ⌝ }
 {
-    if !same(operation, b"pool") {
-        return 0;
-    }
     if arguments.len() == 0 {
         return put(out, 0, b'-');
     }

@@ -2,18 +2,21 @@
 // `writerin ROOM PIECES EVENTS`, the same with room for so many bytes and pieces. The first refused event ends them.
 ghost use Prim.Native.Nat.{_≤_};
 ghost use lib.ListN.{length};
+use crate::say;
+use crate::say::say;
 use answer_text::desk::print_said;
-use check::same;
 use desk_answer::Said;
 use desk_answer::alone;
 use desk_answer::of_writer;
+use desk_answer::with_one;
 use desk_numbers::DONE;
+use oracle_form::byte::NOWHERE;
 use oracle_form::byte::pass;
 use oracle_form::byte::put;
-use oracle_form::byte::put_word;
 use oracle_form::event;
 use oracle_form::event::Event;
 use oracle_form::number;
+use oracle_form::operation;
 use oracle_form::text;
 use table::limits::ATOMS;
 use table::limits::BONDS;
@@ -25,8 +28,6 @@ const LINE: usize = 24 * ATOMS + 4 * BONDS;
 const PIECES: usize = ATOMS + 1;
 // The highest ring number.
 const HIGHEST: usize = 99;
-// What no count of a writer exceeds.
-const ENOUGH: usize = 1_000_000;
 // A request that cannot be read. No refusal of the desk has this number.
 const UNREADABLE: u32 = 99;
 
@@ -51,24 +52,23 @@ fn unreadable(w: Writer) -> Told {
     }
 }
 
-fn take(line: &mut [u8], starts: &mut [u32], w: Writer, event: Event) -> Told {
-    if ENOUGH < w.pieces {
+fn take(line: &mut [u8], starts: &mut [u32], w: Writer, e: Event) -> Told {
+    if e.next == NOWHERE {
         return unreadable(w);
     }
-    if ENOUGH < w.len {
-        return unreadable(w);
-    }
-    match event {
-        Event::Root(k) => tell(w, desk_writer::root(line, starts, w, k)),
-        Event::Extend(b, k) => tell(w, desk_writer::extend(line, starts, w, b, k)),
-        Event::Join(b, n) => {
-            if HIGHEST < n {
+    let b = e.bond;
+    let k = e.kind;
+    let letter = e.letter;
+    match letter {
+        event::ROOT => tell(w, desk_writer::root(line, starts, w, k)),
+        event::EXTEND => tell(w, desk_writer::extend(line, starts, w, b, k)),
+        event::JOIN => {
+            if HIGHEST < e.number {
                 return unreadable(w);
             }
-            tell(w, desk_writer::join(line, starts, w, b, n as u32))
+            tell(w, desk_writer::join(line, starts, w, b, e.number as u32))
         }
-        Event::Pop(d) => tell(w, desk_writer::pop(line, starts, w, d)),
-        Event::Bad => unreadable(w),
+        _ => tell(w, desk_writer::pop(line, starts, w, e.number)),
     }
 }
 
@@ -81,7 +81,7 @@ struct Ran {
 fn run(s: &[u8], from: usize, line: &mut [u8], starts: &mut [u32]) -> Ran {
     let mut told = Told {
         w: Writer { pieces: 0, len: 0 },
-        said: alone(DONE),
+        said: with_one(DONE, 0),
     };
     let mut at = from;
     let mut events = 0;
@@ -91,10 +91,9 @@ fn run(s: &[u8], from: usize, line: &mut [u8], starts: &mut [u32]) -> Ran {
             return Ran { events, told };
         }
         events += 1;
-        let parsed = event::parse(s, at);
-        let event = parsed.event;
-        told = take(line, starts, told.w, event);
-        at = parsed.next;
+        let e = event::parse(s, at);
+        at = e.next;
+        told = take(line, starts, told.w, e);
         if told.said.no != DONE {
             return Ran { events, told };
         }
@@ -112,22 +111,21 @@ fn print_refused(out: &mut [u8], events: usize, s: Said) -> usize
     if events == 0 {
         return 0;
     }
-    let at = put_word(out, 0, b"refused ");
+    let at = say(out, 0, say::REFUSED_AT);
     let at = number::print(out, at, events - 1);
     let at = put(out, at, b' ');
     print_said(out, at, s)
 }
 
 // The line that a writer holds.
-fn print_line(out: &mut [u8], w: Writer, line: &[u8]) -> usize
+fn print_line(out: &mut [u8], s: Said, line: &[u8]) -> usize
     ensures { λ r. ⌜ r ≤ length (now (out .exit)) ⌝ }
 {
-    let len = w.len;
+    let len = s.first;
     if line.len() < len {
-        return put_word(out, 0, b"longer than the output");
+        return say(out, 0, say::LONGER);
     }
-    let at = put_word(out, 0, b"0 ");
-    let at = number::print(out, at, len);
+    let at = print_said(out, 0, s);
     let at = put(out, at, b' ');
     text::print(out, at, &line[0..len])
 }
@@ -141,7 +139,7 @@ fn answer_in(out: &mut [u8], s: &[u8], at: usize, line: &mut [u8], starts: &mut 
     if told.said.no != DONE {
         return print_refused(out, ran.events, told.said);
     }
-    print_line(out, told.w, line)
+    print_line(out, told.said, line)
 }
 
 // The same with room for so many bytes and pieces.
@@ -171,14 +169,11 @@ fn answer_within(arguments: &[u8], out: &mut [u8]) -> usize
     answer_from(arguments, at, bytes.value, pieces.value, out)
 }
 
-pub fn answer(operation: &[u8], arguments: &[u8], out: &mut [u8]) -> usize
+pub fn answer(operation: usize, arguments: &[u8], out: &mut [u8]) -> usize
     ensures { λ r. ⌜ r ≤ length (now (out .exit)) ⌝ }
 {
-    if same(operation, b"writer") {
-        return answer_from(arguments, 0, LINE, PIECES, out);
-    }
-    if same(operation, b"writerin") {
+    if operation == operation::WRITER_IN {
         return answer_within(arguments, out);
     }
-    0
+    answer_from(arguments, 0, LINE, PIECES, out)
 }

@@ -5,7 +5,6 @@ use crate::tables::ATOM_TABLE;
 use crate::tables::BOND_TABLE;
 use answer_text::words::place_of;
 use answer_text::words::print_words;
-use check::same;
 use desk_answer::Said;
 use desk_answer::of_read;
 use desk_answer::of_written;
@@ -44,12 +43,9 @@ fn print_place(out: &mut [u8], place: usize) -> usize
 }
 
 // A line that is not refused has no answer.
-pub fn answer(operation: &[u8], arguments: &[u8], out: &mut [u8], room: &mut [u8]) -> usize
+pub fn answer(arguments: &[u8], out: &mut [u8], room: &mut [u8]) -> usize
     ensures { λ r. ⌜ r ≤ length (now (out .exit)) ⌝ }
 {
-    if !same(operation, b"why") {
-        return 0;
-    }
     let n = text::parse(arguments, 0, room);
     if room.len() < n {
         return 0;

@@ -2,13 +2,11 @@
 // its kind and the number of its target. The empty text is the empty graph. A `?` is a record of zeros, which stands for
 // no atom and no bond.
 use oracle_form::bond;
-use oracle_form::bond::Bond;
 use oracle_form::byte::NOWHERE;
 use oracle_form::byte::after;
 use oracle_form::byte::pass;
 use oracle_form::byte::peek;
 use oracle_form::kind;
-use oracle_form::kind::Kind;
 use oracle_form::number;
 use packing::store;
 use packing::store_bond;
@@ -40,13 +38,12 @@ fn parse_kind(s: &[u8], at: usize, atoms: &mut [u32], word: usize) -> usize {
     if peek(s, at) == UNKNOWN {
         return after(at);
     }
-    match kind::parse(s, at) {
-        Kind::Is(k, next) => {
-            store(atoms, word, k);
-            next
-        }
-        Kind::Bad => NOWHERE,
+    let parsed = kind::parse(s, at);
+    let k = parsed.kind;
+    if parsed.next < NOWHERE {
+        store(atoms, word, k);
     }
+    parsed.next
 }
 
 // A bond entry, after its blank.
@@ -54,10 +51,9 @@ fn parse_bond(s: &[u8], at: usize, bonds: &mut [u32], word: usize) -> usize {
     if peek(s, at) == UNKNOWN {
         return after(at);
     }
-    let Bond::Kind(k, next) = bond::parse(s, at) else {
-        return NOWHERE;
-    };
-    let target = number::parse(s, next);
+    let parsed = bond::parse(s, at);
+    let k = parsed.kind;
+    let target = number::parse(s, parsed.next);
     if HIGHEST < target.value {
         return NOWHERE;
     }

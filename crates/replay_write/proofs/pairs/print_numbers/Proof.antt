@@ -7,10 +7,10 @@ use Rattle.replay_write.proofs.pairs.print_numbers.Statement.{statement
 use Rattle.replay_write.proofs.pairs.print_numbers.Tie as tie
 
 abbrev Inv-loop : tie.InvT-loop
-Inv-loop out₀ s pairs₀ pool₀ at₀ next₀ left₀ t11 out pairs pool at next left = (length out ≡ length out₀) × (length pairs ≡ length pairs₀) × (next ≤ length out)
+Inv-loop out₀ s pairs₀ pool₀ at₀ next₀ left₀ out pairs pool at next left = (length out ≡ length out₀) × (length pairs ≡ length pairs₀) × (next ≤ length out)
 
 abbrev μ-loop : tie.MeasureT-loop
-μ-loop out₀ s pairs₀ pool₀ at₀ next₀ left₀ t11 out pairs pool at next left = left
+μ-loop out₀ s pairs₀ pool₀ at₀ next₀ left₀ out pairs pool at next left = left
 
 empty-requires : tie.Need-empty-requires Inv-loop μ-loop
 empty-requires c κs = search needs
@@ -51,11 +51,8 @@ enum-known-after c = search needs
 enum-told : tie.Need-enum-told Inv-loop μ-loop
 enum-told c = search needs
 
-slice-aggregate-put-word : tie.Need-slice-aggregate-put-word Inv-loop μ-loop
-slice-aggregate-put-word c = search needs
-
-put-word-requires : tie.Need-put-word-requires Inv-loop μ-loop
-put-word-requires c κs = search needs
+say-requires : tie.Need-say-requires Inv-loop μ-loop
+say-requires c κs = search needs
 
 same-length-5 : tie.Need-same-length-5 Inv-loop μ-loop
 same-length-5 c = search needs
@@ -109,8 +106,7 @@ print-numbers-spec =
     hit-requires
     enum-known-after
     enum-told
-    slice-aggregate-put-word
-    put-word-requires
+    say-requires
     same-length-5
     same-length-6
     returns-3

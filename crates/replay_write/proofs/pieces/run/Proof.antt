@@ -12,8 +12,8 @@ Inv-loop s from line₀ starts₀ told₀ at₀ events₀ line starts told at ev
 abbrev μ-loop : tie.MeasureT-loop
 μ-loop s from line₀ starts₀ told₀ at₀ events₀ line starts told at events = length s - events
 
-alone-requires : tie.Need-alone-requires Inv-loop μ-loop
-alone-requires c κs = search needs
+with-one-requires : tie.Need-with-one-requires Inv-loop μ-loop
+with-one-requires c κs = search needs
 
 loop-holds : tie.Need-loop-holds Inv-loop μ-loop
 loop-holds c = search needs
@@ -66,7 +66,7 @@ run-spec =
     (tie.spec
     Inv-loop
     μ-loop
-    alone-requires
+    with-one-requires
     loop-holds
     same-length
     same-length-2

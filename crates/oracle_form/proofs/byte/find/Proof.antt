@@ -1,9 +1,9 @@
--- `replay::slices::find` meets its contract. Assumes nothing.
+-- `oracle_form::byte::find` meets its contract. Assumes nothing.
 use Prim.Native.Nat.{_≤_, _-_}
 use lib.ListN.{length}
 use borrow.Author.Needs.{needs}
-use Rattle.replay.proofs.slices.find.Statement.{statement}
-use Rattle.replay.proofs.slices.find.Tie as tie
+use Rattle.oracle_form.proofs.byte.find.Statement.{statement}
+use Rattle.oracle_form.proofs.byte.find.Tie as tie
 
 abbrev Inv-loop : tie.InvT-loop
 Inv-loop s start b i₀ i = (start ≤ i) × (i ≤ length s)
