@@ -169,33 +169,39 @@ fn put_bond(entries: &mut [u32], e: usize, source: u32, kind: u32, target: u32, 
 }
 
 // A new atom on the path; `held` is how many entries there are then.
-fn enter(atoms: &mut [u32], path: &mut [u32], b: Builder, k: AtomKind, held: usize) -> Builder
-    requires { ⌜ SmallCounts b ⌝ }
+fn enter(atoms: &mut [u32], path: &mut [u32], builder: Builder, k: AtomKind, held: usize) -> Builder
+    requires { ⌜ SmallCounts builder ⌝ }
     ensures { λ r. ⌜ ((e s : List ℕ) →
-        bld (now (atoms .exit)) e (now (path .exit)) s r ≡ entered (bld (now (atoms .entry)) e (now (path .entry)) s b) k held) ⌝ }
+        bld (now (atoms .exit)) e (now (path .exit)) s r ≡ entered (bld (now (atoms .entry)) e (now (path .entry)) s builder) k held) ⌝ }
 {
-    let mut b = b;
-    let n = b.atoms;
-    let top = b.top;
+    let mut builder = builder;
+    let n = builder.atoms;
+    let top = builder.top;
     store(atoms, n * ATOM_WORDS, k);
     poke(path, top, n as u32);
-    b.atoms = n + 1;
-    b.top = top + 1;
-    b.entries = held;
-    b
+    builder.atoms = n + 1;
+    builder.top = top + 1;
+    builder.entries = held;
+    builder
 }
 
 // A first atom of a component.
-pub fn root(atoms: &mut [u32], path: &mut [u32], b: Builder, k: AtomKind, place: usize) -> Builder
-    requires { ⌜ SmallCounts b ⌝ }
+pub fn root(
+    atoms: &mut [u32],
+    path: &mut [u32],
+    builder: Builder,
+    k: AtomKind,
+    place: usize,
+) -> Builder
+    requires { ⌜ SmallCounts builder ⌝ }
     ensures { λ r. ⌜ ((e s : List ℕ) →
-        bld (now (atoms .exit)) e (now (path .exit)) s r ≡ rootOf (bld (now (atoms .entry)) e (now (path .entry)) s b) k place) ⌝ }
+        bld (now (atoms .exit)) e (now (path .exit)) s r ≡ rootOf (bld (now (atoms .entry)) e (now (path .entry)) s builder) k place) ⌝ }
 {
-    if b.places <= b.atoms {
-        return b.refused(ATOM_ROOM, place);
+    if builder.places <= builder.atoms {
+        return builder.refused(ATOM_ROOM, place);
     }
-    let held = b.entries;
-    enter(atoms, path, b, k, held)
+    let held = builder.entries;
+    enter(atoms, path, builder, k, held)
 }
 
 // A new atom and the two entries of its bond.
@@ -203,19 +209,19 @@ fn attach(
     atoms: &mut [u32],
     entries: &mut [u32],
     path: &mut [u32],
-    b: Builder,
+    builder: Builder,
     k: BondKind,
     t: AtomKind,
 ) -> Builder
-    requires { ⌜ SmallCounts b × (0 < b .top) ⌝ }
+    requires { ⌜ SmallCounts builder × (0 < builder .top) ⌝ }
     ensures { λ r. ⌜ ((s : List ℕ) → bld (now (atoms .exit)) (now (entries .exit)) (now (path .exit)) s r
-        ≡ entered (bonded (bld (now (atoms .entry)) (now (entries .entry)) (now (path .entry)) s b) k) t (b .entries + 2)) ⌝ }
+        ≡ entered (bonded (bld (now (atoms .entry)) (now (entries .entry)) (now (path .entry)) s builder) k) t (builder .entries + 2)) ⌝ }
 {
-    let e = b.entries;
-    let n = b.atoms as u32;
-    let source = look(path, b.top - 1);
+    let e = builder.entries;
+    let n = builder.atoms as u32;
+    let source = look(path, builder.top - 1);
     put_bond(entries, e, source, code(k), n, code(reverse(k)));
-    enter(atoms, path, b, t, e + 2)
+    enter(atoms, path, builder, t, e + 2)
 }
 
 // A new atom, its mark turned, bonded to the current one.
@@ -223,28 +229,28 @@ pub fn extend(
     atoms: &mut [u32],
     entries: &mut [u32],
     path: &mut [u32],
-    b: Builder,
+    builder: Builder,
     k: BondKind,
     t: AtomKind,
     place: usize,
 ) -> Builder
-    requires { ⌜ SmallCounts b ⌝ }
+    requires { ⌜ SmallCounts builder ⌝ }
     ensures { λ r. ⌜ ((s : List ℕ) → bld (now (atoms .exit)) (now (entries .exit)) (now (path .exit)) s r
-        ≡ extendOf (bld (now (atoms .entry)) (now (entries .entry)) (now (path .entry)) s b) k t place) ⌝ }
+        ≡ extendOf (bld (now (atoms .entry)) (now (entries .entry)) (now (path .entry)) s builder) k t place) ⌝ }
 {
-    if b.top == 0 {
-        return b.refused(NO_ATOM, 0);
+    if builder.top == 0 {
+        return builder.refused(NO_ATOM, 0);
     }
-    if b.places <= b.atoms {
-        return b.refused(ATOM_ROOM, place);
+    if builder.places <= builder.atoms {
+        return builder.refused(ATOM_ROOM, place);
     }
-    if b.slots < b.entries + 2 {
-        return b.refused(BOND_ROOM, place);
+    if builder.slots < builder.entries + 2 {
+        return builder.refused(BOND_ROOM, place);
     }
-    let n = b.atoms;
+    let n = builder.atoms;
     match invert(t) {
-        Inverted::Refused => b.refused(INVERSION, n),
-        Inverted::Turned(turned) => attach(atoms, entries, path, b, k, turned),
+        Inverted::Refused => builder.refused(INVERSION, n),
+        Inverted::Turned(turned) => attach(atoms, entries, path, builder, k, turned),
     }
 }
 
@@ -253,19 +259,19 @@ fn open_ring(
     entries: &mut [u32],
     path: &[u32],
     rings: &mut [u32],
-    b: Builder,
+    builder: Builder,
     k: BondKind,
     number: usize,
 ) -> Builder
-    requires { ⌜ SmallCounts b × (0 < b .top) × (number < ringNumberCount) ⌝ }
+    requires { ⌜ SmallCounts builder × (0 < builder .top) × (number < ringNumberCount) ⌝ }
     ensures { λ r. ⌜ ((a : List ℕ) → bld a (now (entries .exit)) (now (path .entry)) (now (rings .exit)) r
-        ≡ openedOf (bld a (now (entries .entry)) (now (path .entry)) (now (rings .entry)) b) k number) ⌝ }
+        ≡ openedOf (bld a (now (entries .entry)) (now (path .entry)) (now (rings .entry)) builder) k number) ⌝ }
 {
-    let e = b.entries;
-    let source = look(path, b.top - 1);
-    put_entry(entries, e, source, code(k), OPEN + b.joins as u32);
+    let e = builder.entries;
+    let source = look(path, builder.top - 1);
+    put_entry(entries, e, source, code(k), OPEN + builder.joins as u32);
     rejoin(rings, number, (e + 1) as u32);
-    b.joined()
+    builder.joined()
 }
 
 // The entries of a closed ring bond: the opening one filled, and one at the closing atom.
@@ -293,34 +299,34 @@ fn close_ring(
     entries: &mut [u32],
     path: &[u32],
     rings: &mut [u32],
-    b: Builder,
+    builder: Builder,
     k: BondKind,
     number: usize,
     held: u32,
     place: usize,
 ) -> Builder
-    requires { ⌜ SmallCounts b × (0 < b .top) × (number < ringNumberCount) × (0 < held) × (held ≡ getD (now rings) number 0) ⌝ }
+    requires { ⌜ SmallCounts builder × (0 < builder .top) × (number < ringNumberCount) × (0 < held) × (held ≡ getD (now rings) number 0) ⌝ }
     ensures { λ r. ⌜ ((a : List ℕ) → bld a (now (entries .exit)) (now (path .entry)) (now (rings .exit)) r
-        ≡ closedBy (bld a (now (entries .entry)) (now (path .entry)) (now (rings .entry)) b) number place
-        (reconcileOf (openingKind (bld a (now (entries .entry)) (now (path .entry)) (now (rings .entry)) b) number) k)) ⌝ }
+        ≡ closedBy (bld a (now (entries .entry)) (now (path .entry)) (now (rings .entry)) builder) number place
+        (reconcileOf (openingKind (bld a (now (entries .entry)) (now (path .entry)) (now (rings .entry)) builder) number) k)) ⌝ }
 {
     let w = (held as usize - 1) * ENTRY_WORDS;
     let opening = look(entries, w);
     let left = sure_kind(look(entries, w + 1));
-    let closing = look(path, b.top - 1);
+    let closing = look(path, builder.top - 1);
     match reconcile(left, k) {
         Reconciled::Fails => {
             rejoin(rings, number, 0);
-            b.fail(closing, opening)
+            builder.fail(closing, opening)
         }
         Reconciled::Both(l, r) => {
-            let e = b.entries;
-            if b.slots < e + 1 {
-                return b.refused(BOND_ROOM, place);
+            let e = builder.entries;
+            if builder.slots < e + 1 {
+                return builder.refused(BOND_ROOM, place);
             }
             close_entries(entries, w, e, l, closing, r, opening);
             rejoin(rings, number, 0);
-            b.joined()
+            builder.joined()
         }
     }
 }
@@ -330,24 +336,24 @@ pub fn join(
     entries: &mut [u32],
     path: &[u32],
     rings: &mut [u32],
-    b: Builder,
+    builder: Builder,
     k: BondKind,
     number: usize,
     place: usize,
 ) -> Builder
-    requires { ⌜ SmallCounts b × (number < ringNumberCount) ⌝ }
+    requires { ⌜ SmallCounts builder × (number < ringNumberCount) ⌝ }
     ensures { λ r. ⌜ ((a : List ℕ) → bld a (now (entries .exit)) (now (path .entry)) (now (rings .exit)) r
-        ≡ joinOf (bld a (now (entries .entry)) (now (path .entry)) (now (rings .entry)) b) k number place) ⌝ }
+        ≡ joinOf (bld a (now (entries .entry)) (now (path .entry)) (now (rings .entry)) builder) k number place) ⌝ }
 {
-    if b.top == 0 {
-        return b.refused(NO_ATOM, 0);
+    if builder.top == 0 {
+        return builder.refused(NO_ATOM, 0);
     }
     let held = look(rings, number);
     if held == 0 {
-        if b.slots < b.entries + 1 {
-            return b.refused(BOND_ROOM, place);
+        if builder.slots < builder.entries + 1 {
+            return builder.refused(BOND_ROOM, place);
         }
-        return open_ring(entries, path, rings, b, k, number);
+        return open_ring(entries, path, rings, builder, k, number);
     }
-    close_ring(entries, path, rings, b, k, number, held, place)
+    close_ring(entries, path, rings, builder, k, number, held, place)
 }

@@ -58,20 +58,20 @@ pub fn root(
     entries: &[u32],
     path: &mut [u32],
     rings: &[u32],
-    b: Builder,
+    builder: Builder,
     k: AtomKind,
 ) -> Builder
     ensures { λ r. ⌜ bld (now (atoms .exit)) (now (entries .entry)) (now (path .exit)) (now (rings .entry)) r
-        ≡ rootD (bld (now (atoms .entry)) (now (entries .entry)) (now (path .entry)) (now (rings .entry)) b) k ⌝ }
+        ≡ rootD (bld (now (atoms .entry)) (now (entries .entry)) (now (path .entry)) (now (rings .entry)) builder) k ⌝ }
 {
     if !in_range(k) {
-        return b.refused(BAD_TABLE, 0);
+        return builder.refused(BAD_TABLE, 0);
     }
-    if !is_state(atoms, entries, path, rings, b) {
-        return b.refused(BAD_TABLE, 0);
+    if !is_state(atoms, entries, path, rings, builder) {
+        return builder.refused(BAD_TABLE, 0);
     }
-    let held = b.atoms;
-    builder::builder::root(atoms, path, b.refused(0, 0), k, held)
+    let held = builder.atoms;
+    builder::builder::root(atoms, path, builder.refused(0, 0), k, held)
 }
 
 // A new atom, bonded to the current one.
@@ -80,21 +80,21 @@ pub fn extend(
     entries: &mut [u32],
     path: &mut [u32],
     rings: &[u32],
-    b: Builder,
+    builder: Builder,
     k: BondKind,
     t: AtomKind,
 ) -> Builder
     ensures { λ r. ⌜ bld (now (atoms .exit)) (now (entries .exit)) (now (path .exit)) (now (rings .entry)) r
-        ≡ extendD (bld (now (atoms .entry)) (now (entries .entry)) (now (path .entry)) (now (rings .entry)) b) k t ⌝ }
+        ≡ extendD (bld (now (atoms .entry)) (now (entries .entry)) (now (path .entry)) (now (rings .entry)) builder) k t ⌝ }
 {
     if !in_range(t) {
-        return b.refused(BAD_TABLE, 0);
+        return builder.refused(BAD_TABLE, 0);
     }
-    if !is_state(atoms, entries, path, rings, b) {
-        return b.refused(BAD_TABLE, 0);
+    if !is_state(atoms, entries, path, rings, builder) {
+        return builder.refused(BAD_TABLE, 0);
     }
-    let held = b.atoms;
-    builder::builder::extend(atoms, entries, path, b.refused(0, 0), k, t, held)
+    let held = builder.atoms;
+    builder::builder::extend(atoms, entries, path, builder.refused(0, 0), k, t, held)
 }
 
 // A ring number at the current atom.
@@ -103,21 +103,21 @@ pub fn join(
     entries: &mut [u32],
     path: &[u32],
     rings: &mut [u32],
-    b: Builder,
+    builder: Builder,
     k: BondKind,
     number: usize,
 ) -> Builder
     ensures { λ r. ⌜ bld (now (atoms .entry)) (now (entries .exit)) (now (path .entry)) (now (rings .exit)) r
-        ≡ joinD (bld (now (atoms .entry)) (now (entries .entry)) (now (path .entry)) (now (rings .entry)) b) k number ⌝ }
+        ≡ joinD (bld (now (atoms .entry)) (now (entries .entry)) (now (path .entry)) (now (rings .entry)) builder) k number ⌝ }
 {
     if RING_NUMBER_COUNT <= number {
-        return b.refused(BAD_TABLE, 0);
+        return builder.refused(BAD_TABLE, 0);
     }
-    if !is_state(atoms, entries, path, rings, b) {
-        return b.refused(BAD_TABLE, 0);
+    if !is_state(atoms, entries, path, rings, builder) {
+        return builder.refused(BAD_TABLE, 0);
     }
-    let held = b.atoms;
-    builder::builder::join(entries, path, rings, b.refused(0, 0), k, number, held)
+    let held = builder.atoms;
+    builder::builder::join(entries, path, rings, builder.refused(0, 0), k, number, held)
 }
 
 // So many atoms off the path. A pop beyond it empties it.
@@ -126,23 +126,23 @@ pub fn pop(
     entries: &[u32],
     path: &[u32],
     rings: &[u32],
-    b: Builder,
+    builder: Builder,
     n: usize,
 ) -> Builder
     ensures { λ r. ⌜ bld (now (atoms .entry)) (now (entries .entry)) (now (path .entry)) (now (rings .entry)) r
-        ≡ popD (bld (now (atoms .entry)) (now (entries .entry)) (now (path .entry)) (now (rings .entry)) b) n ⌝ }
+        ≡ popD (bld (now (atoms .entry)) (now (entries .entry)) (now (path .entry)) (now (rings .entry)) builder) n ⌝ }
 {
-    if !is_state(atoms, entries, path, rings, b) {
-        return b.refused(BAD_TABLE, 0);
+    if !is_state(atoms, entries, path, rings, builder) {
+        return builder.refused(BAD_TABLE, 0);
     }
-    b.refused(0, 0).pop(n)
+    builder.refused(0, 0).pop(n)
 }
 
-fn called(r: Built, b: Builder) -> Answer
-    ensures { λ a. ⌜ a ≡ builtAnswered r (b .atoms) (b .entries) ⌝ }
+fn called(r: Built, builder: Builder) -> Answer
+    ensures { λ a. ⌜ a ≡ builtAnswered r (builder .atoms) (builder .entries) ⌝ }
 {
     match r {
-        Built::Done => Answer::Done(b.atoms, b.entries),
+        Built::Done => Answer::Done(builder.atoms, builder.entries),
         Built::Join(closing, opening) => Answer::Join(closing, opening),
         Built::Rnum(number) => Answer::Rnum(number),
     }
@@ -156,24 +156,24 @@ pub fn build(
     entries: &[u32],
     path: &[u32],
     rings: &[u32],
-    b: Builder,
+    builder: Builder,
 ) -> Answer
     ensures { λ r. ⌜ answerLeaves r (now (atoms .exit)) (now (bonds .exit))
-        ≡ buildD (bld (now (atoms .entry)) (now (entries .entry)) (now (path .entry)) (now (rings .entry)) b) (now (bonds .entry)) ⌝ }
+        ≡ buildD (bld (now (atoms .entry)) (now (entries .entry)) (now (path .entry)) (now (rings .entry)) builder) (now (bonds .entry)) ⌝ }
 {
-    if !is_state(atoms, entries, path, rings, b) {
+    if !is_state(atoms, entries, path, rings, builder) {
         clear(atoms);
         clear(bonds);
         return Answer::BadTable;
     }
-    if bonds.len() < b.entries * BOND_WORDS {
+    if bonds.len() < builder.entries * BOND_WORDS {
         clear(atoms);
         clear(bonds);
         return Answer::BadTable;
     }
-    let end = b.atoms * ATOM_WORDS;
+    let end = builder.atoms * ATOM_WORDS;
     clear(&mut atoms[end..]);
     let mut starts = [0u32; ATOMS];
-    let r = builder::build::build(atoms, bonds, entries, &mut starts, b);
-    called(r, b)
+    let r = builder::build::build(atoms, bonds, entries, &mut starts, builder);
+    called(r, builder)
 }

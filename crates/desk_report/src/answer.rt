@@ -84,10 +84,10 @@ pub fn of_written(w: Written) -> Report
 }
 
 // Of a builder's event.
-pub fn of_event(b: Builder) -> Report
-    ensures { λ r. ⌜ r ≡ ofEvent b ⌝ }
+pub fn of_event(builder: Builder) -> Report
+    ensures { λ r. ⌜ r ≡ ofEvent builder ⌝ }
 {
-    with_one(b.refusal, b.carried)
+    with_one(builder.refusal, builder.carried)
 }
 
 // Of a build. 0 carries the atoms and the bond entries.

@@ -125,14 +125,32 @@ fn flag(b: bool) -> u64
     0
 }
 
-pub fn lay_builder(lent: &mut [u64], b: Builder)
-    ensures { λ _. ⌜ now (lent .exit) ≡ sets (now (lent .entry)) 0 (builderWords b) ⌝ }
+pub fn lay_builder(lent: &mut [u64], builder: Builder)
+    ensures { λ _. ⌜ now (lent .exit) ≡ sets (now (lent .entry)) 0 (builderWords builder) ⌝ }
 {
-    put_row(lent, 0, b.refusal as u64, b.carried as u64, b.places as u64);
-    put_row(lent, 3, b.slots as u64, b.atoms as u64, b.entries as u64);
-    put_row(lent, 6, b.top as u64, b.joins as u64, flag(b.failed));
-    put(lent, 9, b.closing as u64);
-    put(lent, 10, b.opening as u64);
+    put_row(
+        lent,
+        0,
+        builder.refusal as u64,
+        builder.carried as u64,
+        builder.places as u64,
+    );
+    put_row(
+        lent,
+        3,
+        builder.slots as u64,
+        builder.atoms as u64,
+        builder.entries as u64,
+    );
+    put_row(
+        lent,
+        6,
+        builder.top as u64,
+        builder.joins as u64,
+        flag(builder.failed),
+    );
+    put(lent, 9, builder.closing as u64);
+    put(lent, 10, builder.opening as u64);
 }
 
 pub fn lay_writer(lent: &mut [u64], w: Writer)

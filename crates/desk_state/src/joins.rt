@@ -103,16 +103,16 @@ fn open_rings(rings: &[u32]) -> usize
 }
 
 // Whether there are no more joins, with those to come of the open ring numbers, than two for each entry.
-pub fn joins_stand(b: Builder, rings: &[u32]) -> bool
-    requires { ⌜ b .entries ≤ bondLimit ⌝ }
-    ensures { λ r. ⌜ r ≡ joinsStand b (now (rings .entry)) ⌝ }
+pub fn joins_stand(builder: Builder, rings: &[u32]) -> bool
+    requires { ⌜ builder .entries ≤ bondLimit ⌝ }
+    ensures { λ r. ⌜ r ≡ joinsStand builder (now (rings .entry)) ⌝ }
 {
     let open = open_rings(rings);
-    let most = b.entries * 2;
+    let most = builder.entries * 2;
     if most < open {
         return false;
     }
-    if most - open < b.joins {
+    if most - open < builder.joins {
         return false;
     }
     true

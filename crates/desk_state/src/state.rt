@@ -62,36 +62,36 @@ fn is_below(n: u32, most: usize) -> bool
     false
 }
 
-fn is_target(b: Builder, target: u32) -> bool
-    ensures { λ r. ⌜ r ≡ isTarget b target ⌝ }
+fn is_target(builder: Builder, target: u32) -> bool
+    ensures { λ r. ⌜ r ≡ isTarget builder target ⌝ }
 {
     if target < OPEN {
-        return is_below(target, b.atoms);
+        return is_below(target, builder.atoms);
     }
-    is_below(target - OPEN, b.joins)
+    is_below(target - OPEN, builder.joins)
 }
 
-fn is_entry(b: Builder, entries: &[u32], i: usize) -> bool
+fn is_entry(builder: Builder, entries: &[u32], i: usize) -> bool
     requires { ⌜ i ≤ bondLimit ⌝ }
-    ensures { λ r. ⌜ r ≡ isBuilderEntry b (now (entries .entry)) i ⌝ }
+    ensures { λ r. ⌜ r ≡ isBuilderEntry builder (now (entries .entry)) i ⌝ }
 {
     let at = i * ENTRY_WORDS;
-    if !is_below(look(entries, at), b.atoms) {
+    if !is_below(look(entries, at), builder.atoms) {
         return false;
     }
     if !is_kind(look(entries, at + KIND)) {
         return false;
     }
-    is_target(b, look(entries, at + TARGET))
+    is_target(builder, look(entries, at + TARGET))
 }
 
-fn entries_stand(b: Builder, entries: &[u32], n: usize) -> bool
+fn entries_stand(builder: Builder, entries: &[u32], n: usize) -> bool
     requires { ⌜ n ≤ bondLimit ⌝ }
-    ensures { λ r. ⌜ r ≡ every (isBuilderEntry b (now (entries .entry))) n ⌝ }
+    ensures { λ r. ⌜ r ≡ every (isBuilderEntry builder (now (entries .entry))) n ⌝ }
 {
     let mut i = 0;
     while i < n {
-        if !is_entry(b, entries, i) {
+        if !is_entry(builder, entries, i) {
             return false;
         }
         i += 1;
@@ -99,12 +99,12 @@ fn entries_stand(b: Builder, entries: &[u32], n: usize) -> bool
     true
 }
 
-fn steps_stand(b: Builder, path: &[u32], n: usize) -> bool
-    ensures { λ r. ⌜ r ≡ every (isStep b (now (path .entry))) n ⌝ }
+fn steps_stand(builder: Builder, path: &[u32], n: usize) -> bool
+    ensures { λ r. ⌜ r ≡ every (isStep builder (now (path .entry))) n ⌝ }
 {
     let mut i = 0;
     while i < n {
-        if !is_below(look(path, i), b.atoms) {
+        if !is_below(look(path, i), builder.atoms) {
             return false;
         }
         i += 1;
@@ -112,15 +112,15 @@ fn steps_stand(b: Builder, path: &[u32], n: usize) -> bool
     true
 }
 
-fn is_ring(b: Builder, entries: &[u32], rings: &[u32], n: usize) -> bool
-    requires { ⌜ b .entries ≤ bondLimit ⌝ }
-    ensures { λ r. ⌜ r ≡ isRing b (now (entries .entry)) (now (rings .entry)) n ⌝ }
+fn is_ring(builder: Builder, entries: &[u32], rings: &[u32], n: usize) -> bool
+    requires { ⌜ builder .entries ≤ bondLimit ⌝ }
+    ensures { λ r. ⌜ r ≡ isRing builder (now (entries .entry)) (now (rings .entry)) n ⌝ }
 {
     let held = look(rings, n) as usize;
     if held == 0 {
         return true;
     }
-    if b.entries < held {
+    if builder.entries < held {
         return false;
     }
     if look(entries, (held - 1) * ENTRY_WORDS + TARGET) < OPEN {
@@ -129,13 +129,13 @@ fn is_ring(b: Builder, entries: &[u32], rings: &[u32], n: usize) -> bool
     leads_alone(rings, n)
 }
 
-fn rings_stand(b: Builder, entries: &[u32], rings: &[u32]) -> bool
-    requires { ⌜ b .entries ≤ bondLimit ⌝ }
-    ensures { λ r. ⌜ r ≡ every (isRing b (now (entries .entry)) (now (rings .entry))) ringNumberCount ⌝ }
+fn rings_stand(builder: Builder, entries: &[u32], rings: &[u32]) -> bool
+    requires { ⌜ builder .entries ≤ bondLimit ⌝ }
+    ensures { λ r. ⌜ r ≡ every (isRing builder (now (entries .entry)) (now (rings .entry))) ringNumberCount ⌝ }
 {
     let mut n = 0;
     while n < RING_NUMBER_COUNT {
-        if !is_ring(b, entries, rings, n) {
+        if !is_ring(builder, entries, rings, n) {
             return false;
         }
         n += 1;
@@ -144,71 +144,77 @@ fn rings_stand(b: Builder, entries: &[u32], rings: &[u32]) -> bool
 }
 
 // The rooms and the counts, for tables of so many words.
-fn counts_stand(b: Builder, atoms: usize, entries: usize, path: usize, rings: usize) -> bool
-    ensures { λ r. ⌜ r ≡ countsStand b atoms entries path rings ⌝ }
+fn counts_stand(builder: Builder, atoms: usize, entries: usize, path: usize, rings: usize) -> bool
+    ensures { λ r. ⌜ r ≡ countsStand builder atoms entries path rings ⌝ }
 {
-    if b.places != lesser(ATOMS, atoms / ATOM_WORDS) {
+    if builder.places != lesser(ATOMS, atoms / ATOM_WORDS) {
         return false;
     }
-    if b.slots != lesser(BONDS, entries / ENTRY_WORDS) {
+    if builder.slots != lesser(BONDS, entries / ENTRY_WORDS) {
         return false;
     }
-    if path < b.places {
+    if path < builder.places {
         return false;
     }
     if rings < RING_NUMBER_COUNT {
         return false;
     }
-    if b.places < b.atoms {
+    if builder.places < builder.atoms {
         return false;
     }
-    if b.slots < b.entries {
+    if builder.slots < builder.entries {
         return false;
     }
-    if b.atoms < b.top {
+    if builder.atoms < builder.top {
         return false;
     }
     true
 }
 
-fn failure_stands(b: Builder) -> bool
-    ensures { λ r. ⌜ r ≡ failureStands b ⌝ }
+fn failure_stands(builder: Builder) -> bool
+    ensures { λ r. ⌜ r ≡ failureStands builder ⌝ }
 {
-    if !b.failed {
+    if !builder.failed {
         return true;
     }
-    if !is_below(b.closing, b.atoms) {
+    if !is_below(builder.closing, builder.atoms) {
         return false;
     }
-    is_below(b.opening, b.atoms)
+    is_below(builder.opening, builder.atoms)
 }
 
-pub fn is_state(atoms: &[u32], entries: &[u32], path: &[u32], rings: &[u32], b: Builder) -> bool
-    ensures { λ r. ⌜ r ≡ isState (bld (now (atoms .entry)) (now (entries .entry)) (now (path .entry)) (now (rings .entry)) b) ⌝ }
+pub fn is_state(
+    atoms: &[u32],
+    entries: &[u32],
+    path: &[u32],
+    rings: &[u32],
+    builder: Builder,
+) -> bool
+    ensures { λ r. ⌜ r ≡ isState (bld (now (atoms .entry)) (now (entries .entry)) (now (path .entry)) (now (rings .entry)) builder) ⌝ }
 {
-    if !counts_stand(b, atoms.len(), entries.len(), path.len(), rings.len()) {
+    if !counts_stand(builder, atoms.len(), entries.len(), path.len(), rings.len()) {
         return false;
     }
-    if !atoms_stand(atoms, b.atoms) {
+    if !atoms_stand(atoms, builder.atoms) {
         return false;
     }
-    if !entries_stand(b, entries, b.entries) {
+    if !entries_stand(builder, entries, builder.entries) {
         return false;
     }
-    if !pairs_stand(entries, b.entries, b.atoms) {
+    if !pairs_stand(entries, builder.entries, builder.atoms) {
         return false;
     }
-    if !joins_rise(entries, b.entries) {
+    if !joins_rise(entries, builder.entries) {
         return false;
     }
-    if !steps_stand(b, path, b.top) {
+    if !steps_stand(builder, path, builder.top) {
         return false;
     }
-    if !rings_stand(b, entries, rings) {
+    if !rings_stand(builder, entries, rings) {
         return false;
     }
-    if !joins_stand(b, rings) {
+    if !joins_stand(builder, rings) {
         return false;
     }
-    failure_stands(b)
+    failure_stands(builder)
 }

@@ -20,22 +20,22 @@ use packing::kind;
 use table::clear;
 
 // The new state, where an event was accepted.
-fn keep_state(state: &mut [u64], b: Builder)
-    ensures { λ _. ⌜ now (state .exit) ≡ builderKept (now (state .entry)) b ⌝ }
+fn keep_state(state: &mut [u64], builder: Builder)
+    ensures { λ _. ⌜ now (state .exit) ≡ builderKept (now (state .entry)) builder ⌝ }
 {
-    if b.refusal != 0 {
+    if builder.refusal != 0 {
         return;
     }
-    lay_builder(state, b);
+    lay_builder(state, builder);
 }
 
 // What an event leaves beside its tables.
-fn keep(state: &mut [u64], report: &mut [u64], b: Builder)
-    ensures { λ _. ⌜ now (state .exit) ≡ builderKept (now (state .entry)) b ⌝ }
-    ensures { λ _. ⌜ now (report .exit) ≡ laidInto (now (report .entry)) (ofEvent b) ⌝ }
+fn keep(state: &mut [u64], report: &mut [u64], builder: Builder)
+    ensures { λ _. ⌜ now (state .exit) ≡ builderKept (now (state .entry)) builder ⌝ }
+    ensures { λ _. ⌜ now (report .exit) ≡ laidInto (now (report .entry)) (ofEvent builder) ⌝ }
 {
-    keep_state(state, b);
-    lay(report, of_event(b));
+    keep_state(state, builder);
+    lay(report, of_event(builder));
 }
 
 // A builder that has seen no event, over the tables that its events will be lent: its state, and its ring numbers all free.

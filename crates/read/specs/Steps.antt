@@ -23,9 +23,9 @@ use mathlib.Core.Path.{_≡_}
 -- no byte may be left after a line
 unfoldable pub endedSt : List ℕ → Reached → Builder
 endedSt s c =
-    pick (eqb (c .b .refusal) 0)
-    (pick (ltb (c .at) (length s)) (refusedSt (c .b) character (c .at)) (c .b))
-    (c .b)
+    pick (eqb (c .builder .refusal) 0)
+    (pick (ltb (c .at) (length s)) (refusedSt (c .builder) character (c .at)) (c .builder))
+    (c .builder)
 
 -- what is said of a build
 unfoldable pub builtSaid : BuildOutcome → Builder → Said

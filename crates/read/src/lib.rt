@@ -60,48 +60,48 @@ pub enum Answer {
 fn end_line(text: &[u8], came: Reached) -> Builder
     ensures { λ r. ⌜ r ≡ endedSt (now (text .entry)) came ⌝ }
 {
-    let b = came.b;
-    if b.refusal != 0 {
-        return b;
+    let builder = came.builder;
+    if builder.refusal != 0 {
+        return builder;
     }
     let at = came.at;
     if is_done(text, at) {
-        return b;
+        return builder;
     }
-    b.refused(CHARACTER, at)
+    builder.refused(CHARACTER, at)
 }
 
 // What a builder's refusal is called.
-fn refusal(b: Builder) -> Answer
-    ensures { λ r. ⌜ r ≡ readRefusal (b .refusal) (b .carried) ⌝ }
+fn refusal(builder: Builder) -> Answer
+    ensures { λ r. ⌜ r ≡ readRefusal (builder .refusal) (builder .carried) ⌝ }
 {
-    let n = b.refusal;
+    let n = builder.refusal;
     if n == END_OF_LINE {
         return Answer::EndOfLine;
     }
     if n == CHARACTER {
-        return Answer::Character(b.carried);
+        return Answer::Character(builder.carried);
     }
     if n == INVERSION {
-        return Answer::Inversion(b.carried);
+        return Answer::Inversion(builder.carried);
     }
     if n == ATOM_ROOM {
-        return Answer::AtomRoom(b.carried);
+        return Answer::AtomRoom(builder.carried);
     }
     if n == BOND_ROOM {
-        return Answer::BondRoom(b.carried);
+        return Answer::BondRoom(builder.carried);
     }
     if n == NESTING {
-        return Answer::Nesting(b.carried);
+        return Answer::Nesting(builder.carried);
     }
     Answer::NoAtom
 }
 
-pub fn built(r: Built, b: Builder) -> Answer
-    ensures { λ a. ⌜ a ≡ builtAnswer r (b .atoms) (b .entries) ⌝ }
+pub fn built(r: Built, builder: Builder) -> Answer
+    ensures { λ a. ⌜ a ≡ builtAnswer r (builder .atoms) (builder .entries) ⌝ }
 {
     match r {
-        Built::Done => Answer::Done(b.atoms, b.entries),
+        Built::Done => Answer::Done(builder.atoms, builder.entries),
         Built::Join(closing, opening) => Answer::Join(closing, opening),
         Built::Rnum(number) => Answer::Rnum(number),
     }
@@ -133,13 +133,13 @@ fn read_within(
         rings,
         start,
     );
-    let b = end_line(text, came);
-    if b.refusal != 0 {
+    let builder = end_line(text, came);
+    if builder.refusal != 0 {
         clear(atoms);
-        return refusal(b);
+        return refusal(builder);
     }
-    let r = build(atoms, bonds, entries, path, b);
-    built(r, b)
+    let r = build(atoms, bonds, entries, path, builder);
+    built(r, builder)
 }
 
 // With work room for few atoms and entries: a line's graph has no more of them than its tables have room for.

@@ -248,12 +248,12 @@ module _ (s : List ℕ) (b : Bld) (at room : ℕ) (ready : ReadReady s at (b .st
                 };
           }
 
-      closed-split : (q : Bool) → eqb (peekAt s at₁) (byte ")") ≡ q → BranchRead s at room b (on b₁ (pick q (reachedAt (at₁ + 1) 0 (poppedSt (b₁ .st) n₁)) (reachedMissing s at₁ 0 (b₁ .st)) .b)) (pick q (reachedAt (at₁ + 1) 0 (poppedSt (b₁ .st) n₁)) (reachedMissing s at₁ 0 (b₁ .st)) .at)
+      closed-split : (q : Bool) → eqb (peekAt s at₁) (byte ")") ≡ q → BranchRead s at room b (on b₁ (pick q (reachedAt (at₁ + 1) 0 (poppedSt (b₁ .st) n₁)) (reachedMissing s at₁ 0 (b₁ .st)) .builder)) (pick q (reachedAt (at₁ + 1) 0 (poppedSt (b₁ .st) n₁)) (reachedMissing s at₁ 0 (b₁ .st)) .at)
       unfolding popOf reachedMissing
       closed-split true e = branch-made (eqb-true _ _ e)
       closed-split false e = branch-missing (eqb-false _ _ e)
 
-      pub branch-closed : BranchRead s at room b (on b₁ (reachedClosed s at₁ n₁ (b₁ .st) .b)) (reachedClosed s at₁ n₁ (b₁ .st) .at)
+      pub branch-closed : BranchRead s at room b (on b₁ (reachedClosed s at₁ n₁ (b₁ .st) .builder)) (reachedClosed s at₁ n₁ (b₁ .st) .at)
       unfolding reachedClosed
       branch-closed = closed-split (eqb (peekAt s at₁) (byte ")")) refl
 

@@ -19,7 +19,7 @@ use Rattle.read_line.specs.Parse.{Rest, atomP, ringP, unionP, unitP, lin
 
 -- where a reading has come to
 abbrev pub reachedAt : ℕ → ℕ → Builder → Reached
-reachedAt at n b = record { at = at; n = n; b = b }
+reachedAt at n b = record { at = at; n = n; builder = b }
 
 -- something is missing at a place
 unfoldable pub reachedMissing : List ℕ → ℕ → ℕ → Builder → Reached

@@ -22,27 +22,27 @@ use feature::bond_kind::BondKind;
 use read_token::scanner::Missing;
 
 // One atom more, not stored.
-fn count(b: Builder) -> Builder
-    requires { ⌜ SmallCounts b ⌝ }
-    ensures { λ r. ⌜ r ≡ countedSt b ⌝ }
+fn count(builder: Builder) -> Builder
+    requires { ⌜ SmallCounts builder ⌝ }
+    ensures { λ r. ⌜ r ≡ countedSt builder ⌝ }
 {
-    let mut b = b;
-    b.atoms = b.atoms + 1;
-    b
+    let mut builder = builder;
+    builder.atoms = builder.atoms + 1;
+    builder
 }
 
 // An atom after a failed join.
-fn put_unstored(b: Builder, lead: Lead, k: AtomKind) -> Builder
-    requires { ⌜ SmallCounts b ⌝ }
-    ensures { λ r. ⌜ r ≡ unstoredOf b lead k ⌝ }
+fn put_unstored(builder: Builder, lead: Lead, k: AtomKind) -> Builder
+    requires { ⌜ SmallCounts builder ⌝ }
+    ensures { λ r. ⌜ r ≡ unstoredOf builder lead k ⌝ }
 {
     match lead {
-        Lead::Dot => count(b),
+        Lead::Dot => count(builder),
         Lead::Bond(_) => {
-            let n = b.atoms;
+            let n = builder.atoms;
             match invert(k) {
-                Inverted::Refused => b.refused(INVERSION, n),
-                Inverted::Turned(_) => count(b),
+                Inverted::Refused => builder.refused(INVERSION, n),
+                Inverted::Turned(_) => count(builder),
             }
         }
     }
@@ -53,21 +53,21 @@ pub fn put_atom(
     atoms: &mut [u32],
     entries: &mut [u32],
     path: &mut [u32],
-    b: Builder,
+    builder: Builder,
     lead: Lead,
     k: AtomKind,
     place: usize,
 ) -> Builder
-    requires { ⌜ SmallCounts b ⌝ }
+    requires { ⌜ SmallCounts builder ⌝ }
     ensures { λ r. ⌜ ((s : List ℕ) → bld (now (atoms .exit)) (now (entries .exit)) (now (path .exit)) s r
-        ≡ enterOf (bld (now (atoms .entry)) (now (entries .entry)) (now (path .entry)) s b) lead k place) ⌝ }
+        ≡ enterOf (bld (now (atoms .entry)) (now (entries .entry)) (now (path .entry)) s builder) lead k place) ⌝ }
 {
-    if b.failed {
-        return put_unstored(b, lead, k);
+    if builder.failed {
+        return put_unstored(builder, lead, k);
     }
     match lead {
-        Lead::Dot => root(atoms, path, b, k, place),
-        Lead::Bond(bond) => extend(atoms, entries, path, b, bond, k, place),
+        Lead::Dot => root(atoms, path, builder, k, place),
+        Lead::Bond(bond) => extend(atoms, entries, path, builder, bond, k, place),
     }
 }
 
@@ -76,27 +76,27 @@ pub fn put_ring(
     entries: &mut [u32],
     path: &[u32],
     rings: &mut [u32],
-    b: Builder,
+    builder: Builder,
     k: BondKind,
     number: usize,
     place: usize,
 ) -> Builder
-    requires { ⌜ SmallCounts b × (number < ringNumberCount) ⌝ }
+    requires { ⌜ SmallCounts builder × (number < ringNumberCount) ⌝ }
     ensures { λ r. ⌜ ((a : List ℕ) → bld a (now (entries .exit)) (now (path .entry)) (now (rings .exit)) r
-        ≡ ringOf (bld a (now (entries .entry)) (now (path .entry)) (now (rings .entry)) b) k number place) ⌝ }
+        ≡ ringOf (bld a (now (entries .entry)) (now (path .entry)) (now (rings .entry)) builder) k number place) ⌝ }
 {
-    if b.failed {
-        return b;
+    if builder.failed {
+        return builder;
     }
-    join(entries, path, rings, b, k, number, place)
+    join(entries, path, rings, builder, k, number, place)
 }
 
 // Something is missing: 1 or 2.
-pub fn put_missing(b: Builder, m: Missing) -> Builder
-    ensures { λ r. ⌜ r ≡ missingSt b m ⌝ }
+pub fn put_missing(builder: Builder, m: Missing) -> Builder
+    ensures { λ r. ⌜ r ≡ missingSt builder m ⌝ }
 {
     match m {
-        Missing::EndOfLine => b.refused(END_OF_LINE, 0),
-        Missing::Character(place) => b.refused(CHARACTER, place),
+        Missing::EndOfLine => builder.refused(END_OF_LINE, 0),
+        Missing::Character(place) => builder.refused(CHARACTER, place),
     }
 }

@@ -29,26 +29,26 @@ use read_token::scanner::Found;
 pub struct Reached {
     pub at: usize,
     pub n: usize,
-    pub b: Builder,
+    pub builder: Builder,
 }
 
 // The builder goes on field by field, so that a line's loop keeps it in registers.
-fn reach(at: usize, n: usize, b: Builder) -> Reached
-    ensures { λ r. ⌜ r ≡ reachedAt at n b ⌝ }
+fn reach(at: usize, n: usize, builder: Builder) -> Reached
+    ensures { λ r. ⌜ r ≡ reachedAt at n builder ⌝ }
 {
     Reached {
         at,
         n,
-        b: b.copied(),
+        builder: builder.copied(),
     }
 }
 
-fn stopped(text: &[u8], at: usize, n: usize, b: Builder) -> Reached
-    ensures { λ r. ⌜ r ≡ reachedMissing (now (text .entry)) at n b ⌝ }
+fn stopped(text: &[u8], at: usize, n: usize, builder: Builder) -> Reached
+    ensures { λ r. ⌜ r ≡ reachedMissing (now (text .entry)) at n builder ⌝ }
 {
     let m = missing_character(text, at);
-    let b = put_missing(b, m);
-    reach(at, n, b)
+    let builder = put_missing(builder, m);
+    reach(at, n, builder)
 }
 
 // An atom at a place, which is its line's atom n.
@@ -60,21 +60,21 @@ fn line_atom(
     atoms: &mut [u32],
     entries: &mut [u32],
     path: &mut [u32],
-    b: Builder,
+    builder: Builder,
 ) -> Reached
-    requires { ⌜ ReadReady (now text) at b × (n ≤ at) ⌝ }
-    ensures { λ r. ⌜ ((s : List ℕ) → AtomRead (now (text .entry)) at lead n (bld (now (atoms .entry)) (now (entries .entry)) (now (path .entry)) s b)
-        (bld (now (atoms .exit)) (now (entries .exit)) (now (path .exit)) s (r .b)) (r .at) (r .n)) ⌝ }
+    requires { ⌜ ReadReady (now text) at builder × (n ≤ at) ⌝ }
+    ensures { λ r. ⌜ ((s : List ℕ) → AtomRead (now (text .entry)) at lead n (bld (now (atoms .entry)) (now (entries .entry)) (now (path .entry)) s builder)
+        (bld (now (atoms .exit)) (now (entries .exit)) (now (path .exit)) s (r .builder)) (r .at) (r .n)) ⌝ }
 {
     match first_atom(text, at) {
-        Found::Nothing => stopped(text, at, n, b),
+        Found::Nothing => stopped(text, at, n, builder),
         Found::Lacks(m) => {
-            let b = put_missing(b, m);
-            reach(at, n, b)
+            let builder = put_missing(builder, m);
+            reach(at, n, builder)
         }
         Found::Atom(k, next) => {
-            let b = put_atom(atoms, entries, path, b, lead, k, at);
-            reach(next, n + 1, b)
+            let builder = put_atom(atoms, entries, path, builder, lead, k, at);
+            reach(next, n + 1, builder)
         }
     }
 }
@@ -88,21 +88,21 @@ fn line_ring(
     entries: &mut [u32],
     path: &[u32],
     rings: &mut [u32],
-    b: Builder,
+    builder: Builder,
 ) -> Reached
-    requires { ⌜ ReadReady (now text) at b × (n ≤ at) ⌝ }
-    ensures { λ r. ⌜ ((a : List ℕ) → RingRead (now (text .entry)) at bond n (bld a (now (entries .entry)) (now (path .entry)) (now (rings .entry)) b)
-        (bld a (now (entries .exit)) (now (path .entry)) (now (rings .exit)) (r .b)) (r .at) (r .n)) ⌝ }
+    requires { ⌜ ReadReady (now text) at builder × (n ≤ at) ⌝ }
+    ensures { λ r. ⌜ ((a : List ℕ) → RingRead (now (text .entry)) at bond n (bld a (now (entries .entry)) (now (path .entry)) (now (rings .entry)) builder)
+        (bld a (now (entries .exit)) (now (path .entry)) (now (rings .exit)) (r .builder)) (r .at) (r .n)) ⌝ }
 {
     match read_rnum(text, at) {
-        Ring::Nothing => stopped(text, at, n, b),
+        Ring::Nothing => stopped(text, at, n, builder),
         Ring::Lacks(m) => {
-            let b = put_missing(b, m);
-            reach(at, n, b)
+            let builder = put_missing(builder, m);
+            reach(at, n, builder)
         }
         Ring::Number(number, next) => {
-            let b = put_ring(entries, path, rings, b, bond, number as usize, at);
-            reach(next, n, b)
+            let builder = put_ring(entries, path, rings, builder, bond, number as usize, at);
+            reach(next, n, builder)
         }
     }
 }
@@ -117,22 +117,22 @@ fn line_union(
     entries: &mut [u32],
     path: &mut [u32],
     rings: &mut [u32],
-    b: Builder,
+    builder: Builder,
 ) -> Reached
-    requires { ⌜ ReadReady (now text) at b × (n ≤ at) ⌝ }
+    requires { ⌜ ReadReady (now text) at builder × (n ≤ at) ⌝ }
     ensures { λ r. ⌜ UnionRead (now (text .entry)) at bond n
-        (bld (now (atoms .entry)) (now (entries .entry)) (now (path .entry)) (now (rings .entry)) b)
-        (bld (now (atoms .exit)) (now (entries .exit)) (now (path .exit)) (now (rings .exit)) (r .b)) (r .at) (r .n) ⌝ }
+        (bld (now (atoms .entry)) (now (entries .entry)) (now (path .entry)) (now (rings .entry)) builder)
+        (bld (now (atoms .exit)) (now (entries .exit)) (now (path .exit)) (now (rings .exit)) (r .builder)) (r .at) (r .n) ⌝ }
 {
     match first_atom(text, at) {
-        Found::Nothing => line_ring(text, at, bond, n, entries, path, rings, b),
+        Found::Nothing => line_ring(text, at, bond, n, entries, path, rings, builder),
         Found::Lacks(m) => {
-            let b = put_missing(b, m);
-            reach(at, n, b)
+            let builder = put_missing(builder, m);
+            reach(at, n, builder)
         }
         Found::Atom(k, next) => {
-            let b = put_atom(atoms, entries, path, b, Lead::Bond(bond), k, at);
-            reach(next, n + 1, b)
+            let builder = put_atom(atoms, entries, path, builder, Lead::Bond(bond), k, at);
+            reach(next, n + 1, builder)
         }
     }
 }
@@ -146,35 +146,35 @@ fn line_unit(
     entries: &mut [u32],
     path: &mut [u32],
     rings: &mut [u32],
-    b: Builder,
+    builder: Builder,
 ) -> Reached
-    requires { ⌜ ReadReady (now text) at b × (n ≤ at) ⌝ }
-    ensures { λ r. ⌜ UnitRead (now (text .entry)) at n (bld (now (atoms .entry)) (now (entries .entry)) (now (path .entry)) (now (rings .entry)) b)
-        (bld (now (atoms .exit)) (now (entries .exit)) (now (path .exit)) (now (rings .exit)) (r .b)) (r .at) (r .n) ⌝ }
+    requires { ⌜ ReadReady (now text) at builder × (n ≤ at) ⌝ }
+    ensures { λ r. ⌜ UnitRead (now (text .entry)) at n (bld (now (atoms .entry)) (now (entries .entry)) (now (path .entry)) (now (rings .entry)) builder)
+        (bld (now (atoms .exit)) (now (entries .exit)) (now (path .exit)) (now (rings .exit)) (r .builder)) (r .at) (r .n) ⌝ }
 {
     let l = read_lead(text, at);
     let lead = l.lead;
     match lead {
-        Lead::Dot => line_atom(text, l.next, Lead::Dot, n, atoms, entries, path, b),
-        Lead::Bond(bond) => line_union(text, l.next, bond, n, atoms, entries, path, rings, b),
+        Lead::Dot => line_atom(text, l.next, Lead::Dot, n, atoms, entries, path, builder),
+        Lead::Bond(bond) => line_union(text, l.next, bond, n, atoms, entries, path, rings, builder),
     }
 }
 
 // The end of a branch whose line has n atoms, which are left where ")" stands. Anything else is missing it.
-fn leave_branch(text: &[u8], at: usize, n: usize, b: Builder) -> Reached
+fn leave_branch(text: &[u8], at: usize, n: usize, builder: Builder) -> Reached
     requires { ⌜ (at ≤ length (now text)) × (length (now text) ≤ textLimit) ⌝ }
-    ensures { λ r. ⌜ r ≡ reachedClosed (now (text .entry)) at n b ⌝ }
+    ensures { λ r. ⌜ r ≡ reachedClosed (now (text .entry)) at n builder ⌝ }
 {
     let d = peek(text, at);
     if d == b')' as u32 {
-        let p = b.pop(n);
+        let p = builder.pop(n);
         return Reached {
             at: at + 1,
             n: 0,
-            b: p,
+            builder: p,
         };
     }
-    stopped(text, at, 0, b)
+    stopped(text, at, 0, builder)
 }
 
 // A branch, whose "(" stands at `at`. `room` is how many more may stand open. One that holds an atom alone is
@@ -187,21 +187,21 @@ fn read_branch(
     entries: &mut [u32],
     path: &mut [u32],
     rings: &mut [u32],
-    b: Builder,
+    builder: Builder,
 ) -> Reached
-    requires { ⌜ ReadReady (now text) at b × (peekAt (now text) at ≡ byte "(") ⌝ }
+    requires { ⌜ ReadReady (now text) at builder × (peekAt (now text) at ≡ byte "(") ⌝ }
     ensures { λ r. ⌜ BranchRead (now (text .entry)) at room
-        (bld (now (atoms .entry)) (now (entries .entry)) (now (path .entry)) (now (rings .entry)) b)
-        (bld (now (atoms .exit)) (now (entries .exit)) (now (path .exit)) (now (rings .exit)) (r .b)) (r .at) ⌝ }
+        (bld (now (atoms .entry)) (now (entries .entry)) (now (path .entry)) (now (rings .entry)) builder)
+        (bld (now (atoms .exit)) (now (entries .exit)) (now (path .exit)) (now (rings .exit)) (r .builder)) (r .at) ⌝ }
 {
     if room == 0 {
-        let b = b.refused(NESTING, at);
-        return Reached { at, n: 0, b };
+        let builder = builder.refused(NESTING, at);
+        return Reached { at, n: 0, builder };
     }
     let l = read_lead(text, at + 1);
     let lead = l.lead;
-    let first = line_atom(text, l.next, lead, 0, atoms, entries, path, b);
-    let f = first.b;
+    let first = line_atom(text, l.next, lead, 0, atoms, entries, path, builder);
+    let f = first.builder;
     if f.refusal != 0 {
         return first;
     }
@@ -220,7 +220,7 @@ fn read_branch(
         rings,
         f,
     );
-    let c = r.b;
+    let c = r.builder;
     if c.refusal != 0 {
         return r;
     }
@@ -237,23 +237,27 @@ fn line_rest(
     entries: &mut [u32],
     path: &mut [u32],
     rings: &mut [u32],
-    b: Builder,
+    builder: Builder,
 ) -> Reached
-    requires { ⌜ ReadReady (now text) at b × (count ≤ at) ⌝ }
+    requires { ⌜ ReadReady (now text) at builder × (count ≤ at) ⌝ }
     ensures { λ r. ⌜ RestRead (now (text .entry)) room
-        (bld (now (atoms .entry)) (now (entries .entry)) (now (path .entry)) (now (rings .entry)) b) at count
-        (bld (now (atoms .exit)) (now (entries .exit)) (now (path .exit)) (now (rings .exit)) (r .b)) (r .at) (r .n) ⌝ }
+        (bld (now (atoms .entry)) (now (entries .entry)) (now (path .entry)) (now (rings .entry)) builder) at count
+        (bld (now (atoms .exit)) (now (entries .exit)) (now (path .exit)) (now (rings .exit)) (r .builder)) (r .at) (r .n) ⌝ }
 {
-    let mut state = b;
+    let mut state = builder;
     let mut i = at;
     let mut n = count;
     loop {
         let what = body_at(text, i);
         match what {
-            Body::Ends => return Reached { at: i, n, b: state },
+            Body::Ends => return Reached {
+                at: i,
+                n,
+                builder: state,
+            },
             Body::Branch => {
                 let r = read_branch(text, i, room, atoms, entries, path, rings, state);
-                let s = r.b;
+                let s = r.builder;
                 if s.refusal != 0 {
                     return r;
                 }
@@ -262,7 +266,7 @@ fn line_rest(
             }
             Body::Unit => {
                 let r = line_unit(text, i, n, atoms, entries, path, rings, state);
-                let s = r.b;
+                let s = r.builder;
                 if s.refusal != 0 {
                     return r;
                 }
@@ -284,15 +288,15 @@ pub fn read_line(
     entries: &mut [u32],
     path: &mut [u32],
     rings: &mut [u32],
-    b: Builder,
+    builder: Builder,
 ) -> Reached
-    requires { ⌜ ReadReady (now text) at b ⌝ }
+    requires { ⌜ ReadReady (now text) at builder ⌝ }
     ensures { λ r. ⌜ LineRead (now (text .entry)) at lead room
-        (bld (now (atoms .entry)) (now (entries .entry)) (now (path .entry)) (now (rings .entry)) b)
-        (bld (now (atoms .exit)) (now (entries .exit)) (now (path .exit)) (now (rings .exit)) (r .b)) (r .at) (r .n) ⌝ }
+        (bld (now (atoms .entry)) (now (entries .entry)) (now (path .entry)) (now (rings .entry)) builder)
+        (bld (now (atoms .exit)) (now (entries .exit)) (now (path .exit)) (now (rings .exit)) (r .builder)) (r .at) (r .n) ⌝ }
 {
-    let first = line_atom(text, at, lead, 0, atoms, entries, path, b);
-    let f = first.b;
+    let first = line_atom(text, at, lead, 0, atoms, entries, path, builder);
+    let f = first.builder;
     if f.refusal != 0 {
         return first;
     }

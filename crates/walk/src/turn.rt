@@ -50,18 +50,25 @@ fn say_pops(out: &mut [u8], starts: &mut [u32], line: Writer, pend: usize) -> Wr
 }
 
 // An atom met: its number in walk order, its place there, and its entry back.
-fn mark(met: &mut [u32], walked: &mut [u32], back: &mut [u32], z: Walker, a: u32, b: u32) -> Walker
-    requires { ⌜ z .count < far ⌝ }
-    ensures { λ r. ⌜ (r ≡ standingAt z a)
-        × (now (met .exit) ≡ set (now (met .entry)) a (z .count + 1))
-        × (now (walked .exit) ≡ set (now (walked .entry)) (z .count) a)
+fn mark(
+    met: &mut [u32],
+    walked: &mut [u32],
+    back: &mut [u32],
+    walker: Walker,
+    a: u32,
+    b: u32,
+) -> Walker
+    requires { ⌜ walker .count < far ⌝ }
+    ensures { λ r. ⌜ (r ≡ standingAt walker a)
+        × (now (met .exit) ≡ set (now (met .entry)) a (walker .count + 1))
+        × (now (walked .exit) ≡ set (now (walked .entry)) (walker .count) a)
         × (now (back .exit) ≡ set (now (back .entry)) a b) ⌝ }
 {
-    let count = z.count;
+    let count = walker.count;
     poke(met, a as usize, count + 1);
     poke(walked, count as usize, a);
     poke(back, a as usize, b);
-    z.meet(a)
+    walker.meet(a)
 }
 
 // The next root.
@@ -73,23 +80,23 @@ fn try_root(
     back: &mut [u32],
     starts: &mut [u32],
     out: &mut [u8],
-    z: Walker,
+    walker: Walker,
     line: Writer,
 ) -> Turned
-    requires { ⌜ TurnNear z line ⌝ }
+    requires { ⌜ TurnNear walker line ⌝ }
     ensures { λ r. ⌜ ((bonds first taken pairs : List ℕ) →
         Did
         (rootTurn (graph size (now (atoms .entry)) bonds first)
-        (walk z (now (met .entry)) (now (walked .entry)) (now (back .entry)) taken pairs))
+        (walk walker (now (met .entry)) (now (walked .entry)) (now (back .entry)) taken pairs))
         (walk (r .walker) (now (met .exit)) (now (walked .exit)) (now (back .exit)) taken pairs)
         (spoken line (now (out .entry)) (now (starts .entry))) (spoken (r .line) (now (out .exit)) (now (starts .exit)))) ⌝ }
-    ensures { λ r. ⌜ TurnGrows z (r .walker) line (r .line) ⌝ }
+    ensures { λ r. ⌜ TurnGrows walker (r .walker) line (r .line) ⌝ }
 {
-    let a = z.next;
+    let a = walker.next;
     if size <= a as usize {
-        return Turned { walker: z, line };
+        return Turned { walker, line };
     }
-    let passed = z.pass();
+    let passed = walker.pass();
     if look(met, a as usize) != 0 {
         return Turned {
             walker: passed,
@@ -105,16 +112,16 @@ fn try_root(
 }
 
 // The atom that stands has no entry left.
-fn leave(bonds: &[u32], first: &[u32], back: &[u32], z: Walker, a: u32) -> Walker
-    requires { ⌜ z .pend < far ⌝ }
-    ensures { λ r. ⌜ r ≡ leftIn (now (bonds .entry)) (now (first .entry)) (now (back .entry)) z a ⌝ }
-    ensures { λ r. ⌜ TurnOnward z r ⌝ }
+fn leave(bonds: &[u32], first: &[u32], back: &[u32], walker: Walker, a: u32) -> Walker
+    requires { ⌜ walker .pend < far ⌝ }
+    ensures { λ r. ⌜ r ≡ leftIn (now (bonds .entry)) (now (first .entry)) (now (back .entry)) walker a ⌝ }
+    ensures { λ r. ⌜ TurnOnward walker r ⌝ }
 {
     let b = look(back, a as usize);
     if b == 0 {
-        return z.end();
+        return walker.end();
     }
-    z.leave(target_at(bonds, first, a, b - 1))
+    walker.leave(target_at(bonds, first, a, b - 1))
 }
 
 // A bond to an atom met before: a ring number.
@@ -122,28 +129,28 @@ fn ring(
     pairs: &mut [u32],
     starts: &mut [u32],
     out: &mut [u8],
-    z: Walker,
+    walker: Walker,
     line: Writer,
     k: BondKind,
     s: u32,
     t: u32,
 ) -> Turned
-    requires { ⌜ TurnNear z line ⌝ }
+    requires { ⌜ TurnNear walker line ⌝ }
     ensures { λ r. ⌜ ((met walked back taken : List ℕ) →
-        Did (ringTurn (walk z met walked back taken (now (pairs .entry))) k s t)
+        Did (ringTurn (walk walker met walked back taken (now (pairs .entry))) k s t)
         (walk (r .walker) met walked back taken (now (pairs .exit))) (spoken line (now (out .entry)) (now (starts .entry)))
         (spoken (r .line) (now (out .exit)) (now (starts .exit)))) ⌝ }
-    ensures { λ r. ⌜ TurnGrows z (r .walker) line (r .line) ⌝ }
+    ensures { λ r. ⌜ TurnGrows walker (r .walker) line (r .line) ⌝ }
 {
-    let g = z.number(pairs, s, t);
+    let g = walker.number(pairs, s, t);
     let told = g.told;
     match told {
         Told::Full => Turned {
-            walker: z.refused(RING_NUMBERS, s, t),
+            walker: walker.refused(RING_NUMBERS, s, t),
             line,
         },
         Told::Number(n) => {
-            let popped = say_pops(out, starts, line, z.pend);
+            let popped = say_pops(out, starts, line, walker.pend);
             let said = say_join(out, starts, popped, k, n);
             let after = g.walker;
             Turned {
@@ -164,32 +171,32 @@ fn enter(
     back: &mut [u32],
     starts: &mut [u32],
     out: &mut [u8],
-    z: Walker,
+    walker: Walker,
     line: Writer,
     k: BondKind,
     s: u32,
     t: u32,
 ) -> Turned
-    requires { ⌜ TurnNear z line ⌝ }
+    requires { ⌜ TurnNear walker line ⌝ }
     ensures { λ r. ⌜ ((n : ℕ) (taken pairs : List ℕ) →
         Did
         (enterTurn (graph n (now (atoms .entry)) (now (bonds .entry)) (now (first .entry)))
-        (walk z (now (met .entry)) (now (walked .entry)) (now (back .entry)) taken pairs) k s t)
+        (walk walker (now (met .entry)) (now (walked .entry)) (now (back .entry)) taken pairs) k s t)
         (walk (r .walker) (now (met .exit)) (now (walked .exit)) (now (back .exit)) taken pairs)
         (spoken line (now (out .entry)) (now (starts .entry))) (spoken (r .line) (now (out .exit)) (now (starts .exit)))) ⌝ }
-    ensures { λ r. ⌜ TurnGrows z (r .walker) line (r .line) ⌝ }
+    ensures { λ r. ⌜ TurnGrows walker (r .walker) line (r .line) ⌝ }
 {
     match find_way(atoms, bonds, first, k, s, t) {
         Way::Refuses(number, a, b) => Turned {
-            walker: z.refused(number, a, b),
+            walker: walker.refused(number, a, b),
             line,
         },
         Way::Enters(b) => {
-            let popped = say_pops(out, starts, line, z.pend);
+            let popped = say_pops(out, starts, line, walker.pend);
             let kind = said_as(kind_at(atoms, t), b);
             let said = say_extend(out, starts, popped, k, kind);
             Turned {
-                walker: mark(met, walked, back, z, t, b),
+                walker: mark(met, walked, back, walker, t, b),
                 line: said,
             }
         }
@@ -208,30 +215,30 @@ fn take_bond(
     pairs: &mut [u32],
     starts: &mut [u32],
     out: &mut [u8],
-    z: Walker,
+    walker: Walker,
     line: Writer,
     s: u32,
     k: BondKind,
     t: u32,
 ) -> Turned
-    requires { ⌜ TurnNear z line ⌝ }
+    requires { ⌜ TurnNear walker line ⌝ }
     ensures { λ r. ⌜ ((taken : List ℕ) →
         Did
         (bondTurn (graph size (now (atoms .entry)) (now (bonds .entry)) (now (first .entry)))
-        (walk z (now (met .entry)) (now (walked .entry)) (now (back .entry)) taken (now (pairs .entry))) s (entryTo k t))
+        (walk walker (now (met .entry)) (now (walked .entry)) (now (back .entry)) taken (now (pairs .entry))) s (entryTo k t))
         (walk (r .walker) (now (met .exit)) (now (walked .exit)) (now (back .exit)) taken (now (pairs .exit)))
         (spoken line (now (out .entry)) (now (starts .entry))) (spoken (r .line) (now (out .exit)) (now (starts .exit)))) ⌝ }
-    ensures { λ r. ⌜ TurnGrows z (r .walker) line (r .line) ⌝ }
+    ensures { λ r. ⌜ TurnGrows walker (r .walker) line (r .line) ⌝ }
 {
     if size <= t as usize {
         return Turned {
-            walker: z.refused(UNKNOWN_TARGET, s, t),
+            walker: walker.refused(UNKNOWN_TARGET, s, t),
             line,
         };
     }
     if t == s {
         return Turned {
-            walker: z.refused(LOOP, s, 0),
+            walker: walker.refused(LOOP, s, 0),
             line,
         };
     }
@@ -245,14 +252,14 @@ fn take_bond(
             back,
             starts,
             out,
-            z,
+            walker,
             line,
             k,
             s,
             t,
         );
     }
-    ring(pairs, starts, out, z, line, k, s, t)
+    ring(pairs, starts, out, walker, line, k, s, t)
 }
 
 // The atom that stands: its next entry, but for the one by which it was reached, or the way back.
@@ -268,30 +275,30 @@ fn take_atom(
     pairs: &mut [u32],
     starts: &mut [u32],
     out: &mut [u8],
-    z: Walker,
+    walker: Walker,
     line: Writer,
 ) -> Turned
-    requires { ⌜ TurnNear z line ⌝ }
+    requires { ⌜ TurnNear walker line ⌝ }
     ensures { λ r. ⌜ Did
         (atomOf (graph size (now (atoms .entry)) (now (bonds .entry)) (now (first .entry)))
-        (walk z (now (met .entry)) (now (walked .entry)) (now (back .entry)) (now (taken .entry)) (now (pairs .entry)))
-        (z .here))
+        (walk walker (now (met .entry)) (now (walked .entry)) (now (back .entry)) (now (taken .entry)) (now (pairs .entry)))
+        (walker .here))
         (walk (r .walker) (now (met .exit)) (now (walked .exit)) (now (back .exit)) (now (taken .exit)) (now (pairs .exit)))
         (spoken line (now (out .entry)) (now (starts .entry))) (spoken (r .line) (now (out .exit)) (now (starts .exit))) ⌝ }
-    ensures { λ r. ⌜ TurnGrows z (r .walker) line (r .line) ⌝ }
+    ensures { λ r. ⌜ TurnGrows walker (r .walker) line (r .line) ⌝ }
 {
-    let a = z.here;
+    let a = walker.here;
     let at = a as usize;
     let i = look(taken, at);
     if degree_at(atoms, a) <= i {
         return Turned {
-            walker: leave(bonds, first, back, z, a),
+            walker: leave(bonds, first, back, walker, a),
             line,
         };
     }
     poke(taken, at, i + 1);
     if look(back, at) == i + 1 {
-        return Turned { walker: z, line };
+        return Turned { walker, line };
     }
     let e = entry_at(first, a, i);
     let k = sure_kind(look(bonds, e));
@@ -307,7 +314,7 @@ fn take_atom(
         pairs,
         starts,
         out,
-        z,
+        walker,
         line,
         a,
         k,
@@ -327,18 +334,18 @@ pub fn turn(
     pairs: &mut [u32],
     starts: &mut [u32],
     out: &mut [u8],
-    z: Walker,
+    walker: Walker,
     line: Writer,
 ) -> Turned
-    requires { ⌜ TurnNear z line ⌝ }
+    requires { ⌜ TurnNear walker line ⌝ }
     ensures { λ r. ⌜ Did
         (turnOf (graph size (now (atoms .entry)) (now (bonds .entry)) (now (first .entry)))
-        (walk z (now (met .entry)) (now (walked .entry)) (now (back .entry)) (now (taken .entry)) (now (pairs .entry))))
+        (walk walker (now (met .entry)) (now (walked .entry)) (now (back .entry)) (now (taken .entry)) (now (pairs .entry))))
         (walk (r .walker) (now (met .exit)) (now (walked .exit)) (now (back .exit)) (now (taken .exit)) (now (pairs .exit)))
         (spoken line (now (out .entry)) (now (starts .entry))) (spoken (r .line) (now (out .exit)) (now (starts .exit))) ⌝ }
-    ensures { λ r. ⌜ TurnGrows z (r .walker) line (r .line) ⌝ }
+    ensures { λ r. ⌜ TurnGrows walker (r .walker) line (r .line) ⌝ }
 {
-    if z.standing {
+    if walker.standing {
         return take_atom(
             size,
             atoms,
@@ -351,9 +358,9 @@ pub fn turn(
             pairs,
             starts,
             out,
-            z,
+            walker,
             line,
         );
     }
-    try_root(size, atoms, met, walked, back, starts, out, z, line)
+    try_root(size, atoms, met, walked, back, starts, out, walker, line)
 }

@@ -40,7 +40,7 @@ pub fn walk(
         (walk (freshWalker pool) (now (met .entry)) (now (walked .entry)) (now (back .entry)) (now (taken .entry))
         (now (pairs .entry))))) ⌝ }
 {
-    let mut z = Walker::start(pool);
+    let mut walker = Walker::start(pool);
     let mut line = Writer { pieces: 0, len: 0 };
     let mut left = 2 * size + entries;
     while left > 0 {
@@ -57,16 +57,16 @@ pub fn walk(
             pairs,
             starts,
             out,
-            z,
+            walker,
             line,
         );
-        z = t.walker;
+        walker = t.walker;
         line = t.line;
-        if z.refusal != 0 {
-            return Turned { walker: z, line };
+        if walker.refusal != 0 {
+            return Turned { walker, line };
         }
     }
-    Turned { walker: z, line }
+    Turned { walker, line }
 }
 
 // The same, but that no number is open at first, whatever the words held.

@@ -27,27 +27,27 @@ pub enum Written {
 }
 
 // The refusal that stopped a walk.
-pub fn refusal(z: Walker) -> Written
-    ensures { λ r. ⌜ r ≡ writeRefusal z ⌝ }
+pub fn refusal(walker: Walker) -> Written
+    ensures { λ r. ⌜ r ≡ writeRefusal walker ⌝ }
 {
-    let number = z.refusal;
+    let number = walker.refusal;
     if number == UNKNOWN_TARGET {
-        return Written::UnknownTarget(z.first, z.second);
+        return Written::UnknownTarget(walker.first, walker.second);
     }
     if number == LOOP {
-        return Written::Loop(z.first);
+        return Written::Loop(walker.first);
     }
     if number == HALF_BOND {
-        return Written::HalfBond(z.first, z.second);
+        return Written::HalfBond(walker.first, walker.second);
     }
     if number == DUPLICATE_BOND {
-        return Written::DuplicateBond(z.first, z.second);
+        return Written::DuplicateBond(walker.first, walker.second);
     }
     if number == INCOMPATIBLE_BOND {
-        return Written::IncompatibleBond(z.first, z.second);
+        return Written::IncompatibleBond(walker.first, walker.second);
     }
     if number == INVERSION {
-        return Written::Inversion(z.first);
+        return Written::Inversion(walker.first);
     }
-    Written::RingNumbers(z.first, z.second)
+    Written::RingNumbers(walker.first, walker.second)
 }

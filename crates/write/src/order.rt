@@ -59,14 +59,14 @@ fn conclude(
     number: &mut [u32],
     back: &mut [u32],
     n: usize,
-    z: Walker,
+    walker: Walker,
 ) -> Written
     ensures { λ r. ⌜ made.order r (now (walked .exit)) (now (number .exit)) (now (back .exit))
-        ≡ orderConcluded n z (now (walked .entry)) (now (number .entry)) (now (back .entry)) ⌝ }
+        ≡ orderConcluded n walker (now (walked .entry)) (now (number .entry)) (now (back .entry)) ⌝ }
 {
-    if z.refusal != 0 {
+    if walker.refusal != 0 {
         clear_order(walked, number, back);
-        return refusal(z);
+        return refusal(walker);
     }
     lower(number);
     Written::Done(n)

@@ -75,7 +75,7 @@ same-length c = search needs
 returns : tie.Need-returns
 returns c =
     λ a. simp (c .refused .ensures)
-    (closed-full (bld a (c .before .before .before .before .before .before .before .before .before .before .before .before .before .before .before .before .before .args .entries .now) (c .before .before .before .before .before .before .before .before .before .before .before .before .before .before .before .before .before .args .path .now) (c .before .before .before .before .before .before .before .before .before .before .before .before .before .before .before .before .before .args .rings .now) (c .before .before .before .before .before .before .before .before .before .before .before .before .before .before .before .before .before .args .b)) _ _ (c .before .before .before .before .before .before .before .before .before .before .before .before .before .before .before .before .before .args .number) (c .before .before .before .before .before .before .before .before .before .before .before .before .before .before .before .before .before .args .place) _ _ _ (c .before .before .before .before .before .before .before .before .before .before .before .before .before .before .before .before .before .pre .4) (c .before .before .before .before .before .before .before .before .before .before .before .before .look .ensures) (c .before .before .before .before .before .before .before .before .before .sure-kind .ensures ∙ ap (λ (x : ℕ). sureKind (kindOf x)) (c .before .before .before .before .before .before .before .before .before .before .look2 .ensures)) (c .before .before .before .before .before .before .before .look3 .ensures) _ _ (sym (c .before .before .before .before .l .given .1) ∙ c .before .before .before .before .before .before .reconcile .ensures) (c .before .if1 .taken))
+    (closed-full (bld a (c .before .before .before .before .before .before .before .before .before .before .before .before .before .before .before .before .before .args .entries .now) (c .before .before .before .before .before .before .before .before .before .before .before .before .before .before .before .before .before .args .path .now) (c .before .before .before .before .before .before .before .before .before .before .before .before .before .before .before .before .before .args .rings .now) (c .before .before .before .before .before .before .before .before .before .before .before .before .before .before .before .before .before .args .builder)) _ _ (c .before .before .before .before .before .before .before .before .before .before .before .before .before .before .before .before .before .args .number) (c .before .before .before .before .before .before .before .before .before .before .before .before .before .before .before .before .before .args .place) _ _ _ (c .before .before .before .before .before .before .before .before .before .before .before .before .before .before .before .before .before .pre .4) (c .before .before .before .before .before .before .before .before .before .before .before .before .look .ensures) (c .before .before .before .before .before .before .before .before .before .sure-kind .ensures ∙ ap (λ (x : ℕ). sureKind (kindOf x)) (c .before .before .before .before .before .before .before .before .before .before .look2 .ensures)) (c .before .before .before .before .before .before .before .look3 .ensures) _ _ (sym (c .before .before .before .before .l .given .1) ∙ c .before .before .before .before .before .before .reconcile .ensures) (c .before .if1 .taken))
 
 -- src/builder.rt:278:13
 close-entries-requires : tie.Need-close-entries-requires
@@ -101,7 +101,7 @@ same-length-3 c = search needs
 returns-2 : tie.Need-returns-2
 returns-2 c =
     λ a. simp (c .fail .ensures, c .before .before .before .rejoin .ensures)
-    (closed-fails (bld a (c .before .before .before .before .before .before .before .before .before .before .before .before .before .before .before .before .before .before .args .entries .now) (c .before .before .before .before .before .before .before .before .before .before .before .before .before .before .before .before .before .before .args .path .now) (c .before .before .before .before .before .before .before .before .before .before .before .before .before .before .before .before .before .before .args .rings .now) (c .before .before .before .before .before .before .before .before .before .before .before .before .before .before .before .before .before .before .args .b)) _ _ (c .before .before .before .before .before .before .before .before .before .before .before .before .before .before .before .before .before .before .args .number) (c .before .before .before .before .before .before .before .before .before .before .before .before .before .before .before .before .before .before .args .place) _ _ _ (c .before .before .before .before .before .before .before .before .before .before .before .before .before .before .before .before .before .before .pre .4) (c .before .before .before .before .before .before .before .before .before .before .before .before .before .look .ensures) (c .before .before .before .before .before .before .before .before .before .before .sure-kind .ensures ∙ ap (λ (x : ℕ). sureKind (kindOf x)) (c .before .before .before .before .before .before .before .before .before .before .before .look2 .ensures)) (c .before .before .before .before .before .before .before .before .look3 .ensures) (sym (c .before .before .before .before .before .enum-told .given .1) ∙ c .before .before .before .before .before .before .before .reconcile .ensures))
+    (closed-fails (bld a (c .before .before .before .before .before .before .before .before .before .before .before .before .before .before .before .before .before .before .args .entries .now) (c .before .before .before .before .before .before .before .before .before .before .before .before .before .before .before .before .before .before .args .path .now) (c .before .before .before .before .before .before .before .before .before .before .before .before .before .before .before .before .before .before .args .rings .now) (c .before .before .before .before .before .before .before .before .before .before .before .before .before .before .before .before .before .before .args .builder)) _ _ (c .before .before .before .before .before .before .before .before .before .before .before .before .before .before .before .before .before .before .args .number) (c .before .before .before .before .before .before .before .before .before .before .before .before .before .before .before .before .before .before .args .place) _ _ _ (c .before .before .before .before .before .before .before .before .before .before .before .before .before .before .before .before .before .before .pre .4) (c .before .before .before .before .before .before .before .before .before .before .before .before .before .look .ensures) (c .before .before .before .before .before .before .before .before .before .before .sure-kind .ensures ∙ ap (λ (x : ℕ). sureKind (kindOf x)) (c .before .before .before .before .before .before .before .before .before .before .before .look2 .ensures)) (c .before .before .before .before .before .before .before .before .look3 .ensures) (sym (c .before .before .before .before .before .enum-told .given .1) ∙ c .before .before .before .before .before .before .before .reconcile .ensures))
 
 -- src/builder.rt:249:1
 same-length-4 : tie.Need-same-length-4
@@ -115,7 +115,7 @@ same-length-5 c = search needs
 returns-3 : tie.Need-returns-3
 returns-3 c =
     λ a. simp (c .joined .ensures, c .before .before .before .rejoin2 .ensures, c .before .before .before .before .before .before .before .close-entries .ensures)
-    (closed-both (bld a (c .before .before .before .before .before .before .before .before .before .before .before .before .before .before .before .before .before .before .before .before .before .before .before .before .before .args .entries .now) (c .before .before .before .before .before .before .before .before .before .before .before .before .before .before .before .before .before .before .before .before .before .before .before .before .before .args .path .now) (c .before .before .before .before .before .before .before .before .before .before .before .before .before .before .before .before .before .before .before .before .before .before .before .before .before .args .rings .now) (c .before .before .before .before .before .before .before .before .before .before .before .before .before .before .before .before .before .before .before .before .before .before .before .before .before .args .b)) _ _ (c .before .before .before .before .before .before .before .before .before .before .before .before .before .before .before .before .before .before .before .before .before .before .before .before .before .args .number) (c .before .before .before .before .before .before .before .before .before .before .before .before .before .before .before .before .before .before .before .before .before .before .before .before .before .args .place) _ _ _ (c .before .before .before .before .before .before .before .before .before .before .before .before .before .before .before .before .before .before .before .before .before .before .before .before .before .pre .4) (c .before .before .before .before .before .before .before .before .before .before .before .before .before .before .before .before .before .before .before .before .look .ensures) (c .before .before .before .before .before .before .before .before .before .before .before .before .before .before .before .before .before .sure-kind .ensures ∙ ap (λ (x : ℕ). sureKind (kindOf x)) (c .before .before .before .before .before .before .before .before .before .before .before .before .before .before .before .before .before .before .look2 .ensures)) (c .before .before .before .before .before .before .before .before .before .before .before .before .before .before .before .look3 .ensures) _ _ (sym (c .before .before .before .before .before .before .before .before .before .before .before .before .l .given .1) ∙ c .before .before .before .before .before .before .before .before .before .before .before .before .before .before .reconcile .ensures) (c .before .before .before .before .before .before .before .before .before .if1 .left))
+    (closed-both (bld a (c .before .before .before .before .before .before .before .before .before .before .before .before .before .before .before .before .before .before .before .before .before .before .before .before .before .args .entries .now) (c .before .before .before .before .before .before .before .before .before .before .before .before .before .before .before .before .before .before .before .before .before .before .before .before .before .args .path .now) (c .before .before .before .before .before .before .before .before .before .before .before .before .before .before .before .before .before .before .before .before .before .before .before .before .before .args .rings .now) (c .before .before .before .before .before .before .before .before .before .before .before .before .before .before .before .before .before .before .before .before .before .before .before .before .before .args .builder)) _ _ (c .before .before .before .before .before .before .before .before .before .before .before .before .before .before .before .before .before .before .before .before .before .before .before .before .before .args .number) (c .before .before .before .before .before .before .before .before .before .before .before .before .before .before .before .before .before .before .before .before .before .before .before .before .before .args .place) _ _ _ (c .before .before .before .before .before .before .before .before .before .before .before .before .before .before .before .before .before .before .before .before .before .before .before .before .before .pre .4) (c .before .before .before .before .before .before .before .before .before .before .before .before .before .before .before .before .before .before .before .before .look .ensures) (c .before .before .before .before .before .before .before .before .before .before .before .before .before .before .before .before .before .sure-kind .ensures ∙ ap (λ (x : ℕ). sureKind (kindOf x)) (c .before .before .before .before .before .before .before .before .before .before .before .before .before .before .before .before .before .before .look2 .ensures)) (c .before .before .before .before .before .before .before .before .before .before .before .before .before .before .before .look3 .ensures) _ _ (sym (c .before .before .before .before .before .before .before .before .before .before .before .before .l .given .1) ∙ c .before .before .before .before .before .before .before .before .before .before .before .before .before .before .reconcile .ensures) (c .before .before .before .before .before .before .before .before .before .if1 .left))
 
 pub close-ring-spec : {M : Type 1} → statement M
 close-ring-spec =

@@ -20,12 +20,12 @@ poke-requires : tie.Need-poke-requires
 poke-requires c κs = search needs
 
 -- src/builder.rt:141:15
-add-b : tie.Need-add-b
-add-b c = search needs
+add-builder : tie.Need-add-builder
+add-builder c = search needs
 
 -- src/builder.rt:142:13
-add-b-2 : tie.Need-add-b-2
-add-b-2 c = search needs
+add-builder-2 : tie.Need-add-builder-2
+add-builder-2 c = search needs
 
 -- src/builder.rt:132:1
 same-length : tie.Need-same-length
@@ -48,8 +48,8 @@ enter-spec =
     store-requires
     cast-poke
     poke-requires
-    add-b
-    add-b-2
+    add-builder
+    add-builder-2
     same-length
     same-length-2
     returns)

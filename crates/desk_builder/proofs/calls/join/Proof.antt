@@ -58,7 +58,7 @@ same-length-4 c = search needs
 returns-3 : tie.Need-returns-3
 unfolding joinD
 returns-3 c =
-    passed (λ (b : Bld). joinOf b (c .before .before .before .before .before .before .before .before .before .before .before .before .before .before .before .before .before .args .k) (c .before .before .before .before .before .before .before .before .before .before .before .before .before .before .before .before .before .args .number) (c .before .before .before .before .before .before .before .before .before .before .before .before .before .before .before .before .before .args .b .atoms)) _ _ (lt-ltb _ _ (c .before .before .before .before .before .before .before .before .before .before .before .before .if1 .left)) (c .before .before .before .before .before .before .before .before .before .is-state .ensures) (c .before .before .before .before .before .before .before .before .if2 .left) (c .before .before .before .before .before .refused3 .ensures) (c .before .before .before .before .join .ensures _)
+    passed (λ (b : Bld). joinOf b (c .before .before .before .before .before .before .before .before .before .before .before .before .before .before .before .before .before .args .k) (c .before .before .before .before .before .before .before .before .before .before .before .before .before .before .before .before .before .args .number) (c .before .before .before .before .before .before .before .before .before .before .before .before .before .before .before .before .before .args .builder .atoms)) _ _ (lt-ltb _ _ (c .before .before .before .before .before .before .before .before .before .before .before .before .if1 .left)) (c .before .before .before .before .before .before .before .before .before .is-state .ensures) (c .before .before .before .before .before .before .before .before .if2 .left) (c .before .before .before .before .before .refused3 .ensures) (c .before .before .before .before .join .ensures _)
 
 pub join-spec : {M : Type 1} → statement M
 join-spec =

@@ -63,7 +63,7 @@ same-length-4 c = search needs
 returns-3 : tie.Need-returns-3
 unfolding rootD
 returns-3 c =
-    passed (λ (b : Bld). rootOf b (c .before .before .before .before .before .before .before .before .before .before .before .before .before .before .before .before .before .before .args .k) (c .before .before .before .before .before .before .before .before .before .before .before .before .before .before .before .before .before .before .args .b .atoms)) _ _ (sym (c .before .before .before .before .before .before .before .before .before .before .before .before .before .in-range .ensures) ∙ not-false _ (c .before .before .before .before .before .before .before .before .before .before .before .before .if1 .left)) (c .before .before .before .before .before .before .before .before .before .is-state .ensures) (c .before .before .before .before .before .before .before .before .if2 .left) (c .before .before .before .before .before .refused3 .ensures) (c .before .before .before .before .root .ensures _ _)
+    passed (λ (b : Bld). rootOf b (c .before .before .before .before .before .before .before .before .before .before .before .before .before .before .before .before .before .before .args .k) (c .before .before .before .before .before .before .before .before .before .before .before .before .before .before .before .before .before .before .args .builder .atoms)) _ _ (sym (c .before .before .before .before .before .before .before .before .before .before .before .before .before .in-range .ensures) ∙ not-false _ (c .before .before .before .before .before .before .before .before .before .before .before .before .if1 .left)) (c .before .before .before .before .before .before .before .before .before .is-state .ensures) (c .before .before .before .before .before .before .before .before .if2 .left) (c .before .before .before .before .before .refused3 .ensures) (c .before .before .before .before .root .ensures _ _)
 
 pub root-spec : {M : Type 1} → statement M
 root-spec =

@@ -16,7 +16,7 @@ mul-most c = search needs
 -- src/joins.rt:114:9
 returns : tie.Need-returns
 unfolding joinsStand
-returns c = simp (← c .before .before .open-rings .ensures, more-open (c .before .before .before .before .args .b .joins) _ _ (c .if1 .taken))
+returns c = simp (← c .before .before .open-rings .ensures, more-open (c .before .before .before .before .args .builder .joins) _ _ (c .if1 .taken))
 
 -- src/joins.rt:117:9
 returns-2 : tie.Need-returns-2

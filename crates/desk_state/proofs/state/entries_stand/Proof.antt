@@ -26,7 +26,7 @@ is-entry-requires c κs = search needs
 
 returns : tie.Need-returns Inv-loop μ-loop
 returns c =
-    sym (every-fails (isBuilderEntry (c .before .before .before .before .before .args .b) (c .before .before .before .before .before .args .entries .now)) (c .before .before .before .before .before .args .n) (c .before .before .before .loop .i) (c .before .before .loop-test .taken) (sym (c .before .is-entry .ensures) ∙ not-true _ (c .if1 .taken)))
+    sym (every-fails (isBuilderEntry (c .before .before .before .before .before .args .builder) (c .before .before .before .before .before .args .entries .now)) (c .before .before .before .before .before .args .n) (c .before .before .before .loop .i) (c .before .before .loop-test .taken) (sym (c .before .is-entry .ensures) ∙ not-true _ (c .if1 .taken)))
 
 add-i : tie.Need-add-i Inv-loop μ-loop
 add-i c = search needs
@@ -36,12 +36,12 @@ loop-less c = search needs
 
 loop-again : tie.Need-loop-again Inv-loop μ-loop
 loop-again c =
-    (search needs, every-step (isBuilderEntry (c .before .before .before .before .before .args .b) (c .before .before .before .before .before .args .entries .now)) (c .before .before .before .loop .i) (c .before .before .before .loop .inv .1) (sym (c .before .is-entry .ensures) ∙ not-false _ (c .if1 .left)))
+    (search needs, every-step (isBuilderEntry (c .before .before .before .before .before .args .builder) (c .before .before .before .before .before .args .entries .now)) (c .before .before .before .loop .i) (c .before .before .before .loop .inv .1) (sym (c .before .is-entry .ensures) ∙ not-false _ (c .if1 .left)))
 
 returns-2 : tie.Need-returns-2 Inv-loop μ-loop
 returns-2 c =
     let all : c .before .loop .i ≡ c .before .before .before .args .n = omega (arith, c .before .loop .inv .0, c .loop-test .left) in
-    sym (subst (λ (k : ℕ). every (isBuilderEntry (c .before .before .before .args .b) (c .before .before .before .args .entries .now)) k ≡ true) all (c .before .loop .inv .1))
+    sym (subst (λ (k : ℕ). every (isBuilderEntry (c .before .before .before .args .builder) (c .before .before .before .args .entries .now)) k ≡ true) all (c .before .loop .inv .1))
 
 pub entries-stand-spec : {M : Type 1} → statement M
 entries-stand-spec =

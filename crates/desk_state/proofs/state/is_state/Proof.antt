@@ -18,7 +18,7 @@ returns c = simp (← c .before .counts-stand .ensures, not-true (c .before .cou
 
 atoms-stand-requires : tie.Need-atoms-stand-requires
 atoms-stand-requires c κs =
-    let h = counts (c .before .before .before .before .before .before .args .b) _ _ _ _ (sym (c .before .counts-stand .ensures) ∙ not-false (c .before .counts-stand .result) (c .if1 .left)) in
+    let h = counts (c .before .before .before .before .before .before .args .builder) _ _ _ _ (sym (c .before .counts-stand .ensures) ∙ not-false (c .before .counts-stand .result) (c .if1 .left)) in
     omega (arith, h .atoms, h .places)
 
 returns-2 : tie.Need-returns-2
@@ -27,7 +27,7 @@ returns-2 c = simp (← c .before .before .before .counts-stand .ensures, not-fa
 
 entries-stand-requires : tie.Need-entries-stand-requires
 entries-stand-requires c κs =
-    let h = counts (c .before .before .before .before .before .before .before .before .args .b) _ _ _ _ (sym (c .before .before .before .counts-stand .ensures) ∙ not-false (c .before .before .before .counts-stand .result) (c .before .before .if1 .left)) in
+    let h = counts (c .before .before .before .before .before .before .before .before .args .builder) _ _ _ _ (sym (c .before .before .before .counts-stand .ensures) ∙ not-false (c .before .before .before .counts-stand .result) (c .before .before .if1 .left)) in
     omega (arith, h .entries, h .slots)
 
 returns-3 : tie.Need-returns-3
@@ -36,8 +36,8 @@ returns-3 c = simp (← c .before .before .before .before .before .counts-stand 
 
 pairs-stand-requires : tie.Need-pairs-stand-requires
 pairs-stand-requires c κs =
-    let h = counts (c .before .before .before .before .before .before .before .before .before .before .args .b) _ _ _ _ (sym (c .before .before .before .before .before .counts-stand .ensures) ∙ not-false (c .before .before .before .before .before .counts-stand .result) (c .before .before .before .before .if1 .left)) in
-    between (c .before .before .before .before .before .before .before .before .before .before .args .b) _ _ (omega (arith, h .entries, h .slots)) (omega (arith, h .atoms, h .places)) (sym (c .before .entries-stand .ensures) ∙ not-false (c .before .entries-stand .result) (c .if3 .left))
+    let h = counts (c .before .before .before .before .before .before .before .before .before .before .args .builder) _ _ _ _ (sym (c .before .before .before .before .before .counts-stand .ensures) ∙ not-false (c .before .before .before .before .before .counts-stand .result) (c .before .before .before .before .if1 .left)) in
+    between (c .before .before .before .before .before .before .before .before .before .before .args .builder) _ _ (omega (arith, h .entries, h .slots)) (omega (arith, h .atoms, h .places)) (sym (c .before .entries-stand .ensures) ∙ not-false (c .before .entries-stand .result) (c .if3 .left))
 
 returns-4 : tie.Need-returns-4
 unfolding isState
@@ -45,7 +45,7 @@ returns-4 c = simp (← c .before .before .before .before .before .before .befor
 
 joins-rise-requires : tie.Need-joins-rise-requires
 joins-rise-requires c κs =
-    let h = counts (c .before .before .before .before .before .before .before .before .before .before .before .before .args .b) _ _ _ _ (sym (c .before .before .before .before .before .before .before .counts-stand .ensures) ∙ not-false (c .before .before .before .before .before .before .before .counts-stand .result) (c .before .before .before .before .before .before .if1 .left)) in
+    let h = counts (c .before .before .before .before .before .before .before .before .before .before .before .before .args .builder) _ _ _ _ (sym (c .before .before .before .before .before .before .before .counts-stand .ensures) ∙ not-false (c .before .before .before .before .before .before .before .counts-stand .result) (c .before .before .before .before .before .before .if1 .left)) in
     omega (arith, h .entries, h .slots)
 
 returns-5 : tie.Need-returns-5
@@ -61,7 +61,7 @@ returns-6 c = simp (← c .before .before .before .before .before .before .befor
 
 rings-stand-requires : tie.Need-rings-stand-requires
 rings-stand-requires c κs =
-    let h = counts (c .before .before .before .before .before .before .before .before .before .before .before .before .before .before .before .before .args .b) _ _ _ _ (sym (c .before .before .before .before .before .before .before .before .before .before .before .counts-stand .ensures) ∙ not-false (c .before .before .before .before .before .before .before .before .before .before .before .counts-stand .result) (c .before .before .before .before .before .before .before .before .before .before .if1 .left)) in
+    let h = counts (c .before .before .before .before .before .before .before .before .before .before .before .before .before .before .before .before .args .builder) _ _ _ _ (sym (c .before .before .before .before .before .before .before .before .before .before .before .counts-stand .ensures) ∙ not-false (c .before .before .before .before .before .before .before .before .before .before .before .counts-stand .result) (c .before .before .before .before .before .before .before .before .before .before .if1 .left)) in
     omega (arith, h .entries, h .slots)
 
 returns-7 : tie.Need-returns-7
@@ -70,7 +70,7 @@ returns-7 c = simp (← c .before .before .before .before .before .before .befor
 
 joins-stand-requires : tie.Need-joins-stand-requires
 joins-stand-requires c κs =
-    let h = counts (c .before .before .before .before .before .before .before .before .before .before .before .before .before .before .before .before .before .before .args .b) _ _ _ _ (sym (c .before .before .before .before .before .before .before .before .before .before .before .before .before .counts-stand .ensures) ∙ not-false (c .before .before .before .before .before .before .before .before .before .before .before .before .before .counts-stand .result) (c .before .before .before .before .before .before .before .before .before .before .before .before .if1 .left)) in
+    let h = counts (c .before .before .before .before .before .before .before .before .before .before .before .before .before .before .before .before .before .before .args .builder) _ _ _ _ (sym (c .before .before .before .before .before .before .before .before .before .before .before .before .before .counts-stand .ensures) ∙ not-false (c .before .before .before .before .before .before .before .before .before .before .before .before .before .counts-stand .result) (c .before .before .before .before .before .before .before .before .before .before .before .before .if1 .left)) in
     omega (arith, h .entries, h .slots)
 
 returns-8 : tie.Need-returns-8

@@ -27,7 +27,7 @@ is-ring-requires c κs = search needs
 
 returns : tie.Need-returns Inv-loop μ-loop
 returns c =
-    sym (every-fails (isRing (c .before .before .before .before .before .before .args .b) (c .before .before .before .before .before .before .args .entries .now) (c .before .before .before .before .before .before .args .rings .now)) (ringNumberCount) (c .before .before .before .loop .n) (c .before .before .loop-test .taken) (sym (c .before .is-ring .ensures) ∙ not-true _ (c .if1 .taken)))
+    sym (every-fails (isRing (c .before .before .before .before .before .before .args .builder) (c .before .before .before .before .before .before .args .entries .now) (c .before .before .before .before .before .before .args .rings .now)) (ringNumberCount) (c .before .before .before .loop .n) (c .before .before .loop-test .taken) (sym (c .before .is-ring .ensures) ∙ not-true _ (c .if1 .taken)))
 
 add-n : tie.Need-add-n Inv-loop μ-loop
 add-n c = search needs
@@ -37,12 +37,12 @@ loop-less c = search needs
 
 loop-again : tie.Need-loop-again Inv-loop μ-loop
 loop-again c =
-    (search needs, every-step (isRing (c .before .before .before .before .before .before .args .b) (c .before .before .before .before .before .before .args .entries .now) (c .before .before .before .before .before .before .args .rings .now)) (c .before .before .before .loop .n) (c .before .before .before .loop .inv .1) (sym (c .before .is-ring .ensures) ∙ not-false _ (c .if1 .left)))
+    (search needs, every-step (isRing (c .before .before .before .before .before .before .args .builder) (c .before .before .before .before .before .before .args .entries .now) (c .before .before .before .before .before .before .args .rings .now)) (c .before .before .before .loop .n) (c .before .before .before .loop .inv .1) (sym (c .before .is-ring .ensures) ∙ not-false _ (c .if1 .left)))
 
 returns-2 : tie.Need-returns-2 Inv-loop μ-loop
 returns-2 c =
     let all : c .before .loop .n ≡ ringNumberCount = omega (arith, c .before .loop .inv .0, c .loop-test .left) in
-    sym (subst (λ (k : ℕ). every (isRing (c .before .before .before .before .args .b) (c .before .before .before .before .args .entries .now) (c .before .before .before .before .args .rings .now)) k ≡ true) all (c .before .loop .inv .1))
+    sym (subst (λ (k : ℕ). every (isRing (c .before .before .before .before .args .builder) (c .before .before .before .before .args .entries .now) (c .before .before .before .before .args .rings .now)) k ≡ true) all (c .before .loop .inv .1))
 
 pub rings-stand-spec : {M : Type 1} → statement M
 rings-stand-spec =

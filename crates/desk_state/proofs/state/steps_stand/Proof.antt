@@ -38,7 +38,7 @@ is-below-requires c κs = search needs
 
 returns : tie.Need-returns Inv-loop μ-loop
 returns c =
-    sym (every-fails (isStep (c .before .before .before .before .before .before .args .b) (c .before .before .before .before .before .before .args .path .now)) (c .before .before .before .before .before .before .args .n) (c .before .before .before .before .loop .i) (c .before .before .before .loop-test .taken) (by-look (c .before .before .before .before .before .before .args .b) (c .before .before .before .before .before .before .args .path .now) (c .before .before .before .before .loop .i) (c .before .before .look .ensures) (c .before .is-below .ensures) (not-true _ (c .if1 .taken))))
+    sym (every-fails (isStep (c .before .before .before .before .before .before .args .builder) (c .before .before .before .before .before .before .args .path .now)) (c .before .before .before .before .before .before .args .n) (c .before .before .before .before .loop .i) (c .before .before .before .loop-test .taken) (by-look (c .before .before .before .before .before .before .args .builder) (c .before .before .before .before .before .before .args .path .now) (c .before .before .before .before .loop .i) (c .before .before .look .ensures) (c .before .is-below .ensures) (not-true _ (c .if1 .taken))))
 
 add-i : tie.Need-add-i Inv-loop μ-loop
 add-i c = search needs
@@ -48,12 +48,12 @@ loop-less c = search needs
 
 loop-again : tie.Need-loop-again Inv-loop μ-loop
 loop-again c =
-    (search needs, every-step (isStep (c .before .before .before .before .before .before .args .b) (c .before .before .before .before .before .before .args .path .now)) (c .before .before .before .before .loop .i) (c .before .before .before .before .loop .inv .1) (by-look (c .before .before .before .before .before .before .args .b) (c .before .before .before .before .before .before .args .path .now) (c .before .before .before .before .loop .i) (c .before .before .look .ensures) (c .before .is-below .ensures) (not-false _ (c .if1 .left))))
+    (search needs, every-step (isStep (c .before .before .before .before .before .before .args .builder) (c .before .before .before .before .before .before .args .path .now)) (c .before .before .before .before .loop .i) (c .before .before .before .before .loop .inv .1) (by-look (c .before .before .before .before .before .before .args .builder) (c .before .before .before .before .before .before .args .path .now) (c .before .before .before .before .loop .i) (c .before .before .look .ensures) (c .before .is-below .ensures) (not-false _ (c .if1 .left))))
 
 returns-2 : tie.Need-returns-2 Inv-loop μ-loop
 returns-2 c =
     let all : c .before .loop .i ≡ c .before .before .before .args .n = omega (arith, c .before .loop .inv .0, c .loop-test .left) in
-    sym (subst (λ (k : ℕ). every (isStep (c .before .before .before .args .b) (c .before .before .before .args .path .now)) k ≡ true) all (c .before .loop .inv .1))
+    sym (subst (λ (k : ℕ). every (isStep (c .before .before .before .args .builder) (c .before .before .before .args .path .now)) k ≡ true) all (c .before .loop .inv .1))
 
 pub steps-stand-spec : {M : Type 1} → statement M
 steps-stand-spec =

@@ -41,7 +41,7 @@ same-length-4 : tie.Need-same-length-4
 same-length-4 c = search needs
 
 returns-2 : tie.Need-returns-2
-returns-2 c = (λ met walked back taken. ring-number _ _ _ _ _ _ _ _ _ _ _ _ (c .before .before .before .before .before .before .before .before .before .before .before .before .before .before .before .before .before .before .before .before .before .number .ensures .0) (c .before .before .before .before .before .before .before .before .before .before .before .before .before .before .before .before .before .before .before .before .before .number .ensures .1) _ _ _ _ (c .before .before .before .before .before .before .before .before .before .before .before .before .before .before .before .before .before .told .given .1) (c .ring .ensures) (c .before .before .before .before .before .before .before .before .before .before .before .before .before .say-pops .ensures .0) (c .before .before .before .before .before .before .say-join .ensures .0), grows-two (onward-as (ringed-as (c .before .before .before .before .before .before .before .before .before .before .before .before .before .before .before .before .before .before .before .before .before .before .before .before .before .before .args .z) _ _ _ (c .before .before .before .before .before .before .before .before .before .before .before .before .before .before .before .before .before .before .before .before .before .number .ensures .0) (c .ring .ensures)) (onward-ringed (c .before .before .before .before .before .before .before .before .before .before .before .before .before .before .before .before .before .before .before .before .before .before .before .before .before .before .args .z) _)) (c .before .before .before .before .before .before .before .before .before .before .before .before .before .say-pops .ensures .1) (c .before .before .before .before .before .before .say-join .ensures .1))
+returns-2 c = (λ met walked back taken. ring-number _ _ _ _ _ _ _ _ _ _ _ _ (c .before .before .before .before .before .before .before .before .before .before .before .before .before .before .before .before .before .before .before .before .before .number .ensures .0) (c .before .before .before .before .before .before .before .before .before .before .before .before .before .before .before .before .before .before .before .before .before .number .ensures .1) _ _ _ _ (c .before .before .before .before .before .before .before .before .before .before .before .before .before .before .before .before .before .told .given .1) (c .ring .ensures) (c .before .before .before .before .before .before .before .before .before .before .before .before .before .say-pops .ensures .0) (c .before .before .before .before .before .before .say-join .ensures .0), grows-two (onward-as (ringed-as (c .before .before .before .before .before .before .before .before .before .before .before .before .before .before .before .before .before .before .before .before .before .before .before .before .before .before .args .walker) _ _ _ (c .before .before .before .before .before .before .before .before .before .before .before .before .before .before .before .before .before .before .before .before .before .number .ensures .0) (c .ring .ensures)) (onward-ringed (c .before .before .before .before .before .before .before .before .before .before .before .before .before .before .before .before .before .before .before .before .before .before .before .before .before .before .args .walker) _)) (c .before .before .before .before .before .before .before .before .before .before .before .before .before .say-pops .ensures .1) (c .before .before .before .before .before .before .say-join .ensures .1))
 
 pub ring-spec : {M : Type 1} → statement M
 ring-spec =
