@@ -4,10 +4,15 @@ use Prim.Native.Nat.{ℕ}
 use mathlib.Core.List.{List, [], _∷_}
 use lib.ListN.{length, getD}
 use lib.Dec.{ltb, leb, eqb}
+use lib.Seq.{sets}
 use Rattle.feature.specs.Pick.{pick}
 use Rattle.builder.specs.State.{state}
 use Rattle.builder.specs.declared.builder.Builder.{Builder}
 use Rattle.writer.specs.declared.Writer.{Writer}
+use Rattle.desk_writer.specs.declared.Said.{Said}
+use Rattle.desk_writer.specs.Pieces.{writerWords}
+use Rattle.desk_pool.specs.declared.Handed.{Handed}
+use Rattle.desk_pool.specs.Slots.{poolWords}
 use Rattle.join_pool.specs.declared.Pool.{Pool}
 use Rattle.desk_report.specs.declared.state.AsBuilder.{AsBuilder}
 use Rattle.desk_report.specs.declared.state.AsBuilder.the-variants as builder
@@ -62,3 +67,26 @@ writerList w = w .pieces ∷ w .len ∷ []
 
 unfoldable pub poolList : Pool → List ℕ
 poolList p = p .counter ∷ p .spare ∷ []
+
+-- ---- the state's words after a call
+unfoldable pub builderKept : List ℕ → Builder → List ℕ
+builderKept words b = pick (eqb (b .refusal) 0) (sets words 0 (builderWords b)) words
+
+abbrev pub writerKept : List ℕ → Said → List ℕ
+writerKept words said = sets words 0 (writerWords said)
+
+abbrev pub poolKept : List ℕ → Handed → List ℕ
+poolKept words handed = sets words 0 (poolWords handed)
+
+-- ---- what a call does with words that stand for a state, and with words that stand for none
+unfoldable pub onBuilder : {A : Type 0} → AsBuilder → A → (Builder → A) → A
+onBuilder (builder.Is b) none some = some b
+onBuilder builder.Bad none some = none
+
+unfoldable pub onWriter : {A : Type 0} → AsWriter → A → (Writer → A) → A
+onWriter (writer.Is w) none some = some w
+onWriter writer.Bad none some = none
+
+unfoldable pub onPool : {A : Type 0} → AsPool → A → (Pool → A) → A
+onPool (pool.Is p) none some = some p
+onPool pool.Bad none some = none

@@ -2,5 +2,7 @@
 //
 // answer: an answer as a number and what it carries.
 // state: a state as words.
+// keep: what a call leaves of both.
 pub mod answer;
+pub mod keep;
 pub mod state;

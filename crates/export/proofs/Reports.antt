@@ -19,28 +19,15 @@ use Rattle.packing.specs.declared.Pair.{Pair}
 use Rattle.desk_atom.specs.declared.Begins.{Begins}
 use Rattle.table.specs.Zeros.{zeros}
 use Rattle.desk_atom.specs.Texts.{kindsIn, tellsAtom, firstAtom}
-use Rattle.desk_writer.specs.declared.Said as lines
-use Rattle.desk_writer.specs.declared.Said.the-variants as said
-use Rattle.desk_writer.specs.Pieces.{writerWords}
-use Rattle.desk_pool.specs.declared.Handed.{Handed}
-use Rattle.desk_pool.specs.declared.Handed.the-variants as handed
-use Rattle.desk_pool.specs.Slots as slots
 use Rattle.desk_report.specs.declared.answer.Report.{Report}
-use Rattle.writer.specs.declared.Writer.{Writer}
-use Rattle.join_pool.specs.declared.Pool.{Pool}
-use Rattle.desk_report.specs.declared.state.AsWriter.{AsWriter}
-use Rattle.desk_report.specs.declared.state.AsWriter.the-variants as writer
-use Rattle.desk_report.specs.declared.state.AsPool.{AsPool}
-use Rattle.desk_report.specs.declared.state.AsPool.the-variants as pool
 use Rattle.desk_report.specs.declared.state.AsBuilder.{AsBuilder}
 use Rattle.desk_report.specs.declared.state.AsBuilder.the-variants as state
 use Rattle.export.specs.Atom.{kindSize, readKindWords, reading, taken, readAtomX}
 use Rattle.export.specs.Calls.{readCells, readBy, writeCells, writtenBy, orderCells, orderedBy}
-use Rattle.export.specs.Given.{onBuilder, onWriter, onPool}
-use Rattle.export.specs.Steps as Steps
+use Rattle.desk_report.proofs.Kept.{laid-of}
 use Rattle.export.specs.Events.{Made, made, buildReported}
 use Rattle.desk_report.specs.Report.{bad, ofRead, ofWritten, ofBuilt, ofBegins, laidInto}
-use Rattle.desk_report.specs.State.{writerList, poolList}
+use Rattle.desk_report.specs.State.{onBuilder}
 
 -- the read call, the write call and the walk order
 pub read-parts : (s : Said) (r : Answer) (atoms bonds lent left : List ℕ) (p : Report) → said r atoms bonds ≡ s → p ≡ ofRead r → left ≡ laidInto lent p → readCells atoms bonds left ≡ readBy lent s
@@ -71,40 +58,6 @@ module _ (k t text : List ℕ) where
       ∙ ap (λ (x : List ℕ). reading (sets (zeros (length k)) 0 (listed (readKindWords (kindsIn b)))) x) (m ∙ ap (λ (x : Report). laidInto t x) o)
       ∙ ap (taken (reading k t)) e
       ∙ simp (le-ltb _ _ h)
-
--- ---- the states' words after a call
-pub writer-kept : (words : List ℕ) (r : lines.Said) → onWriter (Steps.writerHeld r) words (λ w. sets words 0 (writerList w)) ≡ Steps.writerKept words r
-unfolding onWriter Steps.writerHeld writerWords writerList
-writer-kept words (said.Held w) = refl
-writer-kept words (said.AtomRoom n) = refl
-writer-kept words (said.OutRoom n) = refl
-writer-kept words said.NoPiece = refl
-writer-kept words said.Overpop = refl
-writer-kept words said.BadTable = refl
-
-pub writer-laid : (words left : List ℕ) (r : lines.Said) (h : AsWriter) (w : Writer) → h ≡ Steps.writerHeld r → h ≡ writer.Is w → left ≡ sets words 0 (writerList w) → left ≡ Steps.writerKept words r
-unfolding onWriter
-writer-laid words left r h w e f g =
-    g
-    ∙ ap (λ (x : AsWriter). onWriter x words (λ v. sets words 0 (writerList v))) (sym f ∙ e)
-    ∙ writer-kept words r
-
-pub pool-kept : (words : List ℕ) (r : Handed) → onPool (Steps.poolHeld r) words (λ p. sets words 0 (poolList p)) ≡ Steps.poolKept words r
-unfolding onPool Steps.poolHeld slots.poolWords poolList
-pool-kept words (handed.Number p n) = refl
-pool-kept words handed.RingNumbers = refl
-pool-kept words handed.BadTable = refl
-
-pub pool-laid : (words left : List ℕ) (r : Handed) (h : AsPool) (w : Pool) → h ≡ Steps.poolHeld r → h ≡ pool.Is w → left ≡ sets words 0 (poolList w) → left ≡ Steps.poolKept words r
-unfolding onPool
-pool-laid words left r h w e f g =
-    g
-    ∙ ap (λ (x : AsPool). onPool x words (λ v. sets words 0 (poolList v))) (sym f ∙ e)
-    ∙ pool-kept words r
-
--- the report of an answer, laid
-pub laid-of : (lent left : List ℕ) (p q : Report) → p ≡ q → left ≡ laidInto lent p → left ≡ laidInto lent q
-laid-of lent left p q e f = f ∙ ap (λ (x : Report). laidInto lent x) e
 
 built-told : (r : calls.Answer) (a b t : List ℕ) → made a b (laidInto t (ofBuilt r)) ≡ buildReported t (answerLeaves r a b)
 unfolding buildReported ofBuilt answerLeaves

@@ -38,13 +38,13 @@ use Rattle.desk_builder.specs.Events.{anew, judged, roomsOf, freshOf, startD, r
 use Rattle.desk_builder.proofs.Start.{started}
 use Rattle.desk_builder.specs.Runs.{Root, Extend, Join, Pop, callD, fits}
 use Rattle.desk_builder.proofs.Again.{root-stands, extend-stands, join-stands, pop-stands, call-other}
-use Rattle.desk_report.specs.State.{builderSize, narrow, builderIn, builderWords}
+use Rattle.desk_report.specs.State.{onBuilder, builderSize, narrow, builderIn, builderKept, builderWords}
 use Rattle.desk_report.specs.declared.state.AsBuilder.{AsBuilder}
 use Rattle.desk_report.specs.declared.state.AsBuilder.the-variants as state
 use Rattle.desk_report.specs.Report.{ofEvent, laidInto}
 use Rattle.desk_report.proofs.Again.{builder-again}
-use Rattle.export.specs.Given.{onAtom, onBond, onBuilder}
-use Rattle.export.specs.Events.{BuilderCells, cellsOfBuilder, over, builderKept, builderAfter, builderUnheard, builderEvent, startX, builderRootX, builderExtendX, builderJoinX, builderPopX}
+use Rattle.export.specs.Given.{onAtom, onBond}
+use Rattle.export.specs.Events.{BuilderCells, cellsOfBuilder, over, builderAfter, builderUnheard, builderEvent, startX, builderRootX, builderExtendX, builderJoinX, builderPopX}
 
 -- ---- what an event changes
 -- a refused one nothing but the refusal, and none that has seen no failure the atoms of one

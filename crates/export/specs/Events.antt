@@ -4,8 +4,7 @@
 use Prim.Native.Nat.{ℕ}
 use mathlib.Core.List.{List}
 use lib.ListN.{length}
-use lib.Seq.{sets}
-use lib.Dec.{ltb, eqb}
+use lib.Dec.{ltb}
 use Rattle.feature.specs.Pick.{pick}
 use Rattle.feature.specs.Bonds.{kindOf}
 use Rattle.packing.specs.Words.{loadOf}
@@ -14,9 +13,9 @@ use Rattle.builder.specs.declared.builder.Builder.{Builder}
 use Rattle.table.specs.Zeros.{zeroed}
 use Rattle.desk_builder.specs.Events.{startD, rootD, extendD, joinD, popD}
 use Rattle.desk_builder.specs.Build.{BuildLeft, buildD}
-use Rattle.export.specs.Given.{onAtom, onBond, onBuilder}
+use Rattle.export.specs.Given.{onAtom, onBond}
 use Rattle.desk_report.specs.Report.{bad, ofEvent, ofLeft, laidInto}
-use Rattle.desk_report.specs.State.{builderSize, builderIn, builderWords}
+use Rattle.desk_report.specs.State.{onBuilder, builderSize, builderIn, builderKept}
 
 -- every cell that is lent to an event
 pub record BuilderCells : Type 0 where
@@ -33,10 +32,6 @@ cellsOfBuilder a e p r s t = record { atoms = a; entries = e; path = p; rings = 
 -- the builder of a state over the tables
 abbrev pub over : BuilderCells → Builder → Bld
 over c s = bld (c .atoms) (c .entries) (c .path) (c .rings) s
-
--- the state's words after an event
-unfoldable pub builderKept : List ℕ → Builder → List ℕ
-builderKept words b = pick (eqb (b .refusal) 0) (sets words 0 (builderWords b)) words
 
 -- what an event leaves
 unfoldable pub builderAfter : BuilderCells → Bld → BuilderCells

@@ -4,4 +4,3 @@ pub mod Events
 pub mod Given
 pub mod Lines
 pub mod Rings
-pub mod Steps

@@ -13,9 +13,9 @@ use Rattle.table.specs.Limits.{ringNumberCount}
 use Rattle.writer.specs.Line.{Event}
 use Rattle.writer.specs.Tables.{spoken}
 use Rattle.desk_writer.specs.Pieces.{EventLeft, eventD}
-use Rattle.export.specs.Given.{onAtom, onBond, onWriter}
+use Rattle.export.specs.Given.{onAtom, onBond}
 use Rattle.desk_report.specs.Report.{bad, telling, laidInto}
-use Rattle.desk_report.specs.State.{writerIn}
+use Rattle.desk_report.specs.State.{onWriter, writerIn}
 
 -- every cell that is lent to an event
 pub record WriterCells : Type 0 where

@@ -4,9 +4,8 @@ use Prim.Native.Nat.{ℕ}
 use mathlib.Core.List.{List}
 use lib.Seq.{sets}
 use Rattle.desk_pool.specs.Slots.{Gives, hitD}
-use Rattle.export.specs.Given.{onPool}
 use Rattle.desk_report.specs.Report.{bad, telling, laidInto}
-use Rattle.desk_report.specs.State.{poolIn}
+use Rattle.desk_report.specs.State.{onPool, poolIn}
 
 -- every cell that is lent to a call
 pub record PoolCells : Type 0 where

@@ -1,42 +1,20 @@
 // The builder's start, its events and its build, over tables, the words of a state and a report. Words that stand for no
 // state, no atom or no bond are answered 17. An event that is refused changes nothing but the report.
 ghost use mathlib.Core.Path.{_≡_};
-ghost use Rattle.desk_report.specs.Report.{ofEvent, laidInto};
-ghost use Rattle.export.specs.Events.{cellsOfBuilder, builderKept, startX, builderRootX, builderExtendX, builderJoinX, builderPopX, made, buildX};
-use builder::builder::Builder;
+ghost use Rattle.export.specs.Events.{cellsOfBuilder, startX, builderRootX, builderExtendX, builderJoinX, builderPopX, made, buildX};
 use desk_builder::calls;
 use desk_report::answer::lay;
 use desk_report::answer::of_built;
-use desk_report::answer::of_event;
 use desk_report::answer::refuse;
+use desk_report::keep::keep_builder;
 use desk_report::state::AsBuilder;
 use desk_report::state::BUILDER_WORDS;
 use desk_report::state::builder_in;
-use desk_report::state::lay_builder;
 use feature::bond_kind::Coded;
 use feature::bond_kind::decode;
 use packing::Loaded;
 use packing::kind;
 use table::clear;
-
-// The new state, where an event was accepted.
-fn keep_state(state: &mut [u64], builder: Builder)
-    ensures { λ _. ⌜ now (state .exit) ≡ builderKept (now (state .entry)) builder ⌝ }
-{
-    if builder.refusal != 0 {
-        return;
-    }
-    lay_builder(state, builder);
-}
-
-// What an event leaves beside its tables.
-fn keep(state: &mut [u64], report: &mut [u64], builder: Builder)
-    ensures { λ _. ⌜ now (state .exit) ≡ builderKept (now (state .entry)) builder ⌝ }
-    ensures { λ _. ⌜ now (report .exit) ≡ laidInto (now (report .entry)) (ofEvent builder) ⌝ }
-{
-    keep_state(state, builder);
-    lay(report, of_event(builder));
-}
 
 // A builder that has seen no event, over the tables that its events will be lent: its state, and its ring numbers all free.
 #[no_mangle]
@@ -58,7 +36,7 @@ pub extern "C" fn mavisdrok_builder_start(
         refuse(report);
         return;
     }
-    keep(state, report, calls::start(atoms, entries, path, rings));
+    keep_builder(state, report, calls::start(atoms, entries, path, rings));
 }
 
 // A first atom of a component.
@@ -89,7 +67,7 @@ pub extern "C" fn mavisdrok_builder_root(
         refuse(report);
         return;
     };
-    keep(
+    keep_builder(
         state,
         report,
         calls::root(atoms, entries, path, rings, b, k),
@@ -130,7 +108,7 @@ pub extern "C" fn mavisdrok_builder_extend(
         refuse(report);
         return;
     };
-    keep(
+    keep_builder(
         state,
         report,
         calls::extend(atoms, entries, path, rings, b, k, t),
@@ -165,7 +143,7 @@ pub extern "C" fn mavisdrok_builder_join(
         refuse(report);
         return;
     };
-    keep(
+    keep_builder(
         state,
         report,
         calls::join(atoms, entries, path, rings, b, k, number as usize),
@@ -194,7 +172,7 @@ pub extern "C" fn mavisdrok_builder_pop(
         refuse(report);
         return;
     };
-    keep(state, report, calls::pop(atoms, entries, path, rings, b, n));
+    keep_builder(state, report, calls::pop(atoms, entries, path, rings, b, n));
 }
 
 // The graph in its final form. A refused build leaves zeros in both tables.

@@ -2,35 +2,12 @@
 // 17. A call that is refused changes nothing but the report.
 ghost use mathlib.Core.Path.{_≡_};
 ghost use Rattle.export.specs.Rings.{cellsOfPool, hitX};
-ghost use Rattle.export.specs.Steps.{poolHeld, poolKept};
-use desk_pool::Handed;
 use desk_report::answer::lay;
 use desk_report::answer::of_handed;
 use desk_report::answer::refuse;
+use desk_report::keep::keep_pool_state;
 use desk_report::state::AsPool;
-use desk_report::state::lay_pool;
 use desk_report::state::pool_in;
-
-// The new state, where a number was handed out or closed.
-fn held_by(handed: Handed) -> AsPool
-    ensures { λ r. ⌜ r ≡ poolHeld handed ⌝ }
-{
-    match handed {
-        Handed::Number(p, _n) => AsPool::Is(p),
-        Handed::RingNumbers => AsPool::Bad,
-        Handed::BadTable => AsPool::Bad,
-    }
-}
-
-fn keep_state(state: &mut [u64], handed: Handed)
-    ensures { λ _. ⌜ now (state .exit) ≡ poolKept (now (state .entry)) handed ⌝ }
-{
-    let held = held_by(handed);
-    let AsPool::Is(p) = held else {
-        return;
-    };
-    lay_pool(state, p);
-}
 
 // A call for the pair of two atoms: the first opens a number for it, the next closes it.
 #[no_mangle]
@@ -50,6 +27,6 @@ pub extern "C" fn mavisdrok_pool_hit(
         return;
     };
     let handed = desk_pool::hit(pairs, p, a, b);
-    keep_state(state, handed);
+    keep_pool_state(state, handed);
     lay(report, of_handed(handed, a, b));
 }

@@ -3,7 +3,7 @@ use Rattle.export.proofs.Reports.{build-parts}
 use Rattle.export.specs.Events.{buildX}
 -- Words that stand for no state, and the build.
 use Rattle.export.specs.Events.{buildX, buildReported}
-use Rattle.export.specs.Given.{onBuilder}
+use Rattle.desk_report.specs.State.{onBuilder}
 use borrow.Author.Needs.{needs}
 use Rattle.export.proofs.events.mavisdrok_builder_build.Statement.{statement}
 use Rattle.export.proofs.events.mavisdrok_builder_build.Tie as tie

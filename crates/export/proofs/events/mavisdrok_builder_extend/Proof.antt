@@ -1,6 +1,7 @@
 -- Each way through an extend: words that stand for nothing, and the event.
 use Rattle.export.specs.Events.{builderExtendX, builderEvent, builderAfter, builderUnheard}
-use Rattle.export.specs.Given.{onAtom, onBond, onBuilder}
+use Rattle.desk_report.specs.State.{onBuilder}
+use Rattle.export.specs.Given.{onAtom, onBond}
 use borrow.Author.Needs.{needs}
 use Rattle.export.proofs.events.mavisdrok_builder_extend.Statement.{statement}
 use Rattle.export.proofs.events.mavisdrok_builder_extend.Tie as tie
@@ -68,8 +69,8 @@ returns-3 c = simp (← c .before .before .before .before .before .before .befor
 extend-requires : tie.Need-extend-requires
 extend-requires c κs = search needs
 
-keep-requires : tie.Need-keep-requires
-keep-requires c κs = search needs
+keep-builder-requires : tie.Need-keep-builder-requires
+keep-builder-requires c κs = search needs
 
 same-length-5 : tie.Need-same-length-5
 same-length-5 c = search needs
@@ -88,7 +89,7 @@ same-length-9 c = search needs
 
 returns-4 : tie.Need-returns-4
 unfolding builderExtendX builderEvent builderAfter builderUnheard onAtom onBond onBuilder
-returns-4 c = simp (← c .before .before .before .before .before .before .before .before .before .before .before .before .before .before .before .before .before .before .before .before .before .before .before .before .before .before .before .before .before .kind .ensures, c .before .before .before .before .before .before .before .before .before .before .before .before .before .before .before .before .before .before .before .before .before .before .before .before .before .before .before .atom .given .1, ← c .before .before .before .before .before .before .before .before .before .before .before .before .before .before .before .before .before .before .before .before .before .before .before .before .before .decode .ensures, c .before .before .before .before .before .before .before .before .before .before .before .before .before .before .before .before .before .before .before .before .before .before .before .coded .given .1, ← c .before .before .before .before .before .before .before .before .before .before .before .before .before .before .before .before .before .before .before .before .builder-in .ensures, c .before .before .before .before .before .before .before .before .before .before .before .before .before .before .before .before .before .before .held .given .1, ← c .before .before .before .before .before .before .before .before .before .before .before .extend .ensures, ← c .before .before .before .before .keep .ensures .0, ← c .before .before .before .before .keep .ensures .1)
+returns-4 c = simp (← c .before .before .before .before .before .before .before .before .before .before .before .before .before .before .before .before .before .before .before .before .before .before .before .before .before .before .before .before .before .kind .ensures, c .before .before .before .before .before .before .before .before .before .before .before .before .before .before .before .before .before .before .before .before .before .before .before .before .before .before .before .atom .given .1, ← c .before .before .before .before .before .before .before .before .before .before .before .before .before .before .before .before .before .before .before .before .before .before .before .before .before .decode .ensures, c .before .before .before .before .before .before .before .before .before .before .before .before .before .before .before .before .before .before .before .before .before .before .before .coded .given .1, ← c .before .before .before .before .before .before .before .before .before .before .before .before .before .before .before .before .before .before .before .before .builder-in .ensures, c .before .before .before .before .before .before .before .before .before .before .before .before .before .before .before .before .before .before .held .given .1, ← c .before .before .before .before .before .before .before .before .before .before .before .extend .ensures, ← c .before .before .before .before .keep-builder .ensures .0, ← c .before .before .before .before .keep-builder .ensures .1)
 
 pub mavisdrok-builder-extend-spec : {M : Type 1} → statement M
 mavisdrok-builder-extend-spec =
@@ -114,7 +115,7 @@ mavisdrok-builder-extend-spec =
     same-length-4
     returns-3
     extend-requires
-    keep-requires
+    keep-builder-requires
     same-length-5
     same-length-6
     same-length-7

@@ -1,6 +1,6 @@
 -- Each way through a pop: words that stand for nothing, and the event.
 use Rattle.export.specs.Events.{builderPopX, builderEvent, builderAfter, builderUnheard}
-use Rattle.export.specs.Given.{onBuilder}
+use Rattle.desk_report.specs.State.{onBuilder}
 use borrow.Author.Needs.{needs}
 use Rattle.export.proofs.events.mavisdrok_builder_pop.Statement.{statement}
 use Rattle.export.proofs.events.mavisdrok_builder_pop.Tie as tie
@@ -30,8 +30,8 @@ returns c = simp (← c .before .before .before .before .before .before .builder
 pop-requires : tie.Need-pop-requires
 pop-requires c κs = search needs
 
-keep-requires : tie.Need-keep-requires
-keep-requires c κs = search needs
+keep-builder-requires : tie.Need-keep-builder-requires
+keep-builder-requires c κs = search needs
 
 same-length-3 : tie.Need-same-length-3
 same-length-3 c = search needs
@@ -41,7 +41,7 @@ same-length-4 c = search needs
 
 returns-2 : tie.Need-returns-2
 unfolding builderPopX builderEvent builderAfter builderUnheard onBuilder
-returns-2 c = simp (← c .before .before .before .before .before .before .before .before .before .before .before .builder-in .ensures, c .before .before .before .before .before .before .before .before .before .held .given .1, ← c .before .before .before .before .before .pop .ensures, ← c .before .before .before .before .keep .ensures .0, ← c .before .before .before .before .keep .ensures .1)
+returns-2 c = simp (← c .before .before .before .before .before .before .before .before .before .before .before .builder-in .ensures, c .before .before .before .before .before .before .before .before .before .held .given .1, ← c .before .before .before .before .before .pop .ensures, ← c .before .before .before .before .keep-builder .ensures .0, ← c .before .before .before .before .keep-builder .ensures .1)
 
 pub mavisdrok-builder-pop-spec : {M : Type 1} → statement M
 mavisdrok-builder-pop-spec =
@@ -55,7 +55,7 @@ mavisdrok-builder-pop-spec =
     same-length-2
     returns
     pop-requires
-    keep-requires
+    keep-builder-requires
     same-length-3
     same-length-4
     returns-2)

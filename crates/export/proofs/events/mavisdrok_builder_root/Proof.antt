@@ -1,6 +1,7 @@
 -- Each way through a root: words that stand for nothing, and the event.
 use Rattle.export.specs.Events.{builderRootX, builderEvent, builderAfter, builderUnheard}
-use Rattle.export.specs.Given.{onAtom, onBuilder}
+use Rattle.desk_report.specs.State.{onBuilder}
+use Rattle.export.specs.Given.{onAtom}
 use borrow.Author.Needs.{needs}
 use Rattle.export.proofs.events.mavisdrok_builder_root.Statement.{statement}
 use Rattle.export.proofs.events.mavisdrok_builder_root.Tie as tie
@@ -49,8 +50,8 @@ returns-2 c = simp (← c .before .before .before .before .before .before .befor
 root-requires : tie.Need-root-requires
 root-requires c κs = search needs
 
-keep-requires : tie.Need-keep-requires
-keep-requires c κs = search needs
+keep-builder-requires : tie.Need-keep-builder-requires
+keep-builder-requires c κs = search needs
 
 same-length-4 : tie.Need-same-length-4
 same-length-4 c = search needs
@@ -66,7 +67,7 @@ same-length-7 c = search needs
 
 returns-3 : tie.Need-returns-3
 unfolding builderRootX builderEvent builderAfter builderUnheard onAtom onBuilder
-returns-3 c = simp (← c .before .before .before .before .before .before .before .before .before .before .before .before .before .before .before .before .before .before .before .before .before .before .kind .ensures, c .before .before .before .before .before .before .before .before .before .before .before .before .before .before .before .before .before .before .before .before .atom .given .1, ← c .before .before .before .before .before .before .before .before .before .before .before .before .before .before .before .before .before .builder-in .ensures, c .before .before .before .before .before .before .before .before .before .before .before .before .before .before .before .held .given .1, ← c .before .before .before .before .before .before .before .before .before .root .ensures, ← c .before .before .before .before .keep .ensures .0, ← c .before .before .before .before .keep .ensures .1)
+returns-3 c = simp (← c .before .before .before .before .before .before .before .before .before .before .before .before .before .before .before .before .before .before .before .before .before .before .kind .ensures, c .before .before .before .before .before .before .before .before .before .before .before .before .before .before .before .before .before .before .before .before .atom .given .1, ← c .before .before .before .before .before .before .before .before .before .before .before .before .before .before .before .before .before .builder-in .ensures, c .before .before .before .before .before .before .before .before .before .before .before .before .before .before .before .held .given .1, ← c .before .before .before .before .before .before .before .before .before .root .ensures, ← c .before .before .before .before .keep-builder .ensures .0, ← c .before .before .before .before .keep-builder .ensures .1)
 
 pub mavisdrok-builder-root-spec : {M : Type 1} → statement M
 mavisdrok-builder-root-spec =
@@ -86,7 +87,7 @@ mavisdrok-builder-root-spec =
     same-length-3
     returns-2
     root-requires
-    keep-requires
+    keep-builder-requires
     same-length-4
     same-length-5
     same-length-6

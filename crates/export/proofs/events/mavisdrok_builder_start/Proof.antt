@@ -23,8 +23,8 @@ start-requires : tie.Need-start-requires
 start-requires c κs = search needs
 
 -- src/events.rt:58:5
-keep-requires : tie.Need-keep-requires
-keep-requires c κs = search needs
+keep-builder-requires : tie.Need-keep-builder-requires
+keep-builder-requires c κs = search needs
 
 -- src/events.rt:42:1
 same-length-2 : tie.Need-same-length-2
@@ -41,7 +41,7 @@ same-length-4 c = search needs
 -- src/events.rt:42:1
 returns-2 : tie.Need-returns-2
 unfolding startX builderAfter builderUnheard
-returns-2 c = simp (le-ltb _ _ (c .before .before .before .before .before .before .before .before .before .before .before .if1 .left), ← c .before .before .before .before .before .before .before .start .ensures, ← c .before .before .before .before .keep .ensures .0, ← c .before .before .before .before .keep .ensures .1)
+returns-2 c = simp (le-ltb _ _ (c .before .before .before .before .before .before .before .before .before .before .before .if1 .left), ← c .before .before .before .before .before .before .before .start .ensures, ← c .before .before .before .before .keep-builder .ensures .0, ← c .before .before .before .before .keep-builder .ensures .1)
 
 pub mavisdrok-builder-start-spec : {M : Type 1} → statement M
 mavisdrok-builder-start-spec =
@@ -51,7 +51,7 @@ mavisdrok-builder-start-spec =
     same-length
     returns
     start-requires
-    keep-requires
+    keep-builder-requires
     same-length-2
     same-length-3
     same-length-4

@@ -1,6 +1,7 @@
 -- Each way through an extend: words that stand for nothing, and the event.
 use Rattle.export.specs.Lines.{writerExtendX, writerEvent, writerAfter, writerUnheard}
-use Rattle.export.specs.Given.{onAtom, onBond, onWriter}
+use Rattle.desk_report.specs.State.{onWriter}
+use Rattle.export.specs.Given.{onAtom, onBond}
 use borrow.Author.Needs.{needs}
 use Rattle.export.proofs.lines.mavisdrok_writer_extend.Statement.{statement}
 use Rattle.export.proofs.lines.mavisdrok_writer_extend.Tie as tie
@@ -68,8 +69,8 @@ returns-3 c = simp (← c .before .before .before .before .before .before .befor
 extend-requires : tie.Need-extend-requires
 extend-requires c κs = search needs
 
-keep-requires : tie.Need-keep-requires
-keep-requires c κs = search needs
+keep-writer-requires : tie.Need-keep-writer-requires
+keep-writer-requires c κs = search needs
 
 same-length-5 : tie.Need-same-length-5
 same-length-5 c = search needs
@@ -85,7 +86,7 @@ same-length-8 c = search needs
 
 returns-4 : tie.Need-returns-4
 unfolding writerExtendX writerEvent writerAfter writerUnheard onAtom onBond onWriter
-returns-4 c = simp (← c .before .before .before .before .before .before .before .before .before .before .before .before .before .before .before .before .before .before .before .before .before .before .before .before .before .before .kind .ensures, c .before .before .before .before .before .before .before .before .before .before .before .before .before .before .before .before .before .before .before .before .before .before .before .before .atom .given .1, ← c .before .before .before .before .before .before .before .before .before .before .before .before .before .before .before .before .before .before .before .before .before .before .decode .ensures, c .before .before .before .before .before .before .before .before .before .before .before .before .before .before .before .before .before .before .before .before .coded .given .1, ← c .before .before .before .before .before .before .before .before .before .before .before .before .before .before .before .before .before .writer-in .ensures, c .before .before .before .before .before .before .before .before .before .before .before .before .before .before .before .held .given .1, ← c .before .before .before .before .before .before .before .before .before .extend .ensures, ← c .before .before .before .before .keep .ensures .0, ← c .before .before .before .before .keep .ensures .1)
+returns-4 c = simp (← c .before .before .before .before .before .before .before .before .before .before .before .before .before .before .before .before .before .before .before .before .before .before .before .before .before .before .kind .ensures, c .before .before .before .before .before .before .before .before .before .before .before .before .before .before .before .before .before .before .before .before .before .before .before .before .atom .given .1, ← c .before .before .before .before .before .before .before .before .before .before .before .before .before .before .before .before .before .before .before .before .before .before .decode .ensures, c .before .before .before .before .before .before .before .before .before .before .before .before .before .before .before .before .before .before .before .before .coded .given .1, ← c .before .before .before .before .before .before .before .before .before .before .before .before .before .before .before .before .before .writer-in .ensures, c .before .before .before .before .before .before .before .before .before .before .before .before .before .before .before .held .given .1, ← c .before .before .before .before .before .before .before .before .before .extend .ensures, ← c .before .before .before .before .keep-writer .ensures .0, ← c .before .before .before .before .keep-writer .ensures .1)
 
 pub mavisdrok-writer-extend-spec : {M : Type 1} → statement M
 mavisdrok-writer-extend-spec =
@@ -111,7 +112,7 @@ mavisdrok-writer-extend-spec =
     same-length-4
     returns-3
     extend-requires
-    keep-requires
+    keep-writer-requires
     same-length-5
     same-length-6
     same-length-7

@@ -1,6 +1,6 @@
 -- Each way through a pop: words that stand for nothing, and the event.
 use Rattle.export.specs.Lines.{writerPopX, writerEvent, writerAfter, writerUnheard}
-use Rattle.export.specs.Given.{onWriter}
+use Rattle.desk_report.specs.State.{onWriter}
 use borrow.Author.Needs.{needs}
 use Rattle.export.proofs.lines.mavisdrok_writer_pop.Statement.{statement}
 use Rattle.export.proofs.lines.mavisdrok_writer_pop.Tie as tie
@@ -30,8 +30,8 @@ returns c = simp (← c .before .before .before .before .before .before .writer-
 pop-requires : tie.Need-pop-requires
 pop-requires c κs = search needs
 
-keep-requires : tie.Need-keep-requires
-keep-requires c κs = search needs
+keep-writer-requires : tie.Need-keep-writer-requires
+keep-writer-requires c κs = search needs
 
 same-length-3 : tie.Need-same-length-3
 same-length-3 c = search needs
@@ -47,7 +47,7 @@ same-length-6 c = search needs
 
 returns-2 : tie.Need-returns-2
 unfolding writerPopX writerEvent writerAfter writerUnheard onWriter
-returns-2 c = simp (← c .before .before .before .before .before .before .before .before .before .before .before .before .before .before .before .before .before .writer-in .ensures, c .before .before .before .before .before .before .before .before .before .before .before .before .before .before .before .held .given .1, ← c .before .before .before .before .before .before .before .before .before .pop .ensures, ← c .before .before .before .before .keep .ensures .0, ← c .before .before .before .before .keep .ensures .1)
+returns-2 c = simp (← c .before .before .before .before .before .before .before .before .before .before .before .before .before .before .before .before .before .writer-in .ensures, c .before .before .before .before .before .before .before .before .before .before .before .before .before .before .before .held .given .1, ← c .before .before .before .before .before .before .before .before .before .pop .ensures, ← c .before .before .before .before .keep-writer .ensures .0, ← c .before .before .before .before .keep-writer .ensures .1)
 
 pub mavisdrok-writer-pop-spec : {M : Type 1} → statement M
 mavisdrok-writer-pop-spec =
@@ -61,7 +61,7 @@ mavisdrok-writer-pop-spec =
     same-length-2
     returns
     pop-requires
-    keep-requires
+    keep-writer-requires
     same-length-3
     same-length-4
     same-length-5

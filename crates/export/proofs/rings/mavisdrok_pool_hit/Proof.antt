@@ -1,6 +1,6 @@
 -- Each way through the call: words that stand for no pool, and the answer.
 use Rattle.export.specs.Rings.{hitX, poolAfter}
-use Rattle.export.specs.Given.{onPool}
+use Rattle.desk_report.specs.State.{onPool}
 use borrow.Author.Needs.{needs}
 use Rattle.export.proofs.rings.mavisdrok_pool_hit.Statement.{statement}
 use Rattle.export.proofs.rings.mavisdrok_pool_hit.Tie as tie
@@ -30,8 +30,8 @@ returns c = simp (← c .before .before .before .before .before .before .pool-in
 hit-requires : tie.Need-hit-requires
 hit-requires c κs = search needs
 
-keep-state-requires : tie.Need-keep-state-requires
-keep-state-requires c κs = search needs
+keep-pool-state-requires : tie.Need-keep-pool-state-requires
+keep-pool-state-requires c κs = search needs
 
 of-handed-requires : tie.Need-of-handed-requires
 of-handed-requires c κs = search needs
@@ -50,7 +50,7 @@ same-length-5 c = search needs
 
 returns-2 : tie.Need-returns-2
 unfolding hitX poolAfter onPool
-returns-2 c = simp (← c .before .before .before .before .before .before .before .before .before .before .before .before .before .before .before .before .pool-in .ensures, c .before .before .before .before .before .before .before .before .before .before .before .before .before .before .held .given .1, ← c .before .before .before .before .before .before .before .before .before .before .before .hit .ensures, ← c .before .before .before .before .before .before .before .keep-state .ensures, ← c .before .before .before .of-handed .ensures, ← c .before .before .lay .ensures)
+returns-2 c = simp (← c .before .before .before .before .before .before .before .before .before .before .before .before .before .before .before .before .pool-in .ensures, c .before .before .before .before .before .before .before .before .before .before .before .before .before .before .held .given .1, ← c .before .before .before .before .before .before .before .before .before .before .before .hit .ensures, ← c .before .before .before .before .before .before .before .keep-pool-state .ensures, ← c .before .before .before .of-handed .ensures, ← c .before .before .lay .ensures)
 
 pub mavisdrok-pool-hit-spec : {M : Type 1} → statement M
 mavisdrok-pool-hit-spec =
@@ -64,7 +64,7 @@ mavisdrok-pool-hit-spec =
     same-length-2
     returns
     hit-requires
-    keep-state-requires
+    keep-pool-state-requires
     of-handed-requires
     lay-requires
     same-length-3

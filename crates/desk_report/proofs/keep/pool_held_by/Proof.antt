@@ -1,8 +1,8 @@
 -- Each answer of a call: only the first has a new state.
-use Rattle.export.specs.Steps.{poolHeld}
+use Rattle.desk_report.specs.Steps.{poolHeld}
 use borrow.Author.Needs.{needs}
-use Rattle.export.proofs.rings.held_by.Statement.{statement}
-use Rattle.export.proofs.rings.held_by.Tie as tie
+use Rattle.desk_report.proofs.keep.pool_held_by.Statement.{statement}
+use Rattle.desk_report.proofs.keep.pool_held_by.Tie as tie
 
 enum-known-handed : tie.Need-enum-known-handed
 enum-known-handed c = search needs
@@ -25,6 +25,6 @@ returns-3 : tie.Need-returns-3
 unfolding poolHeld
 returns-3 c = simp (c .enum-told2 .given .1)
 
-pub held-by-spec : {M : Type 1} → statement M
-held-by-spec =
+pub pool-held-by-spec : {M : Type 1} → statement M
+pool-held-by-spec =
     tie.close (tie.spec enum-known-handed enum-told enum-told-2 returns returns-2 returns-3)

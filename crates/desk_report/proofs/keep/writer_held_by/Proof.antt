@@ -1,8 +1,8 @@
 -- Each answer of an event: only the first has a new state.
-use Rattle.export.specs.Steps.{writerHeld}
+use Rattle.desk_report.specs.Steps.{writerHeld}
 use borrow.Author.Needs.{needs}
-use Rattle.export.proofs.lines.held_by.Statement.{statement}
-use Rattle.export.proofs.lines.held_by.Tie as tie
+use Rattle.desk_report.proofs.keep.writer_held_by.Statement.{statement}
+use Rattle.desk_report.proofs.keep.writer_held_by.Tie as tie
 
 enum-known-said : tie.Need-enum-known-said
 enum-known-said c = search needs
@@ -46,8 +46,8 @@ returns-6 : tie.Need-returns-6
 unfolding writerHeld
 returns-6 c = simp (c .enum-told3 .given .1)
 
-pub held-by-spec : {M : Type 1} → statement M
-held-by-spec =
+pub writer-held-by-spec : {M : Type 1} → statement M
+writer-held-by-spec =
     tie.close
     (tie.spec
     enum-known-said

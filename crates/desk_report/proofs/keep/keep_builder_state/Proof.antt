@@ -1,9 +1,9 @@
 -- A refused event keeps the words, an accepted one lays its state.
 use borrow.Author.Tests.{eq-eqb, ne-eqb}
-use Rattle.export.specs.Events.{builderKept}
+use Rattle.desk_report.specs.State.{builderKept}
 use borrow.Author.Needs.{needs}
-use Rattle.export.proofs.events.keep_state.Statement.{statement}
-use Rattle.export.proofs.events.keep_state.Tie as tie
+use Rattle.desk_report.proofs.keep.keep_builder_state.Statement.{statement}
+use Rattle.desk_report.proofs.keep.keep_builder_state.Tie as tie
 
 returns : tie.Need-returns
 unfolding builderKept
@@ -19,5 +19,5 @@ returns-2 : tie.Need-returns-2
 unfolding builderKept
 returns-2 c = simp (eq-eqb _ _ (c .before .before .before .before .if1 .left), ← c .before .before .lay-builder .ensures)
 
-pub keep-state-spec : {M : Type 1} → statement M
-keep-state-spec = tie.close (tie.spec returns lay-builder-requires same-length returns-2)
+pub keep-builder-state-spec : {M : Type 1} → statement M
+keep-builder-state-spec = tie.close (tie.spec returns lay-builder-requires same-length returns-2)
