@@ -171,16 +171,20 @@ native_proved_module() {
     }
 }
 
-# native_object FILE: the module compiled for this machine. How large a function may be that is laid open where it is called,
-# and how much room one may take in a function that calls itself: as large as there are, so that no state goes through memory
-# from call to call. Nothing of the code is changed but, on another processor than x86-64, the words that name the target. The
-# words that ask for each page of a large frame to be touched are kept, so that a call with too little stack stops at the guard
-# page and writes nowhere else.
-native_object() {
+# The module as text, in work/module.ll. Nothing of the code is changed but, on another processor than x86-64, the words that
+# name the target.
+native_text() {
     "$own/toolchain/bin/clang" --target=x86_64-unknown-linux-gnu -x ir "$work/module.bc" -S -emit-llvm -O0 \
         -Xclang -disable-llvm-passes -o "$work/module.ll"
     [ "$machine" = x86_64 ] ||
         sed -i -e '/^target triple/d' -e '/^target datalayout/d' -e 's/ "target-cpu"="x86-64"//' "$work/module.ll"
+}
+
+# native_object FILE: that text compiled for this machine. How large a function may be that is laid open where it is called,
+# and how much room one may take in a function that calls itself: as large as there are, so that no state goes through memory
+# from call to call. The words that ask for each page of a large frame to be touched are kept, so that a call with too little
+# stack stops at the guard page and writes nowhere else.
+native_object() {
     "$own/toolchain/bin/clang" --target="$machine-unknown-linux-gnu" -Wno-override-module -mllvm -trap-unreachable \
         -mllvm -no-trap-after-noreturn -mllvm -inline-threshold=30000 -mllvm -recursive-inline-max-stacksize=100000 \
         -ffunction-sections -fdata-sections -fPIC -O3 -c -x ir "$work/module.ll" -o "$1"

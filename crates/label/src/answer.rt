@@ -1,4 +1,5 @@
-// The answer to a text: the desk's number, a tab, and what the command has to say; or what `check` says in words.
+// The answer to a text: the desk's number, a tab, and what the command has to say; or what `check` says in words; or a line of
+// a tray.
 ghost use mathlib.Core.Path.{_≡_};
 ghost use Prim.Native.Nat.{_≤_};
 ghost use lib.ListN.{length};
@@ -8,13 +9,22 @@ use answer_text::desk::print_refusal;
 use answer_text::order::print_order;
 use answer_text::tables::least;
 use answer_text::tables::print_graph;
-use answer_text::words::place_of;
-use answer_text::words::print_words;
 use desk_answer::Said;
 use desk_answer::of_read;
 use desk_answer::of_written;
 use desk_numbers::DONE;
-use oracle_form::byte::NOWHERE;
+use label_text::looks::Looks;
+use label_text::looks::looks_like;
+use label_text::lost::Lost;
+use label_text::lost::find_lost;
+use label_text::lost::nothing_lost;
+use label_text::phrase::put_counted;
+use label_text::rings::Places;
+use label_text::rings::nowhere;
+use label_text::run::put_run;
+use label_text::why::places;
+use label_text::why::put_comment;
+use label_text::why::put_why;
 use oracle_form::byte::put;
 use oracle_form::byte::put_word;
 use oracle_form::number;
@@ -37,7 +47,13 @@ const ATOM_BYTES: usize = 32;
 
 const ENTRY_BYTES: usize = 12;
 
-pub const LONGEST: usize = COUNT_BYTES + ATOMS * ATOM_BYTES + BONDS * ENTRY_BYTES;
+const LONGEST: usize = COUNT_BYTES + ATOMS * ATOM_BYTES + BONDS * ENTRY_BYTES;
+// What more there may be: the line's number, words, a `#` and the names.
+const WORDS: usize = 512;
+// A byte of a text is at most an atom, and at most a bond, which has two ends, each an entry.
+const ENDS: usize = 2;
+
+const BYTE_BYTES: usize = ATOM_BYTES + ENDS * ENTRY_BYTES;
 
 // A written line has at most so many bytes an atom, and a bond entry.
 const ATOM_LINE: usize = 24;
@@ -46,34 +62,62 @@ const ENTRY_LINE: usize = 4;
 
 const LINE: usize = ATOM_LINE * ATOMS + ENTRY_LINE * BONDS;
 
-// A bond has two ends, each an entry.
-const ENDS: usize = 2;
-
-// What was told: the output's place after it, whether it is a refusal, and the place in the text to be marked, or NOWHERE.
+// What was told: the output's place after it; whether it is a refusal, and what the text looks like then; whether the text was
+// passed on as it is; the places in the text to be marked; the atoms that are not kept.
 pub struct Told {
     pub at: usize,
     pub is_refusal: bool,
-    pub place: usize,
+    pub looks: Looks,
+    pub is_passed: bool,
+    pub places: Places,
+    pub lost: Lost,
 }
 
-fn done(at: usize) -> Told
+fn done(at: usize, lost: Lost) -> Told
     ensures { λ r. ⌜ r .at ≡ at ⌝ }
 {
     Told {
         at,
         is_refusal: false,
-        place: NOWHERE,
+        looks: Looks::Text,
+        is_passed: false,
+        places: nowhere(),
+        lost,
     }
 }
 
-fn refused(at: usize, place: usize) -> Told
+pub fn refused(at: usize, looks: Looks, places: Places) -> Told
     ensures { λ r. ⌜ r .at ≡ at ⌝ }
 {
     Told {
         at,
         is_refusal: true,
-        place,
+        looks,
+        is_passed: false,
+        places,
+        lost: nothing_lost(),
     }
+}
+
+fn passed(at: usize) -> Told
+    ensures { λ r. ⌜ r .at ≡ at ⌝ }
+{
+    Told {
+        at,
+        is_refusal: false,
+        looks: Looks::Text,
+        is_passed: true,
+        places: nowhere(),
+        lost: nothing_lost(),
+    }
+}
+
+// The most bytes that the answer to a text of so many bytes has.
+pub fn room_for(size: usize) -> usize {
+    if TEXT < size {
+        return WORDS + LONGEST;
+    }
+    WORDS + least(BYTE_BYTES * size, LONGEST)
 }
 
 // What the read call says of a text. Of one that was too long for its room, only the length is known. No more of the tables
@@ -109,6 +153,42 @@ fn write_at(out: &mut [u8], at: usize, atoms: &[u32], n: usize, bonds: &[u32], m
     of_written(write(atoms, n, bonds, m, &mut out[at..at + room]))
 }
 
+// A line of a tray that is no text: a blank one or a comment is passed on.
+fn tell_tray(out: &mut [u8], at: usize, s: Said, text: &[u8], l: Looks) -> Told
+    ensures { λ r. ⌜ r .at ≤ length (now (out .exit)) ⌝ }
+{
+    match l {
+        Looks::Blank | Looks::Comment => passed(put_run(out, at, text)),
+        _ => refused(put_comment(out, at, s, text), l, nowhere()),
+    }
+}
+
+fn tell_people(out: &mut [u8], at: usize, s: Said, text: &[u8], l: Looks) -> Told
+    ensures { λ r. ⌜ r .at ≤ length (now (out .exit)) ⌝ }
+{
+    let p = places(s, text, l);
+    refused(put_why(out, at, s, l, p), l, p)
+}
+
+// What a command has to say of a text that is refused.
+fn tell_refusal(
+    out: &mut [u8],
+    at: usize,
+    command: Command,
+    s: Said,
+    text: &[u8],
+    has_name: bool,
+) -> Told
+    ensures { λ r. ⌜ r .at ≤ length (now (out .exit)) ⌝ }
+{
+    let l = looks_like(text, s.no, has_name);
+    match command {
+        Command::Check => tell_people(out, at, s, text, l),
+        Command::Smi => tell_tray(out, at, s, text, l),
+        _ => refused(print_refusal(out, at, s), l, nowhere()),
+    }
+}
+
 // The graph of n atoms and m bond entries, with these counts.
 fn print_counted(
     out: &mut [u8],
@@ -117,22 +197,33 @@ fn print_counted(
     n: usize,
     bonds: &[u32],
     m: usize,
-) -> Told
-    ensures { λ r. ⌜ r .at ≤ length (now (out .exit)) ⌝ }
+) -> usize
+    ensures { λ r. ⌜ r ≤ length (now (out .exit)) ⌝ }
 {
     let at = print_number(out, at, DONE);
     let at = number::print(out, at, n);
     let at = put(out, at, b' ');
     let at = number::print(out, at, m);
     let at = put(out, at, b' ');
-    let at = print_graph(out, at, atoms, bonds, n);
-    done(at)
+    print_graph(out, at, atoms, bonds, n)
+}
+
+// What comes before a written line: nothing in a tray.
+fn print_begin(out: &mut [u8], at: usize, command: Command) -> usize
+    ensures { λ r. ⌜ r ≤ length (now (out .exit)) ⌝ }
+{
+    match command {
+        Command::Smi => least(at, out.len()),
+        _ => print_number(out, at, DONE),
+    }
 }
 
 // The line that it is written as.
 fn print_rewritten(
     out: &mut [u8],
     at: usize,
+    command: Command,
+    text: &[u8],
     atoms: &[u32],
     n: usize,
     bonds: &[u32],
@@ -140,13 +231,13 @@ fn print_rewritten(
 ) -> Told
     ensures { λ r. ⌜ r .at ≤ length (now (out .exit)) ⌝ }
 {
-    let begin = print_number(out, at, DONE);
+    let begin = print_begin(out, at, command);
     let s = write_at(out, begin, atoms, n, bonds, m);
     if s.no != DONE {
-        return refused(print_refusal(out, at, s), NOWHERE);
+        return tell_refusal(out, at, command, s, text, true);
     }
     let room = out.len() - begin;
-    done(begin + least(s.first, room))
+    done(begin + least(s.first, room), find_lost(atoms, n))
 }
 
 // The order in which it is walked.
@@ -159,38 +250,29 @@ fn print_walked(out: &mut [u8], at: usize, atoms: &[u32], n: usize, bonds: &[u32
     let w = order(atoms, n, bonds, m, &mut walked, &mut number, &mut back);
     let s = of_written(w);
     if s.no != DONE {
-        return refused(print_refusal(out, at, s), NOWHERE);
+        return refused(print_refusal(out, at, s), Looks::Text, nowhere());
     }
     let at = print_number(out, at, DONE);
-    done(print_order(out, at, atoms, n, &walked, &number, &back))
-}
-
-// A refusal in words, of a text of so many bytes.
-fn print_why(out: &mut [u8], at: usize, s: Said, size: usize) -> Told
-    ensures { λ r. ⌜ r .at ≤ length (now (out .exit)) ⌝ }
-{
-    let at = put_word(out, at, b"refused, ");
-    let at = number::print(out, at, s.no as usize);
-    let at = put_word(out, at, b": ");
-    refused(print_words(out, at, s), place_of(s, size))
+    let at = print_order(out, at, atoms, n, &walked, &number, &back);
+    done(at, find_lost(atoms, n))
 }
 
 fn print_counts(out: &mut [u8], at: usize, atoms: usize, bonds: usize, bytes: usize) -> usize
     ensures { λ r. ⌜ r ≤ length (now (out .exit)) ⌝ }
 {
     let at = put_word(out, at, b"done: ");
-    let at = number::print(out, at, atoms);
-    let at = put_word(out, at, b" atoms, ");
-    let at = number::print(out, at, bonds);
-    let at = put_word(out, at, b" bonds, written in ");
-    let at = number::print(out, at, bytes);
-    put_word(out, at, b" bytes")
+    let at = put_counted(out, at, atoms, b" atom");
+    let at = put_word(out, at, b", ");
+    let at = put_counted(out, at, bonds, b" bond");
+    let at = put_word(out, at, b", written in ");
+    put_counted(out, at, bytes, b" byte")
 }
 
 // Whether it can be written, and what it counts. The line itself is written over by the words.
 fn print_checked(
     out: &mut [u8],
     at: usize,
+    text: &[u8],
     atoms: &[u32],
     n: usize,
     bonds: &[u32],
@@ -201,37 +283,32 @@ fn print_checked(
     let at = least(at, out.len());
     let s = write_at(out, at, atoms, n, bonds, m);
     if s.no != DONE {
-        return print_why(out, at, s, 0);
+        return tell_people(out, at, s, text, Looks::Text);
     }
-    done(print_counts(out, at, n, m / ENDS, s.first))
+    let at = print_counts(out, at, n, m / ENDS, s.first);
+    done(at, find_lost(atoms, n))
 }
 
-// What a command has to say of a text that was not read.
-fn print_unread(out: &mut [u8], at: usize, command: Command, s: Said, size: usize) -> Told
-    ensures { λ r. ⌜ r .at ≤ length (now (out .exit)) ⌝ }
-{
-    match command {
-        Command::Check => print_why(out, at, s, size),
-        _ => refused(print_refusal(out, at, s), NOWHERE),
-    }
-}
-
-// What it has to say of the tables of one that was.
+// What a command has to say of the tables of a text that was read.
 fn print_read(
     out: &mut [u8],
     at: usize,
     command: Command,
     s: Said,
+    text: &[u8],
     atoms: &[u32],
     bonds: &[u32],
 ) -> Told
     ensures { λ r. ⌜ r .at ≤ length (now (out .exit)) ⌝ }
 {
     match command {
-        Command::Rewrite => print_rewritten(out, at, atoms, s.first, bonds, s.second),
         Command::Order => print_walked(out, at, atoms, s.first, bonds, s.second),
-        Command::Graph => print_counted(out, at, atoms, s.first, bonds, s.second),
-        Command::Check => print_checked(out, at, atoms, s.first, bonds, s.second),
+        Command::Graph => {
+            let at = print_counted(out, at, atoms, s.first, bonds, s.second);
+            done(at, nothing_lost())
+        }
+        Command::Check => print_checked(out, at, text, atoms, s.first, bonds, s.second),
+        _ => print_rewritten(out, at, command, text, atoms, s.first, bonds, s.second),
     }
 }
 
@@ -243,6 +320,7 @@ pub fn print_answer(
     command: Command,
     text: &[u8],
     size: usize,
+    has_name: bool,
     atoms: &mut [u32],
     bonds: &mut [u32],
 ) -> Told
@@ -250,7 +328,7 @@ pub fn print_answer(
 {
     let s = of_read(read_text(text, size, atoms, bonds));
     if s.no != DONE {
-        return print_unread(out, at, command, s, size);
+        return tell_refusal(out, at, command, s, text, has_name);
     }
-    print_read(out, at, command, s, atoms, bonds)
+    print_read(out, at, command, s, text, atoms, bonds)
 }

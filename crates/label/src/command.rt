@@ -1,60 +1,135 @@
-// What may be asked of the lines, by the word that names it.
-use check::same;
-use libc::STDOUT_FILENO;
+// What may be asked of the lines, and what the arguments ask for.
+use label_text::phrase::find_phrase;
+use libc::STDERR_FILENO;
+use oracle_form::byte::after;
+
+// The statuses.
+pub const ALL_DONE: i32 = 0;
+
+pub const SOME_REFUSED: i32 = 1;
+
+pub const NOT_DONE: i32 = 2;
 
 pub enum Command {
     Rewrite,
     Order,
     Graph,
     Check,
+    Smi,
 }
 
-pub enum Named {
-    Known(Command),
-    Help,
-    // No command: the name of a file.
-    Other,
+// What the arguments ask for.
+pub struct Asked {
+    pub command: Command,
+    // Whether a word named it.
+    is_named: bool,
+    // Whether no word tells that the next one is a file, so that one that names none is a slip.
+    pub is_guess: bool,
+    // Whether a count is to be said from time to time.
+    pub has_progress: bool,
+    // The first file's number among the arguments.
+    pub first: usize,
+    // Whether all words before it were looked at, and whether they were understood.
+    is_over: bool,
+    pub is_understood: bool,
 }
 
-pub fn look_up(word: &[u8]) -> Named {
-    if same(word, b"rewrite") {
-        return Named::Known(Command::Rewrite);
+const COMMANDS: usize = 5;
+
+// The command of a number in the list of words.
+fn command_of(n: usize) -> Command {
+    match n {
+        0 => Command::Rewrite,
+        1 => Command::Order,
+        2 => Command::Graph,
+        3 => Command::Check,
+        _ => Command::Smi,
     }
-    if same(word, b"order") {
-        return Named::Known(Command::Order);
-    }
-    if same(word, b"graph") {
-        return Named::Known(Command::Graph);
-    }
-    if same(word, b"check") {
-        return Named::Known(Command::Check);
-    }
-    if same(word, b"help") {
-        return Named::Help;
-    }
-    Named::Other
 }
 
-fn print_line(line: &[u8]) {
-    io::write_all(STDOUT_FILENO, line);
-    io::write_all(STDOUT_FILENO, b"\n");
+// A word that is no option: a command, once, or the first file.
+fn take_plain(a: Asked, i: usize, word: &[u8]) -> Asked {
+    let n = find_phrase(b"rewrite\norder\ngraph\ncheck\nsmi\n", word);
+    if COMMANDS <= n || a.is_named {
+        let mut a = a;
+        a.is_over = true;
+        return a;
+    }
+    Asked {
+        command: command_of(n),
+        is_named: true,
+        is_guess: false,
+        has_progress: a.has_progress,
+        first: after(i),
+        is_over: false,
+        is_understood: true,
+    }
 }
 
-pub fn print_help() {
-    print_line(b"usage: label [rewrite|order|graph|check|help] [FILE ..]");
-    print_line(b"Reads the files, or the standard input where none is named; `-` names it, too.");
-    print_line(b"Each line is a SMILES text, and after a blank or a tab a name.");
-    print_line(b"Each is answered by NUMBER, a tab, the answer or the refusal, a tab, the name:");
-    print_line(b"  rewrite  the line read and written; this is what no word means, too");
-    print_line(
-        b"  order    for each atom in walk order: its number, its number in walk order, its text",
+// A word that begins as an option does.
+fn take_option(a: Asked, i: usize, word: &[u8]) -> Asked {
+    let mut a = a;
+    a.first = after(i);
+    match find_phrase(b"--progress\n--\n", word) {
+        0 => a.has_progress = true,
+        1 => {
+            a.is_over = true;
+            a.is_guess = false;
+        }
+        _ => {
+            a.is_over = true;
+            a.is_understood = false;
+        }
+    }
+    a
+}
+
+// A `-` alone is no option, but the standard input.
+fn is_option(word: &[u8]) -> bool {
+    if word.len() < 2 {
+        return false;
+    }
+    word[0] == b'-'
+}
+
+// The argument numbered i, if it comes before the first file.
+fn take_argument(a: Asked, i: usize) -> Asked {
+    if a.is_over {
+        return a;
+    }
+    let mut room = io::buffer();
+    let n = os::arg(i, &mut room);
+    let word = &room[..n];
+    if is_option(word) {
+        return take_option(a, i, word);
+    }
+    take_plain(a, i, word)
+}
+
+// What all arguments before the first file ask for.
+pub fn read_arguments() -> Asked {
+    let mut a = Asked {
+        command: Command::Rewrite,
+        is_named: false,
+        is_guess: true,
+        has_progress: false,
+        first: 1,
+        is_over: false,
+        is_understood: true,
+    };
+    let count = os::arg_count();
+    let mut i = 1;
+    while i < count {
+        a = take_argument(a, i);
+        i += 1;
+    }
+    a
+}
+
+// How to ask, for one who did not.
+pub fn print_usage() {
+    io::write_all(
+        STDERR_FILENO,
+        b"usage: label [--proved] [--progress] [rewrite|order|graph|check|smi|help] [--] [FILE ..]\n",
     );
-    print_line(b"  graph    the atoms, each with its bonds");
-    print_line(
-        b"or, for people, by the line's number, what there is to say in words, and the name:",
-    );
-    print_line(
-        b"  check    done with counts, or the refusal with the text and a mark at the place",
-    );
-    print_line(b"The standard error's last line counts the lines and those that were refused.");
 }

@@ -137,11 +137,17 @@ impl Label {
         }
 
         let rest: Vec<&[u8]> = answers.collect();
-        let counted = format!("label: {} lines, {} refused\n", self.lines.len(), refused);
-        let ends_well = rest == [b""] && output.stderr == counted.as_bytes();
-        let difference = Some(output.stderr)
+        // Its last line counts; what comes before it, and after these counts, is about atoms that are not kept and about what
+        // refused lines look like.
+        let counted = format!("label: {} lines, {} refused", self.lines.len(), refused);
+        let status = i32::from(refused > 0);
+        let said = String::from_utf8_lossy(&output.stderr);
+        let last = said.lines().last().unwrap_or_default();
+        let is_counted = last == counted || last.starts_with(&(counted.clone() + ", "));
+        let ends_well = rest == [b""] && is_counted && output.status.code() == Some(status);
+        let difference = Some(last)
             .filter(|_| !ends_well)
-            .map(|said| format!("{}, meant {}", String::from_utf8_lossy(&said), counted));
+            .map(|said| format!("{}, {}, meant {}, {}", said, output.status, counted, status));
 
         tally.count("label, its count of a file", false, difference, || {
             told.command.to_string()

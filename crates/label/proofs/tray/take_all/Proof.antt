@@ -7,22 +7,16 @@ use Rattle.label.proofs.tray.take_all.Statement.{statement}
 use Rattle.label.proofs.tray.take_all.Tie as tie
 
 abbrev Inv-loop : tie.InvT-loop
-Inv-loop first block₀ text₀ out₀ atoms₀ bonds₀ line₀ count i₀ block text out atoms bonds line i = (length block ≡ length block₀) × (length text ≡ length text₀) × (length out ≡ length out₀) × (length atoms ≡ length atoms₀) × (length bonds ≡ length bonds₀) × (line .at ≤ length out)
+Inv-loop first block₀ text₀ out₀ atoms₀ bonds₀ line₀ count i₀ block text out atoms bonds line i = (length block ≡ length block₀) × (length text ≡ length text₀) × (length out ≡ length out₀) × (length atoms ≡ length atoms₀) × (length bonds ≡ length bonds₀) × (line .gathered .at ≤ length out)
 
 abbrev μ-loop : tie.MeasureT-loop
 μ-loop first block₀ text₀ out₀ atoms₀ bonds₀ line₀ count i₀ block text out atoms bonds line i = count - i
 
-start-requires : tie.Need-start-requires Inv-loop μ-loop
-start-requires c κs = search needs
-
 arg-count-requires : tie.Need-arg-count-requires Inv-loop μ-loop
 arg-count-requires c κs = search needs
 
-slice-aggregate-take-blocks : tie.Need-slice-aggregate-take-blocks Inv-loop μ-loop
-slice-aggregate-take-blocks c = search needs
-
-take-blocks-requires : tie.Need-take-blocks-requires Inv-loop μ-loop
-take-blocks-requires c κs = search needs
+take-standard-requires : tie.Need-take-standard-requires Inv-loop μ-loop
+take-standard-requires c κs = search needs
 
 same-length : tie.Need-same-length Inv-loop μ-loop
 same-length c = search needs
@@ -81,10 +75,8 @@ take-all-spec =
     (tie.spec
     Inv-loop
     μ-loop
-    start-requires
     arg-count-requires
-    slice-aggregate-take-blocks
-    take-blocks-requires
+    take-standard-requires
     same-length
     same-length-2
     same-length-3

@@ -7,7 +7,7 @@ use Rattle.label.proofs.tray.take_block.Statement.{statement}
 use Rattle.label.proofs.tray.take_block.Tie as tie
 
 abbrev Inv-loop : tie.InvT-loop
-Inv-loop block text₀ out₀ atoms₀ bonds₀ line₀ i₀ text out atoms bonds line i = (length text ≡ length text₀) × (length out ≡ length out₀) × (length atoms ≡ length atoms₀) × (length bonds ≡ length bonds₀) × (line .at ≤ length out)
+Inv-loop block text₀ out₀ atoms₀ bonds₀ line₀ i₀ text out atoms bonds line i = (length text ≡ length text₀) × (length out ≡ length out₀) × (length atoms ≡ length atoms₀) × (length bonds ≡ length bonds₀) × (line .gathered .at ≤ length out)
 
 abbrev μ-loop : tie.MeasureT-loop
 μ-loop block text₀ out₀ atoms₀ bonds₀ line₀ i₀ text out atoms bonds line i = length block - i
@@ -15,14 +15,20 @@ abbrev μ-loop : tie.MeasureT-loop
 loop-holds : tie.Need-loop-holds Inv-loop μ-loop
 loop-holds c = search needs
 
-shared-slice-read-step : tie.Need-shared-slice-read-step Inv-loop μ-loop
-shared-slice-read-step c = search needs
+piece-end-requires : tie.Need-piece-end-requires Inv-loop μ-loop
+piece-end-requires c κs = search needs
 
-step-requires : tie.Need-step-requires Inv-loop μ-loop
-step-requires c κs = search needs
+sub-take-piece : tie.Need-sub-take-piece Inv-loop μ-loop
+sub-take-piece c = search needs
 
-add-i : tie.Need-add-i Inv-loop μ-loop
-add-i c = search needs
+part-take-piece-start : tie.Need-part-take-piece-start Inv-loop μ-loop
+part-take-piece-start c = search needs
+
+part-take-piece-end : tie.Need-part-take-piece-end Inv-loop μ-loop
+part-take-piece-end c = search needs
+
+take-piece-requires : tie.Need-take-piece-requires Inv-loop μ-loop
+take-piece-requires c κs = search needs
 
 loop-less : tie.Need-loop-less Inv-loop μ-loop
 loop-less c = search needs
@@ -55,9 +61,11 @@ take-block-spec =
     Inv-loop
     μ-loop
     loop-holds
-    shared-slice-read-step
-    step-requires
-    add-i
+    piece-end-requires
+    sub-take-piece
+    part-take-piece-start
+    part-take-piece-end
+    take-piece-requires
     loop-less
     loop-again
     flush-requires
