@@ -25,7 +25,7 @@ use Rattle.builder_meaning.specs.Sketch.{To, Open, Node, Held, Failure, 
 use Rattle.builder_meaning.proofs.Rows.{Row, row, noRow, edgesOf, flat, edges-at, Opened, opened-kind, flat-source, flat-kind}
 use Rattle.builder_meaning.proofs.Twins.{Twins, twins-open, twins-close}
 use Rattle.builder_meaning.proofs.Same.{Way, At, Ring, Rings, Entries, hasFailed, closerOf, openerOf, Same}
-use Rattle.builder_meaning.proofs.Parts.{snoc-length, entries-push, entries-fill, way-none, way-some, Stands}
+use Rattle.builder_meaning.proofs.Parts.{snoc-length, entries-push, entries-fill, way-none, way-some, Current}
 use Rattle.builder_meaning.proofs.RingNumbers.{ring-within, rings-later, rings-push, rings-hold, rings-free, rings-fill, rings-opened, rings-alone}
 use Rattle.builder_meaning.proofs.Steps.{both-ways, room-kept, same-refuse, tight-same, last-is}
 
@@ -60,9 +60,9 @@ module _ (b : Bld) (d : Sketch) (same : Same b d) (whole : d .unseen ≡ 0) wher
         room = room-kept (d .places) (d .slots) (b .atoms) (b .entries) (b .path) (b .rings) _ _ _ _ (same .room) refl size refl round;
       }
 
-  module _ (n place s : ℕ) (low : n < ringNumberCount) (stands : Stands (length (same .kinds)) (b .st .top) (b .path) s) where
-    standing : lastOf b ≡ s
-    standing = last-is b d same whole s stands
+  module _ (n place s : ℕ) (low : n < ringNumberCount) (current : Current (length (same .kinds)) (b .st .top) (b .path) s) where
+    current-is : lastOf b ≡ s
+    current-is = last-is b d same whole s current
 
     -- a free number
     same-opened : (e : BondKind) → getD (b .rings) n 0 ≡ 0 → b .st .entries + 1 ≤ b .st .slots → Same (openedOf b e n) (openedS d e n s)
@@ -77,7 +77,7 @@ module _ (b : Bld) (d : Sketch) (same : Same b d) (whole : d .unseen ≡ 0) wher
         (set (b .rings) n (b .st .entries + 1)) (upd s (addEdge (edge e (Open (d .joins)))) (d .nodes)) rs (held n s (d .joins) ∷ d .opens)
         more (omega (arith, more, same .state .entries, same .state .slots))
         (rw length-sets) (length-set (b .rings) n (b .st .entries + 1))
-        (entries-push (same .kinds) (same .rows) (b .entries) (d .nodes) (same .entries) s e (Open (d .joins)) (b .st .entries) (lastOf b) (unclosed + b .st .joins) (stands .below) (λ y q. impossible cc) (same .state .entries) standing (ap (λ (j : ℕ). unclosed + j) (same .state .joins)) (omega (arith, same .room .entries, same .state .slots)))
+        (entries-push (same .kinds) (same .rows) (b .entries) (d .nodes) (same .entries) s e (Open (d .joins)) (b .st .entries) (lastOf b) (unclosed + b .st .joins) (current .below) (λ y q. impossible cc) (same .state .entries) current-is (ap (λ (j : ℕ). unclosed + j) (same .state .joins)) (omega (arith, same .room .entries, same .state .slots)))
         (rings-hold rs (b .rings) (d .opens) (d .joins + 1) r1 n (b .st .entries + 1) (held n s (d .joins)) low (same .room .rings) refl at
         (λ m l e. omega (arith, e, ring-within (same .rows) (getD (b .rings) m 0) (lookup m (d .opens)) (same .rings .each m l), same .state .entries)))
         (twins-open (same .rows) s e (d .joins) (same .twins))
@@ -163,7 +163,7 @@ module _ (b : Bld) (d : Sketch) (same : Same b d) (whole : d .unseen ≡ 0) wher
           let now : firstOf (d .failure) s (h .atom) ≡ Failed s (h .atom) = ap (λ (g : Failure). firstOf g s (h .atom)) e in
           subst (λ (x : Builder). Same (bld (b .atoms) (b .entries) (b .path) (set (b .rings) n 0) x) (broken d (ringFreed n (d .opens)) s (h .atom)))
           (first-failed (b .st) (lastOf b) (openingOf b n) (same .state .failed ∙ ap hasFailed e))
-          (broken-same true (lastOf b) (openingOf b n) (sym (ap hasFailed now)) (standing ∙ sym (ap closerOf now)) (opening-is ∙ sym (ap openerOf now)))
+          (broken-same true (lastOf b) (openingOf b n) (sym (ap hasFailed now)) (current-is ∙ sym (ap closerOf now)) (opening-is ∙ sym (ap openerOf now)))
       same-broken (Failed v w) e =
           let kept : d .failure ≡ firstOf (d .failure) s (h .atom) = e ∙ sym (ap (λ (g : Failure). firstOf g s (h .atom)) e) in
           subst (λ (x : Builder). Same (bld (b .atoms) (b .entries) (b .path) (set (b .rings) n 0) x) (broken d (ringFreed n (d .opens)) s (h .atom)))
@@ -184,13 +184,13 @@ module _ (b : Bld) (d : Sketch) (same : Same b d) (whole : d .unseen ≡ 0) wher
           let more = snoc-length rs new in
           let kept = length-set (same .rows) (at .place) filled in
           let t1 = sets (b .entries) (openedAt b n + 1) (codeOf l ∷ lastOf b ∷ []) in
-          let g1 = entries-fill (same .kinds) (same .rows) (b .entries) (d .nodes) (same .entries) (at .place) (h .atom) (at .kind) (h .join) l s (openedAt b n) (lastOf b) opened (stands .below) place-is standing (omega (arith, same .room .entries, same .state .holds)) in
+          let g1 = entries-fill (same .kinds) (same .rows) (b .entries) (d .nodes) (same .entries) (at .place) (h .atom) (at .kind) (h .join) l s (openedAt b n) (lastOf b) opened (current .below) place-is current-is (omega (arith, same .room .entries, same .state .holds)) in
           let r1 = rings-fill (same .rows) (set (b .rings) n 0) (ringFreed n (d .opens)) (d .joins) freed (at .place) (h .atom) l s (rings-alone (same .rows) (b .rings) (d .opens) (d .joins) (same .rings) n h low (same .room .rings) at) (at .within) in
           joined-same (sets t1 (b .st .entries * entryWords) (entryList (lastOf b) (codeOf r) (openingOf b n))) (set (b .rings) n 0)
           (upd s (addEdge (edge r (To (h .atom)))) (upd (h .atom) (fill (h .join) l s) (d .nodes))) (rs ++ (new ∷ [])) (ringFreed n (d .opens))
           (omega (arith, more, kept)) (omega (arith, more, kept, room, same .state .entries, same .state .slots))
           (simp length-sets) (length-set (b .rings) n 0)
-          (entries-push (same .kinds) rs t1 (upd (h .atom) (fill (h .join) l s) (d .nodes)) g1 s r (To (h .atom)) (b .st .entries) (lastOf b) (openingOf b n) (stands .below) (λ y q. let z : h .atom ≡ y = cc in omega (arith, z, opener-below)) (same .state .entries ∙ sym kept) standing opening-is (rw length-sets (omega (arith, room, same .room .entries, same .state .slots))))
+          (entries-push (same .kinds) rs t1 (upd (h .atom) (fill (h .join) l s) (d .nodes)) g1 s r (To (h .atom)) (b .st .entries) (lastOf b) (openingOf b n) (current .below) (λ y q. let z : h .atom ≡ y = cc in omega (arith, z, opener-below)) (same .state .entries ∙ sym kept) current-is opening-is (rw length-sets (omega (arith, room, same .room .entries, same .state .slots))))
           (rings-push rs (set (b .rings) n 0) (ringFreed n (d .opens)) (d .joins) r1 s r (To (h .atom)) (d .joins + 1) (omega arith) (λ y q. impossible cc))
           (twins-close (same .rows) (at .place) (h .atom) (at .kind) (h .join) l r s opened back (same .twins)))
 
@@ -215,6 +215,6 @@ module _ (b : Bld) (d : Sketch) (same : Same b d) (whole : d .unseen ≡ 0) wher
       (same-refuse b d same noAtom 0 0 refl)
   same-join e n place (s ∷ rest) low p =
       let w = subst (Way (length (same .kinds)) (b .st .top) (b .path)) p (same .way) in
-      let stands = way-some (length (same .kinds)) (b .st .top) (b .path) s rest w in
-      rw (ne-eqb (b .st .top) 0 (stands .some))
-      (same-ring n place s low stands e (lookup n (d .opens)) (same .rings .each n low))
+      let current = way-some (length (same .kinds)) (b .st .top) (b .path) s rest w in
+      rw (ne-eqb (b .st .top) 0 (current .some))
+      (same-ring n place s low current e (lookup n (d .opens)) (same .rings .each n low))

@@ -177,12 +177,12 @@ way-none n zero ws w = refl
 way-none n (suc top) ws w = impossible (cc (w .is))
 
 -- the current atom
-pub record Stands (n top : ℕ) (ws : List ℕ) (s : ℕ) : Type 0 where
+pub record Current (n top : ℕ) (ws : List ℕ) (s : ℕ) : Type 0 where
   pub some : top ≢ 0
   pub is : getD ws (top - 1) 0 ≡ s
   pub below : s < n
 
-pub way-some : (n top : ℕ) (ws : List ℕ) (s : ℕ) (rest : List ℕ) → Way n top ws (s ∷ rest) → Stands n top ws s
+pub way-some : (n top : ℕ) (ws : List ℕ) (s : ℕ) (rest : List ℕ) → Way n top ws (s ∷ rest) → Current n top ws s
 unfolding lastly
 way-some n zero ws s rest w = impossible (cc (w .is))
 way-some n (suc top) ws s rest w =

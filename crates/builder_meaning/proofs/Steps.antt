@@ -24,7 +24,7 @@ use Rattle.builder_meaning.specs.Sketch.{To, Node, Sketch, edge, node, r
 use Rattle.builder_meaning.proofs.Rows.{Row, row, upd-length, upd-front, upd-last}
 use Rattle.builder_meaning.proofs.Twins.{Twins, twins-extend}
 use Rattle.builder_meaning.proofs.Same.{Way, Rings, Entries, Room, Same}
-use Rattle.builder_meaning.proofs.Parts.{snoc-length, atoms-more, entries-root, same-length, entries-push, way-enter, way-pop, way-none, way-some, Stands}
+use Rattle.builder_meaning.proofs.Parts.{snoc-length, atoms-more, entries-root, same-length, entries-push, way-enter, way-pop, way-none, way-some, Current}
 use Rattle.builder_meaning.proofs.RingNumbers.{rings-push}
 
 -- two choices by tests that agree
@@ -171,13 +171,13 @@ module _ (b : Bld) (d : Sketch) (same : Same b d) where
         (λ t. entered-same k (b .entries) (d .nodes ++ (node k [] ∷ [])) (same .rows) (b .st .entries) (leb-false (b .st .places) (b .st .atoms) t) (same .state .entries) (same .state .holds) refl (entries-root (same .kinds) (same .rows) (b .entries) (d .nodes) k (same .entries)) (same .rings) (same .twins))
 
     -- a current atom
-    module _ (s : ℕ) (stands : Stands (length (same .kinds)) (b .st .top) (b .path) s) where
+    module _ (s : ℕ) (current : Current (length (same .kinds)) (b .st .top) (b .path) s) where
       pub last-is : lastOf b ≡ s
       unfolding lastOf
-      last-is = stands .is
+      last-is = current .is
 
       below-more : (k : AtomKind) → s < length (same .kinds ++ (k ∷ []))
-      below-more k = omega (arith, snoc-length (same .kinds) k, stands .below)
+      below-more k = omega (arith, snoc-length (same .kinds) k, current .below)
 
       pub same-bonded : (e : BondKind) (t : Inverted) → b .st .atoms < b .st .places → b .st .entries + 2 ≤ b .st .slots → Same (extendedBy b e t) (bondedS d e s t)
       unfolding extendedBy bondedS bonded addEdge targetOf
@@ -209,7 +209,7 @@ module _ (b : Bld) (d : Sketch) (same : Same b d) where
               let size = same-length (same .kinds) (same .rows) (b .entries) (d .nodes) (same .entries) in
               let len = upd-length s (addEdge (edge e (To (nextNumber d)))) (d .nodes) in
               let i : nextNumber d ≡ length (upd s (addEdge (edge e (To (nextNumber d)))) (d .nodes)) = omega (arith, size, len, number-held) in
-              ap (upd (nextNumber d) (addEdge (edge (reverseOf e) (To s)))) (upd-front s (addEdge (edge e (To (nextNumber d)))) (d .nodes) (node k [] ∷ []) (omega (arith, size, stands .below)))
+              ap (upd (nextNumber d) (addEdge (edge (reverseOf e) (To s)))) (upd-front s (addEdge (edge e (To (nextNumber d)))) (d .nodes) (node k [] ∷ []) (omega (arith, size, current .below)))
               ∙ ap (λ (n : ℕ). upd n (addEdge (edge (reverseOf e) (To s))) (upd s (addEdge (edge e (To (nextNumber d)))) (d .nodes) ++ (node k [] ∷ []))) i
               ∙ upd-last (addEdge (edge (reverseOf e) (To s))) (upd s (addEdge (edge e (To (nextNumber d)))) (d .nodes)) (node k [])
 
@@ -222,10 +222,10 @@ module _ (b : Bld) (d : Sketch) (same : Same b d) where
         (same-refuse noAtom 0 0 refl)
     same-extend e k place (s ∷ rest) p =
         let w = subst (Way (length (same .kinds)) (b .st .top) (b .path)) p (same .way) in
-        let stands = way-some (length (same .kinds)) (b .st .top) (b .path) s rest w in
-        rw (ne-eqb (b .st .top) 0 (stands .some))
+        let current = way-some (length (same .kinds)) (b .st .top) (b .path) s rest w in
+        rw (ne-eqb (b .st .top) 0 (current .some))
         (both-ways Same (leb (b .st .places) (b .st .atoms)) (leb (d .places) (nextNumber d)) full-same
         (λ t. same-refuse atomRoom place place refl)
         (λ t. both-ways Same (ltb (b .st .slots) (b .st .entries + 2)) (ltb (d .slots) (countOf (d .nodes) + 2)) (tight-same 2)
         (λ u. same-refuse bondRoom place place refl)
-        (λ u. same-bonded s stands e (invertOf k) (leb-false (b .st .places) (b .st .atoms) t) (ltb-false (b .st .slots) (b .st .entries + 2) u))))
+        (λ u. same-bonded s current e (invertOf k) (leb-false (b .st .places) (b .st .atoms) t) (ltb-false (b .st .slots) (b .st .entries + 2) u))))

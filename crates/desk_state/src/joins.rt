@@ -16,7 +16,7 @@ use builder::builder::OPEN;
 use table::limits::RING_NUMBER_COUNT;
 use table::look;
 
-// Whether a target is that of no open entry, or no less than the least it may be.
+// Whether a target is of no open entry, or at least as large as the next open one has to be.
 fn is_later(least: usize, target: u32) -> bool
     ensures { λ r. ⌜ r ≡ pick (leb unclosed target) (leb least target) true ⌝ }
 {
@@ -29,7 +29,7 @@ fn is_later(least: usize, target: u32) -> bool
     true
 }
 
-// The least that the next open one may be.
+// The least target that the next open entry may have.
 fn next_least(least: usize, target: u32) -> usize
     ensures { λ r. ⌜ r ≡ pick (leb unclosed target) (target + 1) least ⌝ }
 {
@@ -102,7 +102,7 @@ fn open_rings(rings: &[u32]) -> usize
     count
 }
 
-// Whether there are no more joins, with those to come of the open ring numbers, than two for each entry.
+// Whether the joins, and one more for each open ring number, are at most two for each entry.
 pub fn joins_stand(builder: Builder, rings: &[u32]) -> bool
     requires { ⌜ builder .entries ≤ bondLimit ⌝ }
     ensures { λ r. ⌜ r ≡ joinsStand builder (now (rings .entry)) ⌝ }

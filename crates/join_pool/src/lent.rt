@@ -2,7 +2,7 @@
 // value.
 ghost use mathlib.Core.Path.{_≡_};
 ghost use Rattle.join_pool.specs.Pairs.{hitOf};
-ghost use Rattle.join_pool.specs.Strokes.{withAnswer, answerApart};
+ghost use Rattle.join_pool.specs.Apart.{withAnswer, answerApart};
 use crate::Given;
 use crate::Pool;
 

@@ -5,7 +5,7 @@ ghost use lib.ListN.{length};
 // The place of what is missing, which no text has.
 pub const NOWHERE: usize = usize::MAX;
 
-// The first place from a start on at which a byte stands, or the text's end where it does not.
+// The first place from a start on at which a byte is, or the text's end where it does not.
 pub fn find(s: &[u8], start: usize, b: u8) -> usize
     requires { ⌜ start ≤ length (now s) ⌝ }
     ensures { λ r. ⌜ (start ≤ r) × (r ≤ length (now (s .entry))) ⌝ }

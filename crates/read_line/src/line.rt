@@ -160,7 +160,7 @@ fn line_unit(
     }
 }
 
-// The end of a branch whose line has n atoms, which are left where ")" stands. Anything else is missing it.
+// The end of a branch whose line has n atoms, which are left at ")". Anything else is missing it.
 fn leave_branch(text: &[u8], at: usize, n: usize, builder: Builder) -> Reached
     requires { ⌜ (at ≤ length (now text)) × (length (now text) ≤ textLimit) ⌝ }
     ensures { λ r. ⌜ r ≡ reachedClosed (now (text .entry)) at n builder ⌝ }
@@ -177,7 +177,7 @@ fn leave_branch(text: &[u8], at: usize, n: usize, builder: Builder) -> Reached
     stopped(text, at, 0, builder)
 }
 
-// A branch, whose "(" stands at `at`. `room` is how many more may stand open. One that holds an atom alone is
+// A branch, whose "(" is at `at`. `room` is how many more may be open. One that holds an atom alone is
 // done without a call of the rest of a line, which calls this function in turn.
 fn read_branch(
     text: &[u8],

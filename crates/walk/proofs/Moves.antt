@@ -20,10 +20,10 @@ use Rattle.writer.specs.Steps.{LineGrows}
 use Rattle.writer.specs.Tables.{Spoken, sayT, sayAll, far}
 use Rattle.walk_entry.specs.Graph.{bondIn}
 use Rattle.walk.specs.declared.walker.Walker.{Walker}
-use Rattle.join_pool.specs.Strokes.{answerApart}
+use Rattle.join_pool.specs.Apart.{answerApart}
 use Rattle.join_pool.specs.declared.lent.Told.the-variants as told
 use Rattle.walk.specs.declared.walker.Numbered.{Numbered}
-use Rattle.walk.specs.Walk.{Walk, walk, Turn, quiet, numberedIn, refusedAs, rootPassed, standingAt, backAt, atEnd, ringSaid, popsOf, popsThen, leftIn, numberedOf, ringTurn}
+use Rattle.walk.specs.Walk.{Walk, walk, Turn, quiet, numberedIn, refusedAs, rootPassed, currentAt, backAt, atEnd, ringSaid, popsOf, popsThen, leftIn, numberedOf, ringTurn}
 use Rattle.walk.specs.Steps.{Did, TurnOnward, TurnGrows}
 
 -- ---- how far
@@ -39,14 +39,14 @@ onward-same z = record { next = omega arith; pend = omega arith; count = omega a
 pub onward-passed : (z : Walker) → TurnOnward z (rootPassed z)
 onward-passed z = record { next = omega arith; pend = omega arith; count = omega arith }
 
-pub onward-met : (z : Walker) (a : ℕ) → TurnOnward z (standingAt z a)
+pub onward-met : (z : Walker) (a : ℕ) → TurnOnward z (currentAt z a)
 onward-met z a = record { next = omega arith; pend = omega arith; count = omega arith }
 
-met-passed : (z : Walker) (a : ℕ) → TurnOnward z (standingAt (rootPassed z) a)
+met-passed : (z : Walker) (a : ℕ) → TurnOnward z (currentAt (rootPassed z) a)
 met-passed z a = record { next = omega arith; pend = omega arith; count = omega arith }
 
-pub onward-root : {z y r : Walker} (a : ℕ) → y ≡ rootPassed z → r ≡ standingAt y a → TurnOnward z r
-onward-root {z} {y} {r} a e f = onward-as (f ∙ ap (λ (x : Walker). standingAt x a) e) (met-passed z a)
+pub onward-root : {z y r : Walker} (a : ℕ) → y ≡ rootPassed z → r ≡ currentAt y a → TurnOnward z r
+onward-root {z} {y} {r} a e f = onward-as (f ∙ ap (λ (x : Walker). currentAt x a) e) (met-passed z a)
 
 pub passed-count : (z y : Walker) → y ≡ rootPassed z → z .count < far → y .count < far
 passed-count z y e h = subst (λ (x : Walker). x .count < far) (sym e) h

@@ -16,21 +16,21 @@ use Rattle.walk_entry.specs.declared.entry.Way.the-variants.{Enters, Refuses}
 use Rattle.walk_entry.specs.Graph.{BondEntry, Graph, kindAt, degreeAt, bondOf}
 use Rattle.walk_entry.specs.Ways.{saidAs, wayOf}
 use Rattle.walk.specs.declared.walker.Walker.{Walker}
-use Rattle.walk.specs.Walk.{Walk, walk, refusedAs, rootPassed, standingAt, metAt, tookAt, popsOf, leftIn, rootTurn, ringTurn, enteredOf, enterTurn, bondTurn, entryTurn, atomOf, turnOf}
+use Rattle.walk.specs.Walk.{Walk, walk, refusedAs, rootPassed, currentAt, metAt, tookAt, popsOf, leftIn, rootTurn, ringTurn, enteredOf, enterTurn, bondTurn, entryTurn, atomOf, turnOf}
 use Rattle.walk.specs.Steps.{Did}
 use Rattle.walk.proofs.Moves.{did-as, did-quiet, say-one, say-then}
 
 -- what marking an atom leaves
 abbrev pub Marked : Walker → Walker → List ℕ → List ℕ → List ℕ → List ℕ → List ℕ → List ℕ → ℕ → ℕ → Type 0
 Marked z r met walked back met′ walked′ back′ a b =
-    (r ≡ standingAt z a) × (met′ ≡ set met a (z .count + 1)) × (walked′ ≡ set walked (z .count) a) × (back′ ≡ set back a b)
+    (r ≡ currentAt z a) × (met′ ≡ set met a (z .count + 1)) × (walked′ ≡ set walked (z .count) a) × (back′ ≡ set back a b)
 
 marked-as : (y z r : Walker) (met walked back met′ walked′ back′ taken pairs : List ℕ) (a b : ℕ) → Marked z r met walked back met′ walked′ back′ a b → walk r met′ walked′ back′ taken pairs ≡ metAt (walk y met walked back taken pairs) z a b
 marked-as y z r met walked back met′ walked′ back′ taken pairs a b m =
     ap (λ (x : Walker). walk x met′ walked′ back′ taken pairs) (m .0)
-    ∙ ap (λ (x : List ℕ). walk (standingAt z a) x walked′ back′ taken pairs) (m .1)
-    ∙ ap (λ (x : List ℕ). walk (standingAt z a) (set met a (z .count + 1)) x back′ taken pairs) (m .2)
-    ∙ ap (λ (x : List ℕ). walk (standingAt z a) (set met a (z .count + 1)) (set walked (z .count) a) x taken pairs) (m .3)
+    ∙ ap (λ (x : List ℕ). walk (currentAt z a) x walked′ back′ taken pairs) (m .1)
+    ∙ ap (λ (x : List ℕ). walk (currentAt z a) (set met a (z .count + 1)) x back′ taken pairs) (m .2)
+    ∙ ap (λ (x : List ℕ). walk (currentAt z a) (set met a (z .count + 1)) (set walked (z .count) a) x taken pairs) (m .3)
 
 -- ---- a bond to a new atom
 module _ (g : Graph) (z r : Walker) (met walked back taken pairs : List ℕ) (k : BondKind) (s t : ℕ) (v : Way) (way : v ≡ wayOf g k s t) where
@@ -129,10 +129,10 @@ module _ (g : Graph) (z : Walker) (met walked back taken pairs : List ℕ) (a i 
       j
 
 -- ---- a turn
-pub turn-standing : (g : Graph) (w v : Walk) (line said : Spoken) → w .at .standing ≡ true → Did (atomOf g w (w .at .here)) v line said → Did (turnOf g w) v line said
+pub turn-standing : (g : Graph) (w v : Walk) (line said : Spoken) → w .at .has_current ≡ true → Did (atomOf g w (w .at .here)) v line said → Did (turnOf g w) v line said
 unfolding turnOf
 turn-standing g w v line said h d = did-as (simp h) d
 
-pub turn-root : (g : Graph) (w v : Walk) (line said : Spoken) → w .at .standing ≡ false → Did (rootTurn g w) v line said → Did (turnOf g w) v line said
+pub turn-root : (g : Graph) (w v : Walk) (line said : Spoken) → w .at .has_current ≡ false → Did (rootTurn g w) v line said → Did (turnOf g w) v line said
 unfolding turnOf
 turn-root g w v line said h d = did-as (simp h) d

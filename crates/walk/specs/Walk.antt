@@ -42,8 +42,8 @@ walk z met walked back taken pairs =
     record { at = z; met = met; walked = walked; back = back; taken = taken; pairs = pairs }
 
 abbrev pub walker : ℕ → Bool → ℕ → ℕ → ℕ → Pool → ℕ → ℕ → ℕ → Walker
-walker next standing here pend count pool refusal first second =
-    record { next = next; standing = standing; here = here; pend = pend; count = count; pool = pool; refusal = refusal; first = first; second = second }
+walker next has_current here pend count pool refusal first second =
+    record { next = next; has_current = has_current; here = here; pend = pend; count = count; pool = pool; refusal = refusal; first = first; second = second }
 
 -- nothing met
 abbrev pub freshWalker : Pool → Walker
@@ -55,26 +55,26 @@ startWalker = freshWalker emptyOf
 
 -- ---- what changes
 abbrev pub refusedAs : Walker → ℕ → ℕ → ℕ → Walker
-refusedAs z r a b = walker (z .next) (z .standing) (z .here) (z .pend) (z .count) (z .pool) r a b
+refusedAs z r a b = walker (z .next) (z .has_current) (z .here) (z .pend) (z .count) (z .pool) r a b
 
 -- the next root passed over
 abbrev pub rootPassed : Walker → Walker
 rootPassed z =
-    walker (z .next + 1) (z .standing) (z .here) (z .pend) (z .count) (z .pool) (z .refusal) (z .first) (z .second)
+    walker (z .next + 1) (z .has_current) (z .here) (z .pend) (z .count) (z .pool) (z .refusal) (z .first) (z .second)
 
 -- another place: whether there is a current atom and which, the atoms left since the last event, how many were met
 abbrev pub placedAt : Walker → Bool → ℕ → ℕ → ℕ → Walker
-placedAt z standing here pend count =
-    walker (z .next) standing here pend count (z .pool) (z .refusal) (z .first) (z .second)
+placedAt z has_current here pend count =
+    walker (z .next) has_current here pend count (z .pool) (z .refusal) (z .first) (z .second)
 
 -- another pool, and so many atoms left since the last event
 abbrev pub poolPut : Walker → ℕ → Pool → Walker
 poolPut z pend pool =
-    walker (z .next) (z .standing) (z .here) pend (z .count) pool (z .refusal) (z .first) (z .second)
+    walker (z .next) (z .has_current) (z .here) pend (z .count) pool (z .refusal) (z .first) (z .second)
 
 -- the atom a met and current, so all pops were said
-abbrev pub standingAt : Walker → ℕ → Walker
-standingAt z a = placedAt z true a 0 (z .count + 1)
+abbrev pub currentAt : Walker → ℕ → Walker
+currentAt z a = placedAt z true a 0 (z .count + 1)
 
 -- the current atom left for the one before, or for none
 abbrev pub backAt : Walker → ℕ → Walker
@@ -97,7 +97,7 @@ withWalker w z = walk z (w .met) (w .walked) (w .back) (w .taken) (w .pairs)
 -- atom a met, its entry back at place b
 abbrev pub metAt : Walk → Walker → ℕ → ℕ → Walk
 metAt w z a b =
-    walk (standingAt z a)
+    walk (currentAt z a)
     (set (w .met) a (z .count + 1))
     (set (w .walked) (z .count) a)
     (set (w .back) a b)
@@ -185,7 +185,7 @@ atomOf g w a =
     pick (leb (degreeAt g a) (getD (w .taken) a 0)) (leaveOf g w a) (entryTurn g w a (getD (w .taken) a 0))
 
 unfoldable pub turnOf : Graph → Walk → Turn
-turnOf g w = pick (w .at .standing) (atomOf g w (w .at .here)) (rootTurn g w)
+turnOf g w = pick (w .at .has_current) (atomOf g w (w .at .here)) (rootTurn g w)
 
 -- ---- turns
 -- a refused walk stays as it is

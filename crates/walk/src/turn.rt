@@ -1,4 +1,4 @@
-// One turn of a walk: a root tried, an entry of the atom that stands taken, or the atom left. What it says goes to the
+// One turn of a walk: a root tried, an entry of the current atom taken, or the atom left. What it says goes to the
 // writer at once.
 ghost use mathlib.Core.Path.{_≡_};
 ghost use mathlib.Core.List.{List};
@@ -7,7 +7,7 @@ ghost use lib.ListN.{set};
 ghost use Rattle.writer.specs.Tables.{spoken, sayAll, far};
 ghost use Rattle.walk_entry.specs.Graph.{graph, entryTo};
 ghost use Rattle.writer.specs.Steps.{LineNear, LineGrows};
-ghost use Rattle.walk.specs.Walk.{walk, standingAt, popsOf, rootTurn, leftIn, ringTurn, enterTurn, bondTurn, atomOf, turnOf};
+ghost use Rattle.walk.specs.Walk.{walk, currentAt, popsOf, rootTurn, leftIn, ringTurn, enterTurn, bondTurn, atomOf, turnOf};
 ghost use Rattle.walk.specs.Steps.{Did, TurnNear, TurnOnward, TurnGrows};
 use crate::walker::Walker;
 use desk_numbers::LOOP;
@@ -59,7 +59,7 @@ fn mark(
     b: u32,
 ) -> Walker
     requires { ⌜ walker .count < far ⌝ }
-    ensures { λ r. ⌜ (r ≡ standingAt walker a)
+    ensures { λ r. ⌜ (r ≡ currentAt walker a)
         × (now (met .exit) ≡ set (now (met .entry)) a (walker .count + 1))
         × (now (walked .exit) ≡ set (now (walked .entry)) (walker .count) a)
         × (now (back .exit) ≡ set (now (back .entry)) a b) ⌝ }
@@ -111,7 +111,7 @@ fn try_root(
     }
 }
 
-// The atom that stands has no entry left.
+// The current atom has no entry left.
 fn leave(bonds: &[u32], first: &[u32], back: &[u32], walker: Walker, a: u32) -> Walker
     requires { ⌜ walker .pend < far ⌝ }
     ensures { λ r. ⌜ r ≡ leftIn (now (bonds .entry)) (now (first .entry)) (now (back .entry)) walker a ⌝ }
@@ -161,7 +161,7 @@ fn ring(
     }
 }
 
-// A bond to a new atom: it is said and stands.
+// A bond to a new atom: it is said and becomes the current one.
 fn enter(
     atoms: &[u32],
     bonds: &[u32],
@@ -262,7 +262,7 @@ fn take_bond(
     ring(pairs, starts, out, walker, line, k, s, t)
 }
 
-// The atom that stands: its next entry, but for the one by which it was reached, or the way back.
+// The current atom: its next entry, but for the one by which it was reached, or the way back.
 fn take_atom(
     size: usize,
     atoms: &[u32],
@@ -345,7 +345,7 @@ pub fn turn(
         (spoken line (now (out .entry)) (now (starts .entry))) (spoken (r .line) (now (out .exit)) (now (starts .exit))) ⌝ }
     ensures { λ r. ⌜ TurnGrows walker (r .walker) line (r .line) ⌝ }
 {
-    if walker.standing {
+    if walker.has_current {
         return take_atom(
             size,
             atoms,

@@ -2,8 +2,8 @@
 ghost use mathlib.Core.Path.{_≡_};
 ghost use Prim.Native.Nat.{_<_};
 ghost use Rattle.join_pool.specs.Pairs.{hitOf};
-ghost use Rattle.join_pool.specs.Strokes.{answerApart};
-ghost use Rattle.walk.specs.Walk.{numberedIn, freshWalker, refusedAs, rootPassed, standingAt, backAt, atEnd, ringSaid};
+ghost use Rattle.join_pool.specs.Apart.{answerApart};
+ghost use Rattle.walk.specs.Walk.{numberedIn, freshWalker, refusedAs, rootPassed, currentAt, backAt, atEnd, ringSaid};
 ghost use Rattle.writer.specs.Tables.{far};
 use join_pool::Pool;
 use join_pool::lent;
@@ -13,7 +13,7 @@ pub struct Walker {
     // The next root to try.
     pub next: u32,
     // Whether there is a current atom, and which.
-    pub standing: bool,
+    pub has_current: bool,
     pub here: u32,
     // How many atoms were left since the last event.
     pub pend: usize,
@@ -39,7 +39,7 @@ impl Walker {
     {
         Walker {
             next: 0,
-            standing: false,
+            has_current: false,
             here: 0,
             pend: 0,
             count: 0,
@@ -71,9 +71,9 @@ impl Walker {
     // An atom met: it is the current one, and the atoms left before were popped.
     pub fn meet(mut self, a: u32) -> Walker
         requires { ⌜ self .count < far ⌝ }
-        ensures { λ r. ⌜ r ≡ standingAt self a ⌝ }
+        ensures { λ r. ⌜ r ≡ currentAt self a ⌝ }
     {
-        self.standing = true;
+        self.has_current = true;
         self.here = a;
         self.pend = 0;
         self.count = self.count + 1;
@@ -85,7 +85,7 @@ impl Walker {
         requires { ⌜ self .pend < far ⌝ }
         ensures { λ r. ⌜ r ≡ backAt self a ⌝ }
     {
-        self.standing = true;
+        self.has_current = true;
         self.here = a;
         self.pend = self.pend + 1;
         self
@@ -95,7 +95,7 @@ impl Walker {
     pub fn end(mut self) -> Walker
         ensures { λ r. ⌜ r ≡ atEnd self ⌝ }
     {
-        self.standing = false;
+        self.has_current = false;
         self.pend = 0;
         self
     }

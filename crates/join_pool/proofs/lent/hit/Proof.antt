@@ -43,7 +43,7 @@ use denote.Triple.Walked.{says, Stays, stay-ref, gave-slice, stay-none, walkOf, 
 use denote.Triple.Clauses.{ensured, lasts}
 use denote.Exit.{yes}
 use Rattle.join_pool.specs.Pairs.{hitOf}
-use Rattle.join_pool.specs.Strokes.{answerApart}
+use Rattle.join_pool.specs.Apart.{answerApart}
 use Rattle.join_pool.specs.declared.Pool.{Pool}
 use Rattle.join_pool.specs.declared.lent.PoolAnswer.{PoolAnswer}
 use Rattle.join_pool.proofs.Pool as T

@@ -8,7 +8,7 @@ use Rattle.join_pool.specs.declared.Given.{Given}
 use Rattle.join_pool.specs.declared.Given.the-variants.{Number, Full}
 use Rattle.join_pool.specs.declared.lent.Told.the-variants as told
 use Rattle.join_pool.specs.Pairs.{Hits, hits, hitOf}
-use Rattle.join_pool.specs.Strokes.{withAnswer, answerApart}
+use Rattle.join_pool.specs.Apart.{withAnswer, answerApart}
 use Rattle.join_pool.proofs.lent.hit_by_value.Statement.{statement}
 use Rattle.join_pool.proofs.lent.hit_by_value.Tie as tie
 

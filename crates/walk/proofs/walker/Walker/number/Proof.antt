@@ -44,7 +44,7 @@ use denote.Triple.Walked.{says, Stays, gave-slice, stay-none, walkOf, AllGo, goe
 use denote.Triple.Clauses.{ensured, lasts}
 use denote.Exit.{yes}
 use Rattle.join_pool.specs.Pairs.{hitOf}
-use Rattle.join_pool.specs.Strokes.{withAnswer, answerApart}
+use Rattle.join_pool.specs.Apart.{withAnswer, answerApart}
 use Rattle.join_pool.specs.declared.Pool.{Pool}
 use Rattle.join_pool.specs.declared.lent.Told.{Told}
 use Rattle.join_pool.proofs.Pool as T
