@@ -1,7 +1,7 @@
 // What may be asked of the lines, and what the arguments ask for.
-use label_text::phrase::find_phrase;
 use libc::STDERR_FILENO;
 use oracle_form::byte::after;
+use oracle_form::list::number_of;
 
 // The statuses.
 pub const ALL_DONE: i32 = 0;
@@ -49,7 +49,7 @@ fn command_of(n: usize) -> Command {
 
 // A word that is no option: a command, once, or the first file.
 fn take_plain(a: Asked, i: usize, word: &[u8]) -> Asked {
-    let n = find_phrase(b"rewrite\norder\ngraph\ncheck\nsmi\n", word);
+    let n = number_of(b"rewrite;order;graph;check;smi;", word);
     if COMMANDS <= n || a.is_named {
         let mut a = a;
         a.is_over = true;
@@ -70,7 +70,7 @@ fn take_plain(a: Asked, i: usize, word: &[u8]) -> Asked {
 fn take_option(a: Asked, i: usize, word: &[u8]) -> Asked {
     let mut a = a;
     a.first = after(i);
-    match find_phrase(b"--progress\n--\n", word) {
+    match number_of(b"--progress;--;", word) {
         0 => a.has_progress = true,
         1 => {
             a.is_over = true;

@@ -5,11 +5,11 @@ use crate::command::ALL_DONE;
 use crate::command::NOT_DONE;
 use crate::command::SOME_REFUSED;
 use crate::output::say;
+use label_text::counted::put_counted;
 use label_text::looks::Looks;
-use label_text::phrase::put_counted;
-use label_text::phrase::put_phrase;
 use oracle_form::byte::after;
 use oracle_form::byte::put_word;
+use oracle_form::list::put_nth;
 use oracle_form::number;
 
 pub struct Counts {
@@ -89,16 +89,16 @@ fn put_more(out: &mut [u8], at: usize, n: usize, words: usize) -> usize
     }
     let at = put_word(out, at, b", ");
     let at = number::print(out, at, n);
-    put_phrase(
+    let at = put_word(out, at, b" ");
+    put_nth(
         out,
         at,
-        b" of them blank
- of them like a comment
- of them like a header
- of them like an identifier
- passed on
- with atoms that are not kept
-",
+        b"of them blank;\
+            of them like a comment;\
+            of them like a header;\
+            of them like an identifier;\
+            passed on;\
+            with atoms that are not kept;",
         words,
     )
 }

@@ -2,13 +2,13 @@
 // is read again as another, or not at all. So it is said which atom, and what is written for it. `survive` tells which.
 ghost use Prim.Native.Nat.{_≤_};
 ghost use lib.ListN.{length};
-use crate::phrase::put_phrase;
 use feature::atom_kind::AtomKind;
 use feature::atom_kind::BracketAtom;
 use feature::element::CS;
 use oracle_form::byte::NOWHERE;
 use oracle_form::byte::after;
 use oracle_form::byte::put_word;
+use oracle_form::list::put_nth;
 use oracle_form::number;
 use packing::Loaded;
 use packing::load;
@@ -101,19 +101,18 @@ fn put_reason(out: &mut [u8], at: usize, n: usize) -> usize
     requires { ⌜ at ≤ length (now out) ⌝ }
     ensures { λ r. ⌜ r ≤ length (now (out .exit)) ⌝ }
 {
-    put_phrase(
+    put_nth(
         out,
         at,
-        b"Cs is written as Ac
-H0 is not written
-+5 is written behind a blank, and not read again
-AL1 is written as TH1
-AL2 is written as TH2
-TB20 is written as TH1
-OH3 is written as TH1
-OH14 is written as OH6
-its charge is not read again
-",
+        b"Cs is written as Ac;\
+            H0 is not written;\
+            +5 is written behind a blank, and not read again;\
+            AL1 is written as TH1;\
+            AL2 is written as TH2;\
+            TB20 is written as TH1;\
+            OH3 is written as TH1;\
+            OH14 is written as OH6;\
+            its charge is not read again;",
         n,
     )
 }

@@ -2,7 +2,6 @@
 ghost use Prim.Native.Nat.{_≤_};
 ghost use lib.ListN.{length};
 use crate::looks::Looks;
-use crate::phrase::put_phrase;
 use crate::rings::Places;
 use crate::rings::Wanted;
 use crate::rings::find;
@@ -20,6 +19,7 @@ use desk_numbers::RNUM;
 use oracle_form::byte::NOWHERE;
 use oracle_form::byte::put;
 use oracle_form::byte::put_word;
+use oracle_form::list::put_nth;
 use oracle_form::number;
 use table::limits::TEXT;
 
@@ -72,26 +72,32 @@ fn put_places(out: &mut [u8], at: usize, s: Said, p: Places) -> usize
     number::print(out, at, p.second)
 }
 
+// For a text that looks like nothing else.
+const NO_WORDS: usize = 4;
+
 // What the line looks like, if it is known.
 fn put_looks(out: &mut [u8], at: usize, looks: Looks) -> usize
     requires { ⌜ at ≤ length (now out) ⌝ }
     ensures { λ r. ⌜ r ≤ length (now (out .exit)) ⌝ }
 {
     let n = match looks {
-        Looks::Text => 4,
+        Looks::Text => NO_WORDS,
         Looks::Blank => 0,
         Looks::Comment => 1,
         Looks::Header => 2,
         Looks::Identifier => 3,
     };
-    put_phrase(
+    if n == NO_WORDS {
+        return at;
+    }
+    let at = put_word(out, at, b"; ");
+    put_nth(
         out,
         at,
-        b"; the line is blank
-; the line looks like a comment
-; the line looks like a header
-; this looks like an identifier, where the text has to be
-",
+        b"the line is blank;\
+            the line looks like a comment;\
+            the line looks like a header;\
+            this looks like an identifier, where the text has to be;",
         n,
     )
 }
