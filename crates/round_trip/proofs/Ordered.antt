@@ -28,8 +28,8 @@ told-pops p n e es l h =
 
 -- One turn, where d atoms are on the way up: there are pieces for these and for those left since the last event. Where there
 -- is no current atom, the next event is a root, and any number will do.
-told-step : {g : Graph} {w : Walk} {d : ℕ} {x : Turn} {c : ℕ} → Sound g w d → Move g w d x c → (n : ℕ) → (w .at .has_current ≡ true → n ≡ d + w .at .pend)
-    → (es : List Event) → ((k : ℕ) → (x .after .at .has_current ≡ true → k ≡ c + x .after .at .pend) → Sayable k es) → Sayable n (x .said ++ es)
+told-step : {g : Graph} {w : Walk} {d : ℕ} {x : Turn} {c : ℕ} → Sound g w d → Move g w d x c → (n : ℕ) → (w .at .current ≡ true → n ≡ d + w .at .pend)
+    → (es : List Event) → ((k : ℕ) → (x .after .at .current ≡ true → k ≡ c + x .after .at .pend) → Sayable k es) → Sayable n (x .said ++ es)
 told-step s (still r h) n f es go = go n f
 told-step s (skip r h m) n f es go = go n f
 told-step s (root r h m k) n f es go = go 1 (λ e. omega arith)
@@ -46,7 +46,7 @@ told-step {w} {d} s (enters r h t b l m nb to e k) n f es go =
     let q : n ≡ d + w .at .pend = f r in
     told-pops (w .at .pend) n (Extend e k) es (omega arith) (omega arith, go (n - w .at .pend + 1) (λ z. omega arith))
 
-told-turns : (g : Graph) (t : ℕ) (w : Walk) (d n : ℕ) → Sound g w d → (w .at .has_current ≡ true → n ≡ d + w .at .pend) → Sayable n (eventsOf g t w)
+told-turns : (g : Graph) (t : ℕ) (w : Walk) (d n : ℕ) → Sound g w d → (w .at .current ≡ true → n ≡ d + w .at .pend) → Sayable n (eventsOf g t w)
 unfolding eventsOf stepOf
 told-turns g zero w d n s f = tt
 told-turns g (suc t) w d n s f =
@@ -61,7 +61,7 @@ told-walk g lm lw lb lt pairs r t =
 
 -- ---- the first event
 -- where there is no current atom and the next one is new, a turn says a root
-first-said : (g : Graph) (t : ℕ) (w : Walk) → 1 ≤ t → w .at .refusal ≡ 0 → w .at .has_current ≡ false → w .at .next < g .size → getD (w .met) (w .at .next) 0 ≡ 0
+first-said : (g : Graph) (t : ℕ) (w : Walk) → 1 ≤ t → w .at .refusal ≡ 0 → w .at .current ≡ false → w .at .next < g .size → getD (w .met) (w .at .next) 0 ≡ 0
     → 0 < length (eventsOf g t w)
 unfolding eventsOf stepOf turnOf rootTurn
 first-said g zero w l r s h m = absurd (omega arith)

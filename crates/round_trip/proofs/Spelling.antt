@@ -93,7 +93,7 @@ module _ (g : Graph) (K : (a : ℕ) → a < g .size → survives (kindAt g a) �
   unfolding stepOf turnOf
   fine-step w =
       by-test Fine (eqb (w .at .refusal) 0)
-      (λ q. by-test Fine (w .at .has_current) (λ z. fine-atom w (w .at .here)) (λ z. fine-root g K w)) (λ q. tt)
+      (λ q. by-test Fine (w .at .current) (λ z. fine-atom w (w .at .here)) (λ z. fine-root g K w)) (λ q. tt)
 
   pub kept-turns : (t : ℕ) (w : Walk) → Kept (eventsOf g t w)
   unfolding eventsOf

@@ -49,7 +49,7 @@ module _ (g : Graph) (W : Simple g) (w : Walk) (dep : ℕ) (snd : Sound g w dep)
   left-only =
       by-test (λ (z : Walker). O (quiet (withWalker w z))) (eqb (getD (w .back) (w .at .here) 0) 0) (λ q. none fine) (λ q. none fine)
 
-  module _ (r : w .at .has_current ≡ true) (more : getD (w .taken) (w .at .here) 0 < degreeAt g (w .at .here)) where
+  module _ (r : w .at .current ≡ true) (more : getD (w .taken) (w .at .here) 0 < degreeAt g (w .at .here)) where
     abbrev s0 : ℕ
     s0 = w .at .here
 
@@ -89,7 +89,7 @@ module _ (g : Graph) (W : Simple g) (w : Walk) (dep : ℕ) (snd : Sound g w dep)
   turn-only : O (turnOf g w)
   unfolding turnOf atomOf
   turn-only =
-      by-test O (w .at .has_current)
+      by-test O (w .at .current)
       (λ r. by-test O (leb (degreeAt g (w .at .here)) (getD (w .taken) (w .at .here) 0)) (λ z. left-only) (λ z. entry-only r (leb-false _ _ z)))
       (λ r. root-only)
 

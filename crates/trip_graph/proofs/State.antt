@@ -101,8 +101,8 @@ pub record Sta (g : Graph) (w : Walk) (o fr : List ℕ) : Type 0 where
   pub takes : (v : ℕ) → getD (w .taken) v 0 ≤ degreeAt g v
   pub left : (v : ℕ) → memb v o ≡ true → memb v fr ≡ false → degreeAt g v ≤ getD (w .taken) v 0
   pub held : (v : ℕ) → memb v fr ≡ true → memb v o ≡ true
-  pub line : w .at .has_current ≡ true → Line g (w .back) (w .at .here) fr
-  pub rest : w .at .has_current ≡ false → fr ≡ []
+  pub line : w .at .current ≡ true → Line g (w .back) (w .at .here) fr
+  pub rest : w .at .current ≡ false → fr ≡ []
 
 module _ {g : Graph} {w : Walk} {o fr : List ℕ} (S : Sta g w o fr) where
   pub is-met : (x : ℕ) → getD (w .met) x 0 ≢ 0 → memb x o ≡ true
@@ -111,7 +111,7 @@ module _ {g : Graph} {w : Walk} {o fr : List ℕ} (S : Sta g w o fr) where
   pub is-new : (x : ℕ) → getD (w .met) x 0 ≡ 0 → memb x o ≡ false
   is-new x h = by-bool (memb x o) (λ q. absurd (let z : suc (idx x o) ≡ 0 = sym (mark-in x o q) ∙ sym (S .met x) ∙ h in omega arith)) (λ q. q)
 
-  pub here-held : w .at .has_current ≡ true → memb (w .at .here) o ≡ true
+  pub here-held : w .at .current ≡ true → memb (w .at .here) o ≡ true
   here-held r = let h = line-head (S .line r) in S .held (w .at .here) (rw (h .is) (memb-here (h .rest) refl))
 
   pub done-new : (v : ℕ) → memb v o ≡ false → doneIn g (w .back) (w .taken) v ≡ []
@@ -181,7 +181,7 @@ module _ {g : Graph} {w : Walk} {o fr : List ℕ} (S : Sta g w o fr) where
         rest = S .rest;
       }
 
-  pub sta-ends : w .at .has_current ≡ true → getD (w .back) (w .at .here) 0 ≡ 0 → degreeAt g (w .at .here) ≤ getD (w .taken) (w .at .here) 0
+  pub sta-ends : w .at .current ≡ true → getD (w .back) (w .at .here) 0 ≡ 0 → degreeAt g (w .at .here) ≤ getD (w .taken) (w .at .here) 0
       → Sta g (withWalker w (atEnd (w .at))) o []
   unfolding memb
   sta-ends r z h =
@@ -204,7 +204,7 @@ module _ {g : Graph} {w : Walk} {o fr : List ℕ} (S : Sta g w o fr) where
         rest = λ q. refl;
       }
 
-  pub sta-leaves : w .at .has_current ≡ true → (n : getD (w .back) (w .at .here) 0 ≢ 0) → (A : Above g (w .back) (w .at .here) fr) → degreeAt g (w .at .here) ≤ getD (w .taken) (w .at .here) 0
+  pub sta-leaves : w .at .current ≡ true → (n : getD (w .back) (w .at .here) 0 ≢ 0) → (A : Above g (w .back) (w .at .here) fr) → degreeAt g (w .at .here) ≤ getD (w .taken) (w .at .here) 0
       → Sta g (withWalker w (backAt (w .at) (parentOf g (w .back) (w .at .here)))) o (A .rest)
   unfolding memb
   sta-leaves r n A h =
@@ -227,7 +227,7 @@ module _ {g : Graph} {w : Walk} {o fr : List ℕ} (S : Sta g w o fr) where
       }
 
   -- the entry at hand taken: other pool and pops, and what it leads to was met
-  module _ (rt : w .at .here < length (w .taken)) (r : w .at .has_current ≡ true) (more : getD (w .taken) (w .at .here) 0 < degreeAt g (w .at .here)) where
+  module _ (rt : w .at .here < length (w .taken)) (r : w .at .current ≡ true) (more : getD (w .taken) (w .at .here) 0 < degreeAt g (w .at .here)) where
     takes-next : (v : ℕ) → getD (set (w .taken) (w .at .here) (getD (w .taken) (w .at .here) 0 + 1)) v 0 ≤ degreeAt g v
     takes-next v = by-eq v (w .at .here)
         (λ e. rw (e, getD-set-same (w .taken) (w .at .here) (getD (w .taken) (w .at .here) 0 + 1) 0 rt) (omega arith))
@@ -365,7 +365,7 @@ module _ {g : Graph} {w : Walk} {o fr : List ℕ} (S : Sta g w o fr) where
 
 -- a new atom entered from the current one, whose entry at hand is taken
 module _ {g : Graph} {w : Walk} {o fr : List ℕ} (S : Sta g w o fr)
-    (rt : w .at .here < length (w .taken)) (r : w .at .has_current ≡ true) (more : getD (w .taken) (w .at .here) 0 < degreeAt g (w .at .here))
+    (rt : w .at .here < length (w .taken)) (r : w .at .current ≡ true) (more : getD (w .taken) (w .at .here) 0 < degreeAt g (w .at .here))
     (apart : getD (w .back) (w .at .here) 0 ≢ getD (w .taken) (w .at .here) 0 + 1)
     (t : ℕ) (to : bondOf g (w .at .here) (getD (w .taken) (w .at .here) 0) .to ≡ t) (ht : t < g .size)
     (rm : t < length (w .met)) (rb : t < length (w .back)) (mt : memb t o ≡ false) (few : length o < g .size)

@@ -189,7 +189,7 @@ module _ (H : Pool → List ℕ → List Pair → Type 0) (g : Graph) (W : Simpl
 
   all-taken : (v : ℕ) → memb v (I .order) ≡ true → getD (w .taken) v 0 ≡ degreeAt g v
   unfolding memb
-  all-taken v m = omega (arith, I .sta .left v m (rw (I .sta .rest (F .has_current))), I .sta .takes v)
+  all-taken v m = omega (arith, I .sta .left v m (rw (I .sta .rest (F .current))), I .sta .takes v)
 
   end-done : (v : ℕ) → memb v (I .order) ≡ true → doneIn g (w .back) (w .taken) v ≡ entriesOf g v (getD (w .back) v 0)
   unfolding doneIn

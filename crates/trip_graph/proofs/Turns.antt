@@ -116,7 +116,7 @@ module _ (H : Pool → List ℕ → List Pair → Type 0) (Q : Serves H) (g : Gr
     fine = I .fine;
   }) tt
 
-  new-root : w .at .has_current ≡ false → w .at .next < g .size → getD (w .met) (w .at .next) 0 ≡ 0
+  new-root : w .at .current ≡ false → w .at .next < g .size → getD (w .met) (w .at .next) 0 ≡ 0
       → R (turn (metAt w (rootPassed (w .at)) (w .at .next) 0) (Root (saidAs (kindAt g (w .at .next)) 0) ∷ []))
   unfolding retold retoldOne kindBy
   new-root r hi m =
@@ -147,14 +147,14 @@ module _ (H : Pool → List ℕ → List Pair → Type 0) (Q : Serves H) (g : Gr
         fine = I .fine;
       }) tt
 
-  root-turn : w .at .has_current ≡ false → R (rootTurn g w)
+  root-turn : w .at .current ≡ false → R (rootTurn g w)
   unfolding rootTurn
   root-turn r =
       by-test R (leb (g .size) (w .at .next)) (λ q. still-turn)
       (λ q. by-test R (eqb (getD (w .met) (w .at .next) 0) 0)
       (λ z. new-root r (leb-false _ _ q) (eqb-true _ _ z)) (λ z. skip-turn))
 
-  left-turn : w .at .has_current ≡ true → degreeAt g (w .at .here) ≤ getD (w .taken) (w .at .here) 0 → R (leaveOf g w (w .at .here))
+  left-turn : w .at .current ≡ true → degreeAt g (w .at .here) ≤ getD (w .taken) (w .at .here) 0 → R (leaveOf g w (w .at .here))
   unfolding leftIn runS retold
   left-turn r h =
       by-test (λ (z : Walker). R (quiet (withWalker w z))) (eqb (getD (w .back) (w .at .here) 0) 0)
@@ -185,7 +185,7 @@ module _ (H : Pool → List ℕ → List Pair → Type 0) (Q : Serves H) (g : Gr
       }) tt)
 
   -- at an entry
-  module _ (r : w .at .has_current ≡ true) (more : getD (w .taken) (w .at .here) 0 < degreeAt g (w .at .here)) where
+  module _ (r : w .at .current ≡ true) (more : getD (w .taken) (w .at .here) 0 < degreeAt g (w .at .here)) where
     abbrev s0 : ℕ
     s0 = w .at .here
 
@@ -389,7 +389,7 @@ module _ (H : Pool → List ℕ → List Pair → Type 0) (Q : Serves H) (g : Gr
     unfolding entryTurn
     entry-turn = by-test R (eqb (getD (w .back) s0 0) (i0 + 1)) (λ z. pass-turn (eqb-true _ _ z)) (λ z. bond-turn (eqb-false _ _ z))
 
-  atom-turn : w .at .has_current ≡ true → R (atomOf g w (w .at .here))
+  atom-turn : w .at .current ≡ true → R (atomOf g w (w .at .here))
   unfolding atomOf
   atom-turn r =
       by-test R (leb (degreeAt g (w .at .here)) (getD (w .taken) (w .at .here) 0))
@@ -397,4 +397,4 @@ module _ (H : Pool → List ℕ → List Pair → Type 0) (Q : Serves H) (g : Gr
 
   pub one-turn : R (turnOf g w)
   unfolding turnOf
-  one-turn = by-test R (w .at .has_current) atom-turn root-turn
+  one-turn = by-test R (w .at .current) atom-turn root-turn

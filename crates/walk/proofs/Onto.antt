@@ -129,10 +129,10 @@ module _ (g : Graph) (z : Walker) (met walked back taken pairs : List ℕ) (a i 
       j
 
 -- ---- a turn
-pub turn-standing : (g : Graph) (w v : Walk) (line said : Spoken) → w .at .has_current ≡ true → Did (atomOf g w (w .at .here)) v line said → Did (turnOf g w) v line said
+pub turn-standing : (g : Graph) (w v : Walk) (line said : Spoken) → w .at .current ≡ true → Did (atomOf g w (w .at .here)) v line said → Did (turnOf g w) v line said
 unfolding turnOf
 turn-standing g w v line said h d = did-as (simp h) d
 
-pub turn-root : (g : Graph) (w v : Walk) (line said : Spoken) → w .at .has_current ≡ false → Did (rootTurn g w) v line said → Did (turnOf g w) v line said
+pub turn-root : (g : Graph) (w v : Walk) (line said : Spoken) → w .at .current ≡ false → Did (rootTurn g w) v line said → Did (turnOf g w) v line said
 unfolding turnOf
 turn-root g w v line said h d = did-as (simp h) d

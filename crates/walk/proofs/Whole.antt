@@ -54,7 +54,7 @@ module _ {M : Type 1} (𝓤 : URA M) (H : Heap 𝓤) (A : Atoms 𝓤) (W : Given
 
 -- a walker with another pool
 abbrev pub pooled : Walker → Pool → Walker
-pooled z p = walker (z .next) (z .has_current) (z .here) (z .pend) (z .count) p (z .refusal) (z .first) (z .second)
+pooled z p = walker (z .next) (z .current) (z .here) (z .pend) (z .count) p (z .refusal) (z .first) (z .second)
 
 abbrev pub Fits : Pool → Type 0
 Fits p = (p .counter < 2 ^ 32) × (p .spare < 2 ^ 32)
@@ -65,7 +65,7 @@ place = 28
 
 -- a walker's cell with the machine value u for its pool
 abbrev holds : Walker → Val → Val
-holds z u = vstruct (vcons (vint w32 (z .next)) (vcons (vbool (z .has_current)) (vcons (vint w32 (z .here)) (vcons (vint w64 (z .pend)) (vcons (vint w32 (z .count)) (vcons u (vcons (vint w32 (z .refusal)) (vcons (vint w32 (z .first)) (vcons (vint w32 (z .second)) vnil)))))))))
+holds z u = vstruct (vcons (vint w32 (z .next)) (vcons (vbool (z .current)) (vcons (vint w32 (z .here)) (vcons (vint w64 (z .pend)) (vcons (vint w32 (z .count)) (vcons u (vcons (vint w32 (z .refusal)) (vcons (vint w32 (z .first)) (vcons (vint w32 (z .second)) vnil)))))))))
 
 module _ {M : Type 1} (𝓤 : URA M) (H : Heap 𝓤) where
   -- the way back of the pool into the walker's cell

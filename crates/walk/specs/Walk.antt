@@ -42,8 +42,8 @@ walk z met walked back taken pairs =
     record { at = z; met = met; walked = walked; back = back; taken = taken; pairs = pairs }
 
 abbrev pub walker : ℕ → Bool → ℕ → ℕ → ℕ → Pool → ℕ → ℕ → ℕ → Walker
-walker next has_current here pend count pool refusal first second =
-    record { next = next; has_current = has_current; here = here; pend = pend; count = count; pool = pool; refusal = refusal; first = first; second = second }
+walker next current here pend count pool refusal first second =
+    record { next = next; current = current; here = here; pend = pend; count = count; pool = pool; refusal = refusal; first = first; second = second }
 
 -- nothing met
 abbrev pub freshWalker : Pool → Walker
@@ -55,22 +55,22 @@ startWalker = freshWalker emptyOf
 
 -- ---- what changes
 abbrev pub refusedAs : Walker → ℕ → ℕ → ℕ → Walker
-refusedAs z r a b = walker (z .next) (z .has_current) (z .here) (z .pend) (z .count) (z .pool) r a b
+refusedAs z r a b = walker (z .next) (z .current) (z .here) (z .pend) (z .count) (z .pool) r a b
 
 -- the next root passed over
 abbrev pub rootPassed : Walker → Walker
 rootPassed z =
-    walker (z .next + 1) (z .has_current) (z .here) (z .pend) (z .count) (z .pool) (z .refusal) (z .first) (z .second)
+    walker (z .next + 1) (z .current) (z .here) (z .pend) (z .count) (z .pool) (z .refusal) (z .first) (z .second)
 
 -- another place: whether there is a current atom and which, the atoms left since the last event, how many were met
 abbrev pub placedAt : Walker → Bool → ℕ → ℕ → ℕ → Walker
-placedAt z has_current here pend count =
-    walker (z .next) has_current here pend count (z .pool) (z .refusal) (z .first) (z .second)
+placedAt z current here pend count =
+    walker (z .next) current here pend count (z .pool) (z .refusal) (z .first) (z .second)
 
 -- another pool, and so many atoms left since the last event
 abbrev pub poolPut : Walker → ℕ → Pool → Walker
 poolPut z pend pool =
-    walker (z .next) (z .has_current) (z .here) pend (z .count) pool (z .refusal) (z .first) (z .second)
+    walker (z .next) (z .current) (z .here) pend (z .count) pool (z .refusal) (z .first) (z .second)
 
 -- the atom a met and current, so all pops were said
 abbrev pub currentAt : Walker → ℕ → Walker
@@ -185,7 +185,7 @@ atomOf g w a =
     pick (leb (degreeAt g a) (getD (w .taken) a 0)) (leaveOf g w a) (entryTurn g w a (getD (w .taken) a 0))
 
 unfoldable pub turnOf : Graph → Walk → Turn
-turnOf g w = pick (w .at .has_current) (atomOf g w (w .at .here)) (rootTurn g w)
+turnOf g w = pick (w .at .current) (atomOf g w (w .at .here)) (rootTurn g w)
 
 -- ---- turns
 -- a refused walk stays as it is

@@ -345,7 +345,7 @@ pub fn turn(
         (spoken line (now (out .entry)) (now (starts .entry))) (spoken (r .line) (now (out .exit)) (now (starts .exit))) ⌝ }
     ensures { λ r. ⌜ TurnGrows walker (r .walker) line (r .line) ⌝ }
 {
-    if walker.has_current {
+    if walker.current {
         return take_atom(
             size,
             atoms,

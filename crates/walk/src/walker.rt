@@ -13,7 +13,7 @@ pub struct Walker {
     // The next root to try.
     pub next: u32,
     // Whether there is a current atom, and which.
-    pub has_current: bool,
+    pub current: bool,
     pub here: u32,
     // How many atoms were left since the last event.
     pub pend: usize,
@@ -39,7 +39,7 @@ impl Walker {
     {
         Walker {
             next: 0,
-            has_current: false,
+            current: false,
             here: 0,
             pend: 0,
             count: 0,
@@ -73,7 +73,7 @@ impl Walker {
         requires { ⌜ self .count < far ⌝ }
         ensures { λ r. ⌜ r ≡ currentAt self a ⌝ }
     {
-        self.has_current = true;
+        self.current = true;
         self.here = a;
         self.pend = 0;
         self.count = self.count + 1;
@@ -85,7 +85,7 @@ impl Walker {
         requires { ⌜ self .pend < far ⌝ }
         ensures { λ r. ⌜ r ≡ backAt self a ⌝ }
     {
-        self.has_current = true;
+        self.current = true;
         self.here = a;
         self.pend = self.pend + 1;
         self
@@ -95,7 +95,7 @@ impl Walker {
     pub fn end(mut self) -> Walker
         ensures { λ r. ⌜ r ≡ atEnd self ⌝ }
     {
-        self.has_current = false;
+        self.current = false;
         self.pend = 0;
         self
     }

@@ -29,27 +29,27 @@ unfolding walkTo
 stays g zero w e = refl
 stays g (suc t) w e = ap (λ (v : Walk). walkTo g t v) e ∙ stays g t w e
 
-done-stays : (g : Graph) (w : Walk) → w .at .has_current ≡ false → g .size ≤ w .at .next → stepOf g w .after ≡ w
+done-stays : (g : Graph) (w : Walk) → w .at .current ≡ false → g .size ≤ w .at .next → stepOf g w .after ≡ w
 unfolding stepOf turnOf rootTurn
 done-stays g w r h =
     by-test (λ (x : Turn). x .after ≡ w) (eqb (w .at .refusal) 0)
-    (λ q. by-test (λ (x : Turn). x .after ≡ w) (w .at .has_current) (λ z. absurd (false≢true (sym r ∙ z)))
+    (λ q. by-test (λ (x : Turn). x .after ≡ w) (w .at .current) (λ z. absurd (false≢true (sym r ∙ z)))
     (λ z. by-test (λ (x : Turn). x .after ≡ w) (leb (g .size) (w .at .next)) (λ y. refl) (λ y. absurd (false≢true (sym y ∙ le-leb _ _ h)))))
     (λ q. refl)
 
 -- where there is no current atom and no root is left to try, every atom was met
 module _ {g : Graph} {w : Walk} {d : ℕ} (s : Sound g w d) where
-  finished : w .at .has_current ≡ false → g .size ≤ w .at .next → Finished g w
+  finished : w .at .current ≡ false → g .size ≤ w .at .next → Finished g w
   finished r h =
       let all : (a : ℕ) → a < g .size → getD (w .met) a 0 ≢ 0 = λ a l. s .tried a (omega arith) in
-      record { has_current = r; next = h; met = all; count = omega (arith, s .counted, unmet-none (g .size) (w .met) all) }
+      record { current = r; next = h; met = all; count = omega (arith, s .counted, unmet-none (g .size) (w .met) all) }
 
   -- with nothing left to do there is no current atom
   nothing-left : toDo g w d ≤ 0 → Finished g w
   unfolding toDo
-  nothing-left h = go (w .at .has_current) refl
+  nothing-left h = go (w .at .current) refl
     where
-      go : (q : Bool) → w .at .has_current ≡ q → Finished g w
+      go : (q : Bool) → w .at .current ≡ q → Finished g w
       go true r = absurd (omega (arith, h, up-some (s .stands r)))
       go false r = finished r (omega arith)
 

@@ -31,7 +31,7 @@ pub record Goes (g : Graph) (most : ℕ) (ps : List (List ℕ)) (x : Turn) (d : 
 
 module _ {g : Graph} {w : Walk} {d : ℕ} (s : Sound g w d) where
   -- one entry less is left
-  pub left-less : w .at .has_current ≡ true → takenOf w < degreeAt g (w .at .here)
+  pub left-less : w .at .current ≡ true → takenOf w < degreeAt g (w .at .here)
       → entriesLeft g (w .taken) ≡ suc (entriesLeft g (set (w .taken) (w .at .here) (takenOf w + 1)))
   left-less r h = left-taken g (w .taken) (w .at .here) (up-within (s .stands r)) (s .room .taken) h
 

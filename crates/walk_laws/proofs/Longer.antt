@@ -72,7 +72,7 @@ record Enough (g : Graph) (w : Walk) : Type 0 where
   room : Room g (length (w .met)) (length (w .back)) (length (w .taken))
   walked : g .size ≤ length (w .walked)
   more : (t : ℕ) → t < g .size → getD (w .met) t 0 ≡ 0 → w .at .count < g .size
-  here : w .at .has_current ≡ true → w .at .here < g .size
+  here : w .at .current ≡ true → w .at .here < g .size
 
 sound-enough : {g : Graph} {w : Walk} {d : ℕ} → Sound g w d → g .size ≤ length (w .walked) → Enough g w
 sound-enough s l = record { room = s .room; walked = l; more = count-below s; here = λ r. up-within (s .stands r) }

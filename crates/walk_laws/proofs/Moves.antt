@@ -41,19 +41,19 @@ parentOf g back a = bondIn (g .bonds) (g .first) a (getD back a 0 - 1) .to
 -- A turn from w to x. So many atoms are on the way from the current atom up to its root, both counted, and 0 where there
 -- is none: d before the turn, and the last number after it. The tables do not hold that number: the turns keep it.
 pub data Move (g : Graph) (w : Walk) (d : ℕ) : Turn → ℕ → Type 0 where
-  still : w .at .has_current ≡ false → g .size ≤ w .at .next → Move g w d (quiet w) d
-  skip : w .at .has_current ≡ false → w .at .next < g .size → getD (w .met) (w .at .next) 0 ≢ 0 → Move g w d (quiet (withWalker w (rootPassed (w .at)))) d
-  root : w .at .has_current ≡ false → w .at .next < g .size → getD (w .met) (w .at .next) 0 ≡ 0 → (k : AtomKind)
+  still : w .at .current ≡ false → g .size ≤ w .at .next → Move g w d (quiet w) d
+  skip : w .at .current ≡ false → w .at .next < g .size → getD (w .met) (w .at .next) 0 ≢ 0 → Move g w d (quiet (withWalker w (rootPassed (w .at)))) d
+  root : w .at .current ≡ false → w .at .next < g .size → getD (w .met) (w .at .next) 0 ≡ 0 → (k : AtomKind)
       → Move g w d (turn (metAt w (rootPassed (w .at)) (w .at .next) 0) (Root k ∷ [])) 1
-  ends : w .at .has_current ≡ true → getD (w .back) (w .at .here) 0 ≡ 0 → Move g w d (quiet (withWalker w (atEnd (w .at)))) 0
-  leaves : w .at .has_current ≡ true → getD (w .back) (w .at .here) 0 ≢ 0
+  ends : w .at .current ≡ true → getD (w .back) (w .at .here) 0 ≡ 0 → Move g w d (quiet (withWalker w (atEnd (w .at)))) 0
+  leaves : w .at .current ≡ true → getD (w .back) (w .at .here) 0 ≢ 0
       → Move g w d (quiet (withWalker w (backAt (w .at) (parentOf g (w .back) (w .at .here))))) (d - 1)
-  takes : w .at .has_current ≡ true → takenOf w < degreeAt g (w .at .here) → Move g w d (quiet (tookOne w)) d
-  refuses : w .at .has_current ≡ true → takenOf w < degreeAt g (w .at .here) → (pairs : List ℕ) (r a b : ℕ)
+  takes : w .at .current ≡ true → takenOf w < degreeAt g (w .at .here) → Move g w d (quiet (tookOne w)) d
+  refuses : w .at .current ≡ true → takenOf w < degreeAt g (w .at .here) → (pairs : List ℕ) (r a b : ℕ)
       → Move g w d (refuseTurn (pooled (tookOne w) pairs) r a b) d
-  joins : w .at .has_current ≡ true → takenOf w < degreeAt g (w .at .here) → (pairs : List ℕ) (p : Pool) (k : BondKind) (n : ℕ)
+  joins : w .at .current ≡ true → takenOf w < degreeAt g (w .at .here) → (pairs : List ℕ) (p : Pool) (k : BondKind) (n : ℕ)
       → Move g w d (turn (withWalker (pooled (tookOne w) pairs) (ringSaid (w .at) p)) (popsThen (w .at .pend) (Join k n))) d
-  enters : w .at .has_current ≡ true → takenOf w < degreeAt g (w .at .here) → (t b : ℕ) → t < g .size → getD (w .met) t 0 ≡ 0
+  enters : w .at .current ≡ true → takenOf w < degreeAt g (w .at .here) → (t b : ℕ) → t < g .size → getD (w .met) t 0 ≡ 0
       → b ≢ 0 → bondOf g t (b - 1) .to ≡ w .at .here → (e : BondKind) (k : AtomKind)
       → Move g w d (turn (metAt (tookOne w) (w .at) t b) (popsThen (w .at .pend) (Extend e k))) (suc d)
 
@@ -98,7 +98,7 @@ module _ (g : Graph) (w : Walk) (d : ℕ) where
   abbrev Moves : Turn → Type 0
   Moves x = (n : ℕ) × Move g w d x n
 
-  root-moves : w .at .has_current ≡ false → Moves (rootTurn g w)
+  root-moves : w .at .current ≡ false → Moves (rootTurn g w)
   unfolding rootTurn
   root-moves s =
       by-test Moves (leb (g .size) (w .at .next)) (λ q. (d, still s (leb-true _ _ q)))
@@ -106,13 +106,13 @@ module _ (g : Graph) (w : Walk) (d : ℕ) where
       (λ z. (1, root s (leb-false _ _ q) (eqb-true _ _ z) _))
       (λ z. (d, skip s (leb-false _ _ q) (eqb-false _ _ z))))
 
-  left-moves : w .at .has_current ≡ true → Moves (leaveOf g w (w .at .here))
+  left-moves : w .at .current ≡ true → Moves (leaveOf g w (w .at .here))
   unfolding leftIn
   left-moves s =
       by-test (λ (z : Walker). Moves (quiet (withWalker w z))) (eqb (getD (w .back) (w .at .here) 0) 0)
       (λ q. (0, ends s (eqb-true _ _ q))) (λ q. (d - 1, leaves s (eqb-false _ _ q)))
 
-  module _ (s : w .at .has_current ≡ true) (more : takenOf w < degreeAt g (w .at .here)) where
+  module _ (s : w .at .current ≡ true) (more : takenOf w < degreeAt g (w .at .here)) where
     given-moves : (k : BondKind) (t : ℕ) (x : Given) (pairs : List ℕ) → Moves (numberedOf (tookOne w) k (w .at .here) t x pairs)
     unfolding numberedOf
     given-moves k t Full pairs = (d, refuses s more pairs _ _ _)
@@ -137,11 +137,11 @@ module _ (g : Graph) (w : Walk) (d : ℕ) where
     entry-moves =
         by-test Moves (eqb (getD (w .back) (w .at .here) 0) (takenOf w + 1)) (λ q. (d, takes s more)) (λ q. bond-moves _)
 
-  atom-moves : w .at .has_current ≡ true → Moves (atomOf g w (w .at .here))
+  atom-moves : w .at .current ≡ true → Moves (atomOf g w (w .at .here))
   unfolding atomOf
   atom-moves s =
       by-test Moves (leb (degreeAt g (w .at .here)) (takenOf w)) (λ q. left-moves s) (λ q. entry-moves s (leb-false _ _ q))
 
   pub turn-moves : (n : ℕ) × Move g w d (turnOf g w) n
   unfolding turnOf
-  turn-moves = by-test Moves (w .at .has_current) atom-moves root-moves
+  turn-moves = by-test Moves (w .at .current) atom-moves root-moves

@@ -166,8 +166,8 @@ module _ (g : Graph) where
 
   -- how far the turns have come
   abbrev Stands : Walk → List Frame → Trail → Type 0
-  Stands w [] s = w .at .has_current ≡ false
-  Stands w (f ∷ fs) s = (w .at .has_current ≡ true) × (w .at .here ≡ f .atom) × (w .at .pend ≡ s .left)
+  Stands w [] s = w .at .current ≡ false
+  Stands w (f ∷ fs) s = (w .at .current ≡ true) × (w .at .here ≡ f .atom) × (w .at .pend ≡ s .left)
 
   record Roomy (w : Walk) : Type 0 where
     met : g .size ≤ length (w .met)
@@ -519,9 +519,9 @@ module _ (g : Graph) where
   turn-step : (w : Walk) (fs : List Frame) (s : Trail) → Shows w fs s → Step s (turnOf g w) (whole (w .at .next) fs (Goes s))
   unfolding turnOf
   turn-step w [] s h =
-      by-test (λ (x : Turn). Step s x (whole (w .at .next) [] (Goes s))) (w .at .has_current) (λ q. absurd (false≢true (sym (h .stands) ∙ q))) (λ q. root-step w s h)
+      by-test (λ (x : Turn). Step s x (whole (w .at .next) [] (Goes s))) (w .at .current) (λ q. absurd (false≢true (sym (h .stands) ∙ q))) (λ q. root-step w s h)
   turn-step w (f ∷ fs) s h =
-      by-test (λ (x : Turn). Step s x (whole (w .at .next) (f ∷ fs) (Goes s))) (w .at .has_current)
+      by-test (λ (x : Turn). Step s x (whole (w .at .next) (f ∷ fs) (Goes s))) (w .at .current)
       (λ q. subst (λ (a : ℕ). Step s (atomOf g w a) (whole (w .at .next) (f ∷ fs) (Goes s))) (sym (h .stands .1)) (atom-step w f fs s h (top w f fs (h .held))))
       (λ q. absurd (false≢true (sym q ∙ h .stands .0)))
 
@@ -532,7 +532,7 @@ module _ (g : Graph) where
   done-one w [] s h d =
       let z : g .size - w .at .next ≡ 0 = omega (arith, d .next) in
       rw z (record { said = append-nil (s .said); refusal = h .going; first = h .first; second = h .second; numbered = tt; tables = h .tables })
-  done-one w (f ∷ fs) s h d = absurd (false≢true (sym (d .has_current) ∙ h .stands .0))
+  done-one w (f ∷ fs) s h d = absurd (false≢true (sym (d .current) ∙ h .stands .0))
 
   module _ (n : ℕ)
       (ih : (w : Walk) (fs : List Frame) (s : Trail) → Shows w fs s → (walkTo g n w .at .refusal ≡ 0 → Finished g (walkTo g n w))

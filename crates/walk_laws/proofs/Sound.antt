@@ -56,8 +56,8 @@ pub record Sound (g : Graph) (w : Walk) (d : ℕ) : Type 0 where
   pub next : w .at .next ≤ g .size
   pub counted : w .at .count + unmet (g .size) (w .met) ≡ g .size
   pub tried : (a : ℕ) → a < w .at .next → getD (w .met) a 0 ≢ 0
-  pub stands : w .at .has_current ≡ true → Up g (w .met) (w .back) (w .at .here) d
-  pub rests : w .at .has_current ≡ false → (d ≡ 0) × (w .at .pend ≡ 0)
+  pub stands : w .at .current ≡ true → Up g (w .met) (w .back) (w .at .here) d
+  pub rests : w .at .current ≡ false → (d ≡ 0) × (w .at .pend ≡ 0)
 
 pub sound-start : (g : Graph) (lm lw lb lt : ℕ) (pairs : List ℕ) → Room g lm lb lt → Sound g (fresh lm lw lb lt pairs) 0
 sound-start g lm lw lb lt pairs r =

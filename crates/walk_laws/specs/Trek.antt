@@ -39,7 +39,7 @@ degrees g (suc n) = degrees g n + degreeAt g n
 
 -- The walk is done: there is no current atom, every atom was tried as a root, and every atom was met and counted.
 pub record Finished (g : Graph) (w : Walk) : Type 0 where
-  pub has_current : w .at .has_current ≡ false
+  pub current : w .at .current ≡ false
   pub next : g .size ≤ w .at .next
   pub met : (a : ℕ) → a < g .size → getD (w .met) a 0 ≢ 0
   pub count : w .at .count ≡ g .size
