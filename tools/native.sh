@@ -3,7 +3,7 @@
 # project's folder. What is made is in target/native.
 #
 # A module is what the kit's compiler makes of a crate and all that it reaches, before it makes code for a processor. The kit
-# compiles modules for x86-64 alone, and with few calls laid open; native_object compiles them for the machine that it runs on.
+# compiles modules for x86-64 alone, and inlines few calls; native_object compiles them for the machine that it runs on.
 
 native_out=$root/target/native
 
@@ -180,10 +180,10 @@ native_text() {
         sed -i -e '/^target triple/d' -e '/^target datalayout/d' -e 's/ "target-cpu"="x86-64"//' "$work/module.ll"
 }
 
-# native_object FILE: that text compiled for this machine. How large a function may be that is laid open where it is called,
-# and how much room one may take in a function that calls itself: as large as there are, so that no state goes through memory
-# from call to call. The words that ask for each page of a large frame to be touched are kept, so that a call with too little
-# stack stops at the guard page and writes nowhere else.
+# native_object FILE: that text compiled for this machine. How large a function may be that is inlined where it is called,
+# and how much stack one may take that is inlined into a function which calls itself: as much as any here needs, so that no
+# state goes through memory from call to call. The words that ask for each page of a large frame to be touched are kept, so
+# that a call with too little stack stops at the guard page and writes nowhere else.
 native_object() {
     "$own/toolchain/bin/clang" --target="$machine-unknown-linux-gnu" -Wno-override-module -mllvm -trap-unreachable \
         -mllvm -no-trap-after-noreturn -mllvm -inline-threshold=30000 -mllvm -recursive-inline-max-stacksize=100000 \

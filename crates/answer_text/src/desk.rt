@@ -1,8 +1,8 @@
 // What the desk says: a number, and what it carries. Where it refuses, the number has a name.
 ghost use Prim.Native.Nat.{_≤_};
 ghost use lib.ListN.{length};
-use desk_answer::Said;
 use desk_numbers::OVERPOP;
+use desk_numbers::Said;
 use oracle_form::byte::put;
 use oracle_form::list::put_nth;
 use oracle_form::number;

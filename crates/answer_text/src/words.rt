@@ -6,7 +6,7 @@ ghost use Prim.Native.Nat.{_≤_};
 ghost use lib.ListN.{length};
 use crate::desk::print_named;
 use crate::tables::least;
-use desk_answer::Said;
+use desk_numbers::Said;
 use oracle_form::byte::NOWHERE;
 use oracle_form::byte::put;
 use oracle_form::list::word;

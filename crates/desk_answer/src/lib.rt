@@ -4,7 +4,7 @@ ghost use mathlib.Core.Path.{_≡_};
 ghost use Rattle.read.specs.Numbers.{readTold};
 ghost use Rattle.write.specs.Numbers.{writtenTold};
 ghost use Rattle.desk_writer.specs.Pieces.{saidTold};
-ghost use Rattle.desk_answer.specs.Said.{said, saying};
+ghost use Rattle.desk_numbers.specs.Said.{said, saying};
 use desk_numbers::ATOM_ROOM;
 use desk_numbers::BAD_TABLE;
 use desk_numbers::BOND_ROOM;
@@ -23,19 +23,11 @@ use desk_numbers::OUT_ROOM;
 use desk_numbers::OVERPOP;
 use desk_numbers::RING_NUMBERS;
 use desk_numbers::RNUM;
+use desk_numbers::Said;
 use desk_numbers::TEXT_TOO_LONG;
 use desk_numbers::UNKNOWN_TARGET;
 use read::Answer;
 use write::answer::Written;
-
-// A number of the desk's and what it carries.
-pub struct Said {
-    pub no: u32,
-    // How many values are carried; those that are not are 0.
-    pub carries: u32,
-    pub first: usize,
-    pub second: usize,
-}
 
 pub fn alone(no: u32) -> Said
     ensures { λ r. ⌜ r ≡ said no 0 0 0 ⌝ }

@@ -1,4 +1,5 @@
-// The desk's numbers and their names, once for all calls. specs/Numbers.antt has the same numbers for the promises.
+// The desk's numbers and their names, once for all calls, and an answer as code holds it. specs/Numbers.antt has the same
+// numbers for the promises.
 pub const DONE: u32 = 0;
 
 pub const END_OF_LINE: u32 = 1;
@@ -38,3 +39,12 @@ pub const BAD_TABLE: u32 = 17;
 pub const NO_ATOM: u32 = 18;
 
 pub const OVERPOP: u32 = 19;
+
+// A number of the desk's and what it carries.
+pub struct Said {
+    pub no: u32,
+    // How many values are carried; those that are not are 0.
+    pub carries: u32,
+    pub first: usize,
+    pub second: usize,
+}

@@ -114,25 +114,25 @@ module _ (s : Spoken) (ps : List (List ℕ)) (h : Holds (s .out) ps s) where
       (both-told (leb (s .at .pieces) d) _ _ _ _ refl (fits-told (Pop d)))
 
 -- ---- how an event ends
-data Came (s n : Spoken) : EventTold → Type 0 where
-  full : (m : ℕ) → Came s n (eventRefusing s (AtomRoom m))
-  long : (m : ℕ) → Came s n (eventRefusing s (OutRoom m))
-  bare : Came s n (eventRefusing s NoPiece)
-  over : Came s n (eventRefusing s Overpop)
-  held : n .at .len ≤ length (s .out) → Came s n (toldWith (Held (n .at)) (n .out) (n .starts))
+data EventEnds (s n : Spoken) : EventTold → Type 0 where
+  full : (m : ℕ) → EventEnds s n (eventRefusing s (AtomRoom m))
+  long : (m : ℕ) → EventEnds s n (eventRefusing s (OutRoom m))
+  bare : EventEnds s n (eventRefusing s NoPiece)
+  over : EventEnds s n (eventRefusing s Overpop)
+  held : n .at .len ≤ length (s .out) → EventEnds s n (toldWith (Held (n .at)) (n .out) (n .starts))
 
-fit-came : (s n : Spoken) → Came s n (fitting s n)
+fit-ends : (s n : Spoken) → EventEnds s n (fitting s n)
 unfolding fitting
-fit-came s n =
-    by-test (Came s n) (ltb (length (s .out)) (n .at .len)) {x = eventRefusing s (OutRoom (n .at .len))} {y = toldWith (Held (n .at)) (n .out) (n .starts)}
+fit-ends s n =
+    by-test (EventEnds s n) (ltb (length (s .out)) (n .at .len)) {x = eventRefusing s (OutRoom (n .at .len))} {y = toldWith (Held (n .at)) (n .out) (n .starts)}
     (λ q. long (n .at .len)) (λ q. held (ltb-false (length (s .out)) (n .at .len) q))
 
-came : (s : Spoken) (e : Event) → Came s (sayT s e) (eventOf s e)
+event-ends : (s : Spoken) (e : Event) → EventEnds s (sayT s e) (eventOf s e)
 unfolding eventOf
-came s (Root k) = by-either (Came s (sayT s (Root k))) (leb (pieceRoom (s .starts)) (s .at .pieces)) (full (s .at .pieces)) (fit-came s (sayT s (Root k)))
-came s (Extend b k) = by-either (Came s (sayT s (Extend b k))) (leb (pieceRoom (s .starts)) (s .at .pieces)) (full (s .at .pieces)) (fit-came s (sayT s (Extend b k)))
-came s (Join b n) = by-either (Came s (sayT s (Join b n))) (eqb (s .at .pieces) 0) bare (fit-came s (sayT s (Join b n)))
-came s (Pop d) = by-either (Came s (sayT s (Pop d))) (leb (s .at .pieces) d) over (fit-came s (sayT s (Pop d)))
+event-ends s (Root k) = by-either (EventEnds s (sayT s (Root k))) (leb (pieceRoom (s .starts)) (s .at .pieces)) (full (s .at .pieces)) (fit-ends s (sayT s (Root k)))
+event-ends s (Extend b k) = by-either (EventEnds s (sayT s (Extend b k))) (leb (pieceRoom (s .starts)) (s .at .pieces)) (full (s .at .pieces)) (fit-ends s (sayT s (Extend b k)))
+event-ends s (Join b n) = by-either (EventEnds s (sayT s (Join b n))) (eqb (s .at .pieces) 0) bare (fit-ends s (sayT s (Join b n)))
+event-ends s (Pop d) = by-either (EventEnds s (sayT s (Pop d))) (leb (s .at .pieces) d) over (fit-ends s (sayT s (Pop d)))
 
 -- ---- the output of an event that is held
 -- a line laid over an output and zeros after it are the line laid over zeros
@@ -174,7 +174,7 @@ module _ (s : Spoken) (e : Event) (ps : List (List ℕ)) (h : Holds (s .out) ps 
       }
 
 module _ (s : Spoken) (e : Event) (h : Holds (s .out) (piecesIn s) s) where
-  on : (t : EventTold) → Came s (sayT s e) t → toldBy t ≡ eventAnswer (pieceRoom (s .starts)) (length (s .out)) e (piecesIn s) → OnPieces s e (toldLeaves (s .at) t)
+  on : (t : EventTold) → EventEnds s (sayT s e) t → toldBy t ≡ eventAnswer (pieceRoom (s .starts)) (length (s .out)) e (piecesIn s) → OnPieces s e (toldLeaves (s .at) t)
   unfolding toldLeaves wroteSaid saidTold writerWords tailOf
   on t (full m) a = record { answers = a; refused = λ z. (refl, refl, refl); accepted = λ z. absurd (omega (arith, z)) }
   on t (long m) a = record { answers = a; refused = λ z. (refl, refl, refl); accepted = λ z. absurd (omega (arith, z)) }
@@ -187,7 +187,7 @@ pub on-pieces : (s : Spoken) (e : Event) → isWriter s ≡ true → OnPieces s 
 unfolding eventD
 on-pieces s e w =
     let h = holds-pieces s w in
-    rw w (on s e h (eventOf s e) (came s e) (answers s (piecesIn s) h e))
+    rw w (on s e h (eventOf s e) (event-ends s e) (answers s (piecesIn s) h e))
 
 -- ---- the bytes after the line
 say-longer : (s : Spoken) (e : Event) → s .at .len ≤ sayT s e .at .len
@@ -262,7 +262,7 @@ module _ (s : Spoken) (e : Event) (h : Holds (s .out) (piecesIn s) s) where
             (ground-blank (eqb (s .at .pieces) 0) (s .out) (s .at .len) (λ q. b (eqb-false (s .at .pieces) 0 q)))));
       }
 
-  onward : (t : EventTold) → Came s (sayT s e) t → toldBy t .number ≡ desk.done → EventOnward s e (toldLeaves (s .at) t)
+  onward : (t : EventTold) → EventEnds s (sayT s e) t → toldBy t .number ≡ desk.done → EventOnward s e (toldLeaves (s .at) t)
   unfolding toldLeaves wroteSaid saidTold tailOf
   onward t (full m) z = absurd (omega (arith, z))
   onward t (long m) z = absurd (omega (arith, z))
@@ -275,4 +275,4 @@ module _ (s : Spoken) (e : Event) (h : Holds (s .out) (piecesIn s) s) where
 pub accepted-onward : (s : Spoken) (e : Event) → isWriter s ≡ true → eventD true s e .told .number ≡ desk.done → EventOnward s e (eventD true s e)
 unfolding eventD toldLeaves
 accepted-onward s e w =
-    rw w (λ z. onward s e (holds-pieces s w) (eventOf s e) (came s e) z)
+    rw w (λ z. onward s e (holds-pieces s w) (eventOf s e) (event-ends s e) z)

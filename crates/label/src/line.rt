@@ -238,7 +238,7 @@ fn tell(
 }
 
 // A line whose text was answered.
-fn settle(line: Line, g: Gathered, told: Told) -> Line
+fn answered(line: Line, g: Gathered, told: Told) -> Line
     ensures { λ r. ⌜ r .gathered .at ≡ told .at ⌝ }
 {
     let mut line = line;
@@ -277,7 +277,7 @@ fn answer(
     // With that much room, no answer is cut short.
     let g = make_room(out, g, room_for(line.size));
     let told = tell(line, g.at, between, text, out, atoms, bonds);
-    settle(line, g, told)
+    answered(line, g, told)
 }
 
 // The text with its places marked, below the answer.
@@ -392,7 +392,7 @@ fn spill(line: Line, text: &[u8], out: &mut [u8]) -> Line
     let g = make_room(out, g, room_for(line.size));
     let skip = order_mark(line.number, held(text, line.size, 0));
     let at = put_comment(out, g.at, alone(TEXT_TOO_LONG), held(text, line.size, skip));
-    settle(line, g, refused(at, Looks::Text, nowhere()))
+    answered(line, g, refused(at, Looks::Text, nowhere()))
 }
 
 // A run of the text is held. What finds no room only counts, but in a tray.

@@ -183,6 +183,26 @@ fn take_file(
     line
 }
 
+// Answers the lines of an input by its name.
+fn take_named(
+    name: &[u8],
+    line: Line,
+    block: &mut [u8],
+    text: &mut [u8],
+    out: &mut [u8],
+    atoms: &mut [u32],
+    bonds: &mut [u32],
+) -> Line
+    requires { ⌜ line .gathered .at ≤ length (now out) ⌝ }
+    ensures { λ r. ⌜ r .gathered .at ≤ length (now (out .exit)) ⌝ }
+{
+    let line = open(line, name, out);
+    if same(name, b"-") {
+        return take_standard(line, block, text, out, atoms, bonds);
+    }
+    take_file(name, line, block, text, out, atoms, bonds)
+}
+
 // Answers the lines of the input that an argument names, unless what was answered before cannot be written.
 fn take_argument(
     i: usize,
@@ -202,11 +222,7 @@ fn take_argument(
     }
     let mut path = io::buffer();
     let n = os::arg(i, &mut path);
-    let line = open(line, &path[..n], out);
-    if same(&path[..n], b"-") {
-        return take_standard(line, block, text, out, atoms, bonds);
-    }
-    take_file(&path[..n], line, block, text, out, atoms, bonds)
+    take_named(&path[..n], line, block, text, out, atoms, bonds)
 }
 
 // Answers the lines of all files that the arguments from a first one on name, or of the standard input if there are none.

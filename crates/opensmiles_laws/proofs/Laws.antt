@@ -29,7 +29,7 @@ use Rattle.opensmiles_laws.proofs.Deep.{deep-nests, tidy-parse, tidy-mi
 use Rattle.opensmiles_laws.proofs.Telling.{told-one}
 use Rattle.opensmiles_laws.proofs.Spoken.{Final, Spoken, wrong-spoken, ends-spoken, deep-spoken, at-spoken, more-spoken}
 use Rattle.opensmiles_laws.proofs.Trace.{stops-here, stops-later, stops-none, split}
-use Rattle.opensmiles_laws.proofs.Came.{Came, long, halts, disagrees, opens, done, came, came-said}
+use Rattle.opensmiles_laws.proofs.ReadsAs.{ReadsAs, long, halts, disagrees, opens, done, reads-as, reads-as-said}
 
 -- ---- what an event meets says which event it is
 unfoldable pub Kind : ReadEvent → Answer → Type 0
@@ -247,13 +247,13 @@ module _ (s : List ℕ) (h : Bytes s) (la lb : ℕ) where
       record { short = short; deep = d; first = f; free = free-from (d .before) (deep-spoken s h n d f) (Nest n) (q .before) i (q .free) }
   stops-when short answer.NoAtom q k = absurd k
 
-  came-when : (x : Said) → Came s la lb x → When s la lb (x .answer)
+  reads-as-when : (x : Said) → ReadsAs s la lb x → When s la lb (x .answer)
   unfolding When
-  came-when _ (long l) = (l, refl)
-  came-when _ (halts short a q) = stops-when short a q (meets-kind (placesIn la) (bondSlotsIn lb) _ _ (q .event) a (q .meets))
-  came-when _ (disagrees x y w) = w
-  came-when _ (opens j w) = w
-  came-when _ (done ns w) = (ns, w, refl, refl)
+  reads-as-when _ (long l) = (l, refl)
+  reads-as-when _ (halts short a q) = stops-when short a q (meets-kind (placesIn la) (bondSlotsIn lb) _ _ (q .event) a (q .meets))
+  reads-as-when _ (disagrees x y w) = w
+  reads-as-when _ (opens j w) = w
+  reads-as-when _ (done ns w) = (ns, w, refl, refl)
 
   -- ---- to the answer
   Last : ReadEvent → Answer → Type 0
@@ -303,18 +303,18 @@ module _ (s : List ℕ) (h : Bytes s) (la lb : ℕ) where
       by (to-deep n d f g) = more (d .before) (deep-spoken s h n d f) g
 
   halted : (a : Answer) → length s ≤ textLimit → Stops (placesIn la) (bondSlotsIn lb) begun 0 (parse s) a → readText s la lb .answer ≡ a
-  halted a short q = ap (λ (x : Said). x .answer) (came-said s la lb (readRefusing a la lb) (halts short a q))
+  halted a short q = ap (λ (x : Said). x .answer) (reads-as-said s la lb (readRefusing a la lb) (halts short a q))
 
   when-said : (a : Answer) → When s la lb a → readText s la lb .answer ≡ a
   unfolding When Last
   when-said (answer.Done n m) w =
-      ap (λ (x : Said). x .answer) (came-said s la lb (doneSaid la lb (w .0)) (done (w .0) (w .1))) ∙ ap₂ (λ (i j : ℕ). answer.Done i j) (sym (w .2)) (sym (w .3))
+      ap (λ (x : Said). x .answer) (reads-as-said s la lb (doneSaid la lb (w .0)) (done (w .0) (w .1))) ∙ ap₂ (λ (i j : ℕ). answer.Done i j) (sym (w .2)) (sym (w .3))
   when-said answer.EndOfLine w = halted answer.EndOfLine (w .short) (stops-last (w .upto) (more-spoken s h (w .upto) (w .place) (w .shallow)) (Miss missing.EndOfLine) answer.EndOfLine (end-ends (w .upto) (w .place) (w .shallow)) (λ o n. ends o n) (w .free))
   when-said (answer.Character n) w = halted (answer.Character n) (w .short) (stops-last (w .upto) (at-spoken s h n (w .upto) (w .place) (w .shallow)) (Miss (missing.Character n)) (answer.Character n) (wrong-ends n (w .upto) (w .place) (w .shallow)) (λ o i. wrong o i n) (w .free))
-  when-said (answer.Join x y) w = ap (λ (z : Said). z .answer) (came-said s la lb (readRefusing (answer.Join x y) la lb) (disagrees x y w))
-  when-said (answer.Rnum j) w = ap (λ (z : Said). z .answer) (came-said s la lb (readRefusing (answer.Rnum j) la lb) (opens j w))
+  when-said (answer.Join x y) w = ap (λ (z : Said). z .answer) (reads-as-said s la lb (readRefusing (answer.Join x y) la lb) (disagrees x y w))
+  when-said (answer.Rnum j) w = ap (λ (z : Said). z .answer) (reads-as-said s la lb (readRefusing (answer.Rnum j) la lb) (opens j w))
   when-said (answer.Inversion n) w = halted (answer.Inversion n) (w .short) (tells-stops (answer.Inversion n) (w .told) (w .tells) (w .stops))
-  when-said (answer.TextTooLong n) w = ap (λ (z : Said). z .answer) (came-said s la lb (readRefusing (answer.TextTooLong (length s)) la lb) (long (w .0))) ∙ ap (λ (i : ℕ). answer.TextTooLong i) (sym (w .1))
+  when-said (answer.TextTooLong n) w = ap (λ (z : Said). z .answer) (reads-as-said s la lb (readRefusing (answer.TextTooLong (length s)) la lb) (long (w .0))) ∙ ap (λ (i : ℕ). answer.TextTooLong i) (sym (w .1))
   when-said (answer.AtomRoom at) w = halted (answer.AtomRoom at) (w .short) (tells-stops (answer.AtomRoom at) (w .told) (w .tells) (w .stops))
   when-said (answer.BondRoom at) w = halted (answer.BondRoom at) (w .short) (tells-stops (answer.BondRoom at) (w .told) (w .tells) (w .stops))
   when-said (answer.Nesting n) w = halted (answer.Nesting n) (w .short) (stops-last (w .deep .before) (deep-spoken s h n (w .deep) (w .first)) (Nest n) (answer.Nesting n) (nest-ends n w) (λ o i. deep o i n) (w .free))
@@ -323,15 +323,15 @@ module _ (s : List ℕ) (h : Bytes s) (la lb : ℕ) where
 -- ---- THE LAWS
 -- each answer is given exactly when it should be
 pub answered-exactly : AnsweredExactly
-answered-exactly s h la lb a = (λ e. subst (When s la lb) e (came-when s h la lb (readText s la lb) (came s h la lb)), when-said s h la lb a)
+answered-exactly s h la lb a = (λ e. subst (When s la lb) e (reads-as-when s h la lb (readText s la lb) (reads-as s h la lb)), when-said s h la lb a)
 
 -- with these tables
 pub done-tables : (s : List ℕ) (la lb : ℕ) (ns : List Node) → DoneAs s la lb ns → readText s la lb ≡ doneSaid la lb ns
-done-tables s la lb ns w = came-said s la lb (doneSaid la lb ns) (done ns w)
+done-tables s la lb ns w = reads-as-said s la lb (doneSaid la lb ns) (done ns w)
 
 module _ (s : List ℕ) (h : Bytes s) (la lb : ℕ) where
   -- what is not done leaves zeros
-  zeros : (x : Said) → Came s la lb x → ((n m : ℕ) → ¬ (x .answer ≡ answer.Done n m)) → x ≡ readRefusing (x .answer) la lb
+  zeros : (x : Said) → ReadsAs s la lb x → ((n m : ℕ) → ¬ (x .answer ≡ answer.Done n m)) → x ≡ readRefusing (x .answer) la lb
   zeros _ (long l) f = refl
   zeros _ (halts short b q) f = refl
   zeros _ (disagrees x y w) f = refl
@@ -341,17 +341,17 @@ module _ (s : List ℕ) (h : Bytes s) (la lb : ℕ) where
   not-done : (a : Answer) → ((n m : ℕ) → ¬ (a ≡ answer.Done n m)) → When s la lb a → readText s la lb ≡ readRefusing a la lb
   not-done a f w =
       let e : readText s la lb .answer ≡ a = answered-exactly s h la lb a .1 w in
-      zeros (readText s la lb) (came s h la lb) (λ n m g. f n m (sym e ∙ g)) ∙ ap (λ (c : Answer). readRefusing c la lb) e
+      zeros (readText s la lb) (reads-as s h la lb) (λ n m g. f n m (sym e ∙ g)) ∙ ap (λ (c : Answer). readRefusing c la lb) e
 
   stops-undone : (b : Answer) (n m : ℕ) → b ≡ answer.Done n m → ¬ Stops (placesIn la) (bondSlotsIn lb) begun 0 (parse s) b
   unfolding Kind
   stops-undone b n m e q = subst (Kind (q .event)) e (meets-kind (placesIn la) (bondSlotsIn lb) _ _ (q .event) b (q .meets))
 
-  as-said : (x : Said) → Came s la lb x → SaidAs s la lb x
-  as-said _ (long l) = said-not (answer.TextTooLong (length s)) (λ n m g. impossible cc) (came-when s h la lb _ (long l))
-  as-said _ (halts short b q) = said-not b (λ n m g. stops-undone b n m g q) (came-when s h la lb _ (halts short b q))
-  as-said _ (disagrees x y w) = said-not (answer.Join x y) (λ n m g. impossible cc) (came-when s h la lb _ (disagrees x y w))
-  as-said _ (opens j w) = said-not (answer.Rnum j) (λ n m g. impossible cc) (came-when s h la lb _ (opens j w))
+  as-said : (x : Said) → ReadsAs s la lb x → SaidAs s la lb x
+  as-said _ (long l) = said-not (answer.TextTooLong (length s)) (λ n m g. impossible cc) (reads-as-when s h la lb _ (long l))
+  as-said _ (halts short b q) = said-not b (λ n m g. stops-undone b n m g q) (reads-as-when s h la lb _ (halts short b q))
+  as-said _ (disagrees x y w) = said-not (answer.Join x y) (λ n m g. impossible cc) (reads-as-when s h la lb _ (disagrees x y w))
+  as-said _ (opens j w) = said-not (answer.Rnum j) (λ n m g. impossible cc) (reads-as-when s h la lb _ (opens j w))
   as-said _ (done ns w) = said-done ns w
 
   said-by : (x : Said) → SaidAs s la lb x → readText s la lb ≡ x
@@ -359,7 +359,7 @@ module _ (s : List ℕ) (h : Bytes s) (la lb : ℕ) where
   said-by _ (said-not a f w) = not-done a f w
 
 pub said-exactly : SaidExactly
-said-exactly s h la lb x = (λ e. subst (SaidAs s la lb) e (as-said s h la lb (readText s la lb) (came s h la lb)), said-by s h la lb x)
+said-exactly s h la lb x = (λ e. subst (SaidAs s la lb) e (as-said s h la lb (readText s la lb) (reads-as s h la lb)), said-by s h la lb x)
 
 -- a text has one answer
 pub when-one : (s : List ℕ) → Bytes s → (la lb : ℕ) (a b : Answer) → When s la lb a → When s la lb b → a ≡ b

@@ -6,7 +6,7 @@ pub mod Steps
 pub mod Trace
 pub mod Room
 pub mod Deep
-pub mod Came
+pub mod ReadsAs
 pub mod Telling
 pub mod Spoken
 pub mod Laws

@@ -39,7 +39,7 @@ use Rattle.opensmiles_laws.proofs.Trace.{Ran, stopped, ran, broke, text
 use Rattle.opensmiles_laws.proofs.Telling.{told-one}
 use Rattle.opensmiles_laws.proofs.Spoken.{Final, deep-spoken}
 use Rattle.opensmiles_laws.proofs.Parens.{told-first}
-use Rattle.opensmiles_laws.proofs.Came.{done-by, halts-by, long-line, clash-some, runs-clean}
+use Rattle.opensmiles_laws.proofs.ReadsAs.{done-by, halts-by, long-line, clash-some, runs-clean}
 use Rattle.opensmiles_laws.proofs.Laws.{snoc-init, stops-more, stops-last-or, nest-met, first-deep, clean-final, answered-exactly, done-tables}
 
 -- ---- atoms with the same neighbours are as many, and so are their entries

@@ -8,7 +8,7 @@ use Rattle.feature.specs.Text.{bytes}
 use Rattle.read.specs.declared.Answer.the-variants as answer
 use Rattle.read.specs.Read.{Said}
 use Rattle.read.specs.Line.{readRefusing, readText}
-use Rattle.opensmiles_laws.proofs.Came.{long, came-said}
+use Rattle.opensmiles_laws.proofs.ReadsAs.{long, reads-as-said}
 
 -- a text so many times
 unfoldable pub times : ℕ → List ℕ → List ℕ
@@ -27,5 +27,5 @@ manyDigits = times 1000 (bytes "[000C:000]")
 pub many-digits : (la lb : ℕ) → readText manyDigits la lb .answer ≡ answer.TextTooLong 10000
 many-digits la lb =
     let n : length manyDigits ≡ 10000 = length-times 1000 (bytes "[000C:000]") refl in
-    ap (λ (x : Said). x .answer) (came-said manyDigits la lb (readRefusing (answer.TextTooLong (length manyDigits)) la lb) (long (omega (arith, n))))
+    ap (λ (x : Said). x .answer) (reads-as-said manyDigits la lb (readRefusing (answer.TextTooLong (length manyDigits)) la lb) (long (omega (arith, n))))
     ∙ ap (λ (i : ℕ). answer.TextTooLong i) n

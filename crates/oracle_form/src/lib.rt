@@ -15,7 +15,6 @@
 // bond: a bond's kind.
 // event: an event of a builder or a writer.
 // kind: an atom's kind. symbol and field: the fields of a bracket atom.
-// operation: what a request asks.
 pub mod bond;
 pub mod byte;
 pub mod event;
@@ -23,6 +22,5 @@ mod field;
 pub mod kind;
 pub mod list;
 pub mod number;
-pub mod operation;
 mod symbol;
 pub mod text;

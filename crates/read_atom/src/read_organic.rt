@@ -6,6 +6,7 @@ use feature::atom_kind::ALIPHATICS;
 use feature::atom_kind::AROMATICS;
 use feature::atom_kind::AtomKind;
 use read_token::scanner::Found;
+use read_token::scanner::NO_BYTE;
 use read_token::scanner::missing_character;
 use read_token::scanner::peek;
 
@@ -87,7 +88,7 @@ pub fn read_organic(s: &[u8], at: usize) -> Found
     ensures { λ r. ⌜ r ≡ organicAt (now (s .entry)) at ⌝ }
 {
     let b = peek(s, at);
-    if b == 256 {
+    if b == NO_BYTE {
         return Found::Nothing;
     }
     if b == b'C' as u32 {

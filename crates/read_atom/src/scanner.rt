@@ -36,7 +36,7 @@ impl<'a> Scanner<'a> {
         past(self.text, self.cursor)
     }
 
-    // The byte at its place, or 256 past the end.
+    // The byte at its place, or NO_BYTE past the end.
     pub fn peek(self) -> u32
         ensures { λ r. ⌜ Peeked (now (self .entry .text)) (self .entry .cursor) r ⌝ }
     {

@@ -9,6 +9,7 @@ use feature::atom_kind::BracketAtom;
 use feature::atom_kind::NO_HYDROGENS;
 use feature::atom_kind::NO_NUMBER;
 use read_token::scanner::Found;
+use read_token::scanner::NO_DIGIT;
 use read_token::scanner::Part;
 use read_token::scanner::Step;
 use read_token::scanner::digit;
@@ -37,7 +38,7 @@ fn hydrogens(s: &[u8], at: usize) -> Part
     let b = peek(s, at);
     if b == b'H' as u32 {
         let d = digit(s, at + 1);
-        if d < 10 {
+        if d < NO_DIGIT {
             return Part {
                 value: d,
                 next: at + 2,

@@ -4,6 +4,7 @@ ghost use Prim.Native.Nat.{_+_, _<_};
 ghost use Rattle.read_token.specs.Scan.{Sized, fifteenAt, signedAt, chargeAt};
 use feature::atom_kind::NEUTRAL;
 use feature::atom_kind::NO_CHARGE;
+use read_token::scanner::NO_DIGIT;
 use read_token::scanner::Part;
 use read_token::scanner::digit;
 use read_token::scanner::peek;
@@ -16,7 +17,7 @@ fn fifteen(s: &[u8], at: usize) -> Part
     if d == 0 {
         return Part { value: 0, next: at };
     }
-    if d == 10 {
+    if d == NO_DIGIT {
         return Part { value: 0, next: at };
     }
     if 1 < d {

@@ -9,6 +9,7 @@ use feature::atom_kind::SP;
 use feature::atom_kind::TB;
 use feature::atom_kind::TH1;
 use feature::atom_kind::TH2;
+use read_token::scanner::NO_DIGIT;
 use read_token::scanner::Step;
 use read_token::scanner::digit;
 use read_token::scanner::peek;
@@ -49,11 +50,11 @@ fn long(s: &[u8], at: usize, base: u32, top: u32) -> Step
     if d == 0 {
         return Step::Stop(late(s, at));
     }
-    if d == 10 {
+    if d == NO_DIGIT {
         return Step::Stop(late(s, at));
     }
     let e = digit(s, at + 1);
-    if e == 10 {
+    if e == NO_DIGIT {
         return Step::Got(base + d, at + 1);
     }
     if top < d * 10 + e {

@@ -5,6 +5,7 @@ ghost use Rattle.feature.specs.Text.{twoLetters};
 ghost use Rattle.feature.specs.Names.{names, placeOf};
 ghost use Rattle.read_token.specs.Scan.{slip, symbolAt};
 use feature::element;
+use read_token::scanner::NO_BYTE;
 use read_token::scanner::Step;
 use read_token::scanner::peek;
 
@@ -35,7 +36,7 @@ pub fn read_symbol(s: &[u8], at: usize) -> Step
     ensures { λ r. ⌜ r ≡ symbolAt (now (s .entry)) at ⌝ }
 {
     let b = peek(s, at);
-    if b == 256 {
+    if b == NO_BYTE {
         return Step::Stop(at);
     }
     let d = peek(s, at + 1);

@@ -2,6 +2,7 @@
 ghost use mathlib.Core.Path.{_≡_};
 ghost use Prim.Native.Nat.{_≤_};
 ghost use Rattle.read_token.specs.Scan.{signKind, markWidth, bondAt};
+use crate::scanner::NO_BYTE;
 use crate::scanner::peek;
 use feature::bond_kind::BondKind;
 
@@ -58,7 +59,7 @@ pub fn read_bond(s: &[u8], at: usize) -> Bond
     ensures { λ r. ⌜ r ≡ bondAt (now (s .entry)) at ⌝ }
 {
     let b = peek(s, at);
-    if b == 256 {
+    if b == NO_BYTE {
         return Bond {
             kind: BondKind::Elided,
             next: at,

@@ -35,23 +35,28 @@ fn wide(x: u8) -> u32
     x as u32
 }
 
-// The byte at a place, or 256 past the end.
+// No byte: what is past the end of a text.
+pub const NO_BYTE: u32 = 256;
+// No digit.
+pub const NO_DIGIT: u32 = 10;
+
+// The byte at a place, or NO_BYTE past the end.
 pub fn peek(s: &[u8], at: usize) -> u32
     ensures { λ r. ⌜ Peeked (now (s .entry)) at r ⌝ }
 {
-    if at < s.len() { wide(s[at]) } else { 256 }
+    if at < s.len() { wide(s[at]) } else { NO_BYTE }
 }
 
-// The digit at a place, or 10.
+// The digit at a place, or NO_DIGIT.
 pub fn digit(s: &[u8], at: usize) -> u32
     ensures { λ r. ⌜ DigitRead (now (s .entry)) at r ⌝ }
 {
     let b = peek(s, at);
     if b < b'0' as u32 {
-        return 10;
+        return NO_DIGIT;
     }
     if (b'9' as u32) < b {
-        return 10;
+        return NO_DIGIT;
     }
     b - b'0' as u32
 }
@@ -63,7 +68,7 @@ fn more(s: &[u8], p: Part) -> Part
 {
     let next = p.next;
     let d = digit(s, next);
-    if d < 10 {
+    if d < NO_DIGIT {
         return Part {
             value: p.value * 10 + d,
             next: next + 1,

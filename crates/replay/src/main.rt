@@ -1,16 +1,39 @@
 // Replays lists of answers. Each argument names a list that the oracle made: for each of its lines our own answer to the
 // request is computed and compared, byte for byte, with the one that is listed. oracle/README.md describes the lists.
 //
-// slices: bytes moved within a slice.
-// tally: what came of the lines so far.
-// answer: our answer to a request, which replay_read or replay_write has.
-// line: a list's line judged.
 // list: a list read block by block.
+// line: a list's line judged.
+// tally: what came of the lines so far.
+// answer: our answer to a request, by its operation.
+// operation: what a request asks.
+// texts, kinds, bonds, rings: requests about features.
+// reads, events: about reading a line, and about a builder.
+// writes, orders, pieces, pairs, reasons: about writing a graph, the walk order, a writer, the pool, and refusals in words.
+// tables, words: a graph, or plain words, parsed into tables.
+// blank: whether lent room holds zeros only.
+// say: the words of answers.
+// slices: bytes moved within a slice.
 mod answer;
+mod blank;
+mod bonds;
+mod events;
+mod kinds;
 mod line;
 mod list;
+mod operation;
+mod orders;
+mod pairs;
+mod pieces;
+mod reads;
+mod reasons;
+mod rings;
+mod say;
 mod slices;
+mod tables;
 mod tally;
+mod texts;
+mod words;
+mod writes;
 
 // Replays the list that an argument names, or says why it cannot.
 fn replay_argument(i: usize) {
