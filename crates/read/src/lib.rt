@@ -57,14 +57,14 @@ pub enum Answer {
 }
 
 // After a whole line no byte is left.
-fn end_line(text: &[u8], came: Reached) -> Builder
-    ensures { λ r. ⌜ r ≡ endedSt (now (text .entry)) came ⌝ }
+fn end_line(text: &[u8], reached: Reached) -> Builder
+    ensures { λ r. ⌜ r ≡ endedSt (now (text .entry)) reached ⌝ }
 {
-    let builder = came.builder;
+    let builder = reached.builder;
     if builder.refusal != 0 {
         return builder;
     }
-    let at = came.at;
+    let at = reached.at;
     if is_done(text, at) {
         return builder;
     }
@@ -122,7 +122,7 @@ fn read_within(
         (now (rings .entry)) ⌝ }
 {
     let start = Builder::start(atom_room(atoms), bond_room(bonds));
-    let came = read_line(
+    let reached = read_line(
         text,
         0,
         Lead::Dot,
@@ -133,7 +133,7 @@ fn read_within(
         rings,
         start,
     );
-    let builder = end_line(text, came);
+    let builder = end_line(text, reached);
     if builder.refusal != 0 {
         clear(atoms);
         return refusal(builder);

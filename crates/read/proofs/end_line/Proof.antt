@@ -15,13 +15,13 @@ use borrow.Author.Needs.{needs}
 use Rattle.read.proofs.end_line.Statement.{statement}
 use Rattle.read.proofs.end_line.Tie as tie
 
-none-left : (s : List ℕ) (came : Reached) (r : Bool) → came .builder .refusal ≡ 0 → r ≡ leb (length s) (came .at) → r ≡ true → came .builder ≡ endedSt s came
+none-left : (s : List ℕ) (reached : Reached) (r : Bool) → reached .builder .refusal ≡ 0 → r ≡ leb (length s) (reached .at) → r ≡ true → reached .builder ≡ endedSt s reached
 unfolding endedSt
-none-left s came r e f g = simp (eq-eqb (came .builder .refusal) 0 e, le-ltb (came .at) (length s) (leb-true (length s) (came .at) (sym f ∙ g)))
+none-left s reached r e f g = simp (eq-eqb (reached .builder .refusal) 0 e, le-ltb (reached .at) (length s) (leb-true (length s) (reached .at) (sym f ∙ g)))
 
-some-left : (s : List ℕ) (came : Reached) (r : Bool) (b : Builder) → came .builder .refusal ≡ 0 → r ≡ leb (length s) (came .at) → r ≡ false → b ≡ refusedSt (came .builder) character (came .at) → b ≡ endedSt s came
+some-left : (s : List ℕ) (reached : Reached) (r : Bool) (b : Builder) → reached .builder .refusal ≡ 0 → r ≡ leb (length s) (reached .at) → r ≡ false → b ≡ refusedSt (reached .builder) character (reached .at) → b ≡ endedSt s reached
 unfolding endedSt
-some-left s came r b e f g h = simp (eq-eqb (came .builder .refusal) 0 e, lt-ltb (came .at) (length s) (leb-false (length s) (came .at) (sym f ∙ g)), h)
+some-left s reached r b e f g h = simp (eq-eqb (reached .builder .refusal) 0 e, lt-ltb (reached .at) (length s) (leb-false (length s) (reached .at) (sym f ∙ g)), h)
 
 -- src/lib.rt:43:9
 returns : tie.Need-returns
