@@ -5,6 +5,7 @@ ghost use lib.ListN.{length};
 use crate::reads::print_answer;
 use crate::say;
 use crate::say::say;
+use crate::sizes::UNREADABLE;
 use answer_text::desk::print_said;
 use builder::build::build;
 use builder::builder::Builder;
@@ -30,8 +31,6 @@ use table::limits::RING_NUMBER_COUNT;
 
 // What no count of a builder exceeds.
 const ENOUGH: usize = 1_000_000;
-// A request that cannot be read. No refusal of the desk has this number.
-const UNREADABLE: u32 = 99;
 
 // The builder after an event.
 fn take(

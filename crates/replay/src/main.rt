@@ -12,6 +12,7 @@
 // tables, words: a graph, or plain words, parsed into tables.
 // blank: whether lent room holds zeros only.
 // say: the words of answers.
+// sizes: sizes and numbers that several of them share.
 // slices: bytes moved within a slice.
 mod answer;
 mod blank;
@@ -28,6 +29,7 @@ mod reads;
 mod reasons;
 mod rings;
 mod say;
+mod sizes;
 mod slices;
 mod tables;
 mod tally;

@@ -4,9 +4,10 @@ ghost use lib.ListN.{length};
 use crate::blank::is_blank_from;
 use crate::say;
 use crate::say::say;
+use crate::sizes::ATOM_TABLE;
+use crate::sizes::BOND_TABLE;
+use crate::sizes::OTHER;
 use crate::tables;
-use crate::tables::ATOM_TABLE;
-use crate::tables::BOND_TABLE;
 use answer_text::desk::print_said;
 use answer_text::order::print_order;
 use desk_answer::of_written;
@@ -15,9 +16,6 @@ use desk_numbers::Said;
 use oracle_form::byte::put;
 use table::limits::ATOMS;
 use write::order::order;
-
-// What the tables hold before a walk.
-const OTHER: u32 = 7;
 
 // How many numbers a walk leaves in each table.
 fn left_by(s: Said) -> usize {

@@ -4,6 +4,7 @@ ghost use Prim.Native.Nat.{_≤_};
 ghost use lib.ListN.{length};
 use crate::say;
 use crate::say::say;
+use crate::sizes::HIGHEST_WORD;
 use join_pool::Given;
 use join_pool::PAIRS;
 use join_pool::Pool;
@@ -13,9 +14,6 @@ use oracle_form::byte::pass;
 use oracle_form::byte::pass_or_end;
 use oracle_form::byte::put;
 use oracle_form::number;
-
-// The highest word.
-const HIGHEST: usize = 4294967295;
 
 // A pair and the place after it and its `,`.
 struct Pair {
@@ -35,10 +33,10 @@ fn missing() -> Pair {
 fn parse_pair(s: &[u8], at: usize) -> Pair {
     let left = number::parse(s, at);
     let right = number::parse(s, pass(s, left.next, b'-'));
-    if HIGHEST < left.value {
+    if HIGHEST_WORD < left.value {
         return missing();
     }
-    if HIGHEST < right.value {
+    if HIGHEST_WORD < right.value {
         return missing();
     }
     Pair {

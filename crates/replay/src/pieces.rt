@@ -5,6 +5,9 @@ ghost use lib.ListN.{length};
 use crate::operation;
 use crate::say;
 use crate::say::say;
+use crate::sizes::HIGHEST_RING;
+use crate::sizes::LONGEST_LINE;
+use crate::sizes::UNREADABLE;
 use answer_text::desk::print_said;
 use desk_answer::alone;
 use desk_answer::of_writer;
@@ -19,17 +22,10 @@ use oracle_form::event::Event;
 use oracle_form::number;
 use oracle_form::text;
 use table::limits::ATOMS;
-use table::limits::BONDS;
 use writer::Writer;
 
-// Room for the longest line of the largest graph, and one piece more than a writer may hold.
-const LINE: usize = 24 * ATOMS + 4 * BONDS;
-
+// One piece more than a writer may hold.
 const PIECES: usize = ATOMS + 1;
-// The highest ring number.
-const HIGHEST: usize = 99;
-// A request that cannot be read. No refusal of the desk has this number.
-const UNREADABLE: u32 = 99;
 
 // The writer after an event, and what the event was answered with.
 struct Told {
@@ -63,7 +59,7 @@ fn take(line: &mut [u8], starts: &mut [u32], w: Writer, e: Event) -> Told {
         event::ROOT => tell(w, desk_writer::root(line, starts, w, k)),
         event::EXTEND => tell(w, desk_writer::extend(line, starts, w, b, k)),
         event::JOIN => {
-            if HIGHEST < e.number {
+            if HIGHEST_RING < e.number {
                 return unreadable(w);
             }
             tell(w, desk_writer::join(line, starts, w, b, e.number as u32))
@@ -146,12 +142,12 @@ fn answer_in(out: &mut [u8], s: &[u8], at: usize, line: &mut [u8], starts: &mut 
 fn answer_from(s: &[u8], at: usize, bytes: usize, pieces: usize, out: &mut [u8]) -> usize
     ensures { λ r. ⌜ r ≤ length (now (out .exit)) ⌝ }
 {
-    let mut line = [0u8; LINE];
+    let mut line = [0u8; LONGEST_LINE];
     let mut starts = [0u32; PIECES];
     if s.len() < at {
         return 0;
     }
-    if LINE < bytes {
+    if LONGEST_LINE < bytes {
         return 0;
     }
     if PIECES < pieces {
@@ -175,5 +171,5 @@ pub fn answer(operation: usize, arguments: &[u8], out: &mut [u8]) -> usize
     if operation == operation::WRITER_IN {
         return answer_within(arguments, out);
     }
-    answer_from(arguments, 0, LINE, PIECES, out)
+    answer_from(arguments, 0, LONGEST_LINE, PIECES, out)
 }

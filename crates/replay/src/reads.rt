@@ -5,6 +5,9 @@ use crate::blank::is_blank_from;
 use crate::operation;
 use crate::say;
 use crate::say::say;
+use crate::sizes::ATOM_TABLE;
+use crate::sizes::BOND_TABLE;
+use crate::sizes::OTHER;
 use answer_text::desk::print_said;
 use answer_text::tables::least;
 use answer_text::tables::print_graph;
@@ -20,13 +23,6 @@ use table::ATOM_WORDS;
 use table::BOND_WORDS;
 use table::limits::ATOMS;
 use table::limits::BONDS;
-
-// Tables of the largest size, and one record more.
-const ATOM_TABLE: usize = (ATOMS + 1) * ATOM_WORDS;
-
-const BOND_TABLE: usize = (BONDS + 1) * BOND_WORDS;
-// What the tables hold before a reading.
-const OTHER: u32 = 7;
 
 // An answer by its number and what it carries; a graph follows the counts of 0.
 pub fn print_answer(out: &mut [u8], a: Answer, atoms: &[u32], bonds: &[u32]) -> usize

@@ -1,8 +1,9 @@
 // Requests about why a line is refused: `why TEXT`, answered by the place that the refusal has, or `-`, and its words.
 ghost use Prim.Native.Nat.{_≤_};
 ghost use lib.ListN.{length};
-use crate::tables::ATOM_TABLE;
-use crate::tables::BOND_TABLE;
+use crate::sizes::ATOM_TABLE;
+use crate::sizes::BOND_TABLE;
+use crate::sizes::LONGEST_LINE;
 use answer_text::words::place_of;
 use answer_text::words::print_words;
 use desk_answer::of_read;
@@ -14,12 +15,7 @@ use oracle_form::byte::put;
 use oracle_form::number;
 use oracle_form::text;
 use read::read;
-use table::limits::ATOMS;
-use table::limits::BONDS;
 use write::write;
-
-// Room for the longest line.
-const LINE: usize = 24 * ATOMS + 4 * BONDS;
 
 // What is said of a text that is read and written.
 fn said_of(line: &[u8]) -> Said {
@@ -29,7 +25,7 @@ fn said_of(line: &[u8]) -> Said {
     if s.no != DONE {
         return s;
     }
-    let mut out = [0u8; LINE];
+    let mut out = [0u8; LONGEST_LINE];
     of_written(write(&atoms, s.first, &bonds, s.second, &mut out))
 }
 

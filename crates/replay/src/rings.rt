@@ -1,11 +1,11 @@
 // Requests about a ring number: `spellrnum`.
 ghost use Prim.Native.Nat.{_≤_};
 ghost use lib.ListN.{length};
+use crate::sizes::HIGHEST_RING;
 use oracle_form::number;
 use oracle_form::text;
 use spell::spell_rnum;
 
-const HIGHEST: usize = 99;
 // No ring number's text is longer.
 const LONGEST: usize = 3;
 
@@ -24,7 +24,7 @@ pub fn answer(arguments: &[u8], out: &mut [u8]) -> usize
     if n.next != arguments.len() {
         return 0;
     }
-    if HIGHEST < n.value {
+    if HIGHEST_RING < n.value {
         return 0;
     }
     print_spelling(out, n.value as u32)

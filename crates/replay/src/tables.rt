@@ -1,6 +1,7 @@
 // A graph parsed into tables: atoms separated by `;`, each its kind and then its bonds, each after a blank, a bond being
 // its kind and the number of its target. The empty text is the empty graph. A `?` is a record of zeros, which stands for
 // no atom and no bond.
+use crate::sizes::HIGHEST_WORD;
 use oracle_form::bond;
 use oracle_form::byte::NOWHERE;
 use oracle_form::byte::after;
@@ -17,14 +18,7 @@ use table::limits::ATOMS;
 use table::limits::BONDS;
 use table::poke;
 
-// Tables of the largest size, and one record more.
-pub const ATOM_TABLE: usize = (ATOMS + 1) * ATOM_WORDS;
-
-pub const BOND_TABLE: usize = (BONDS + 1) * BOND_WORDS;
-
 const UNKNOWN: u8 = b'?';
-// The highest word.
-const HIGHEST: usize = 4294967295;
 
 // How many atoms and bond entries were parsed, and the place after them.
 pub struct Parsed {
@@ -54,7 +48,7 @@ fn parse_bond(s: &[u8], at: usize, bonds: &mut [u32], word: usize) -> usize {
     let parsed = bond::parse(s, at);
     let k = parsed.kind;
     let target = number::parse(s, parsed.next);
-    if HIGHEST < target.value {
+    if HIGHEST_WORD < target.value {
         return NOWHERE;
     }
     store_bond(bonds, word, k, target.value as u32);
@@ -83,7 +77,7 @@ fn parse_bonds(s: &[u8], bonds: &mut [u32], p: Parsed) -> Parsed {
 
 // How many bond entries an atom has, at the word that holds it.
 fn put_degree(atoms: &mut [u32], word: usize, degree: usize) {
-    if degree <= HIGHEST {
+    if degree <= HIGHEST_WORD {
         poke(atoms, word, degree as u32);
     }
 }

@@ -1,12 +1,10 @@
 // Plain words parsed into a table: numbers, each with a `,` after it.
+use crate::sizes::HIGHEST_WORD;
 use oracle_form::byte::NOWHERE;
 use oracle_form::byte::pass;
 use oracle_form::byte::peek;
 use oracle_form::number;
 use table::poke;
-
-// The highest word.
-const HIGHEST: usize = 4294967295;
 
 // How many words were parsed, and the place after them.
 pub struct Parsed {
@@ -30,7 +28,7 @@ pub fn parse(s: &[u8], at: usize, table: &mut [u32]) -> Parsed {
             return Parsed { words, next };
         }
         let n = number::parse(s, next);
-        if HIGHEST < n.value {
+        if HIGHEST_WORD < n.value {
             return Parsed {
                 words,
                 next: NOWHERE,

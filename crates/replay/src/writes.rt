@@ -7,9 +7,10 @@ use crate::blank::are_blank_from;
 use crate::operation;
 use crate::say;
 use crate::say::say;
+use crate::sizes::ATOM_TABLE;
+use crate::sizes::BOND_TABLE;
+use crate::sizes::LONGEST_LINE;
 use crate::tables;
-use crate::tables::ATOM_TABLE;
-use crate::tables::BOND_TABLE;
 use crate::words;
 use answer_text::desk::print_said;
 use desk_answer::of_read;
@@ -21,14 +22,10 @@ use oracle_form::byte::put;
 use oracle_form::number;
 use oracle_form::text;
 use read::read;
-use table::limits::ATOMS;
-use table::limits::BONDS;
 use write::write;
 
-// The longest line of the largest graph: 24 bytes an atom and 4 a bond entry.
-const LONGEST: usize = 24 * ATOMS + 4 * BONDS;
-// An output with more room than that.
-const LINE: usize = LONGEST + 8;
+// An output with more room than the longest line needs.
+const LINE: usize = LONGEST_LINE + 8;
 // What an output holds before a writing.
 const OTHER: u8 = 7;
 
