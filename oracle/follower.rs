@@ -7,6 +7,7 @@ use std::process::exit;
 mod feature;
 mod graph;
 mod read;
+mod simple;
 mod walk;
 mod write;
 
@@ -70,13 +71,15 @@ fn ours_reads(line: &str) -> Option<Vec<String>> {
     Some(notes.0)
 }
 
-/// The events of a walk over what is read, or none where the line or the graph is refused; purr refuses some by a panic.
+/// The events of a walk over what is read, or none where the line or the graph is refused; purr refuses some by a panic, and
+/// does not refuse all that is not simple (docs/DIFFERENCES.md).
 fn purr_walks(line: &str) -> Option<Vec<String>> {
     catch_unwind(AssertUnwindSafe(|| {
         let mut builder = graph::Builder::new();
         read::read(line, &mut builder, None).ok()?;
+        let graph = builder.build().ok().filter(|graph| simple::is_simple(graph))?;
         let mut notes = Notes::default();
-        walk::walk(builder.build().ok()?, &mut notes).ok()?;
+        walk::walk(graph, &mut notes).ok()?;
         Some(notes.0)
     }))
     .unwrap_or_default()

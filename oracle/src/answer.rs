@@ -231,9 +231,13 @@ fn order(graph: Vec<Atom>) -> String {
     let size = graph.len();
 
     match order_of(graph) {
-        Ok(order) => format!("0 {} {}", size, order.text()),
+        Ok(order) => order_answer(size, order),
         Err(refusal) => refusal,
     }
+}
+
+pub fn order_answer(size: usize, order: Order) -> String {
+    format!("0 {} {}", size, order.text())
 }
 
 /// The order of purr's walk over the graph, or its refusal as an answer.

@@ -11,7 +11,8 @@ use crate::graph::{Atom, Builder};
 use crate::model::{self, meant_rnum, Pool};
 use crate::order::Order;
 use crate::read;
-use crate::walk::Follower;
+use crate::simple::is_simple;
+use crate::walk::{walk, Follower};
 
 /// What is meant instead of purr's answer `rust`, if anything.
 pub fn meant(request: &str, rust: &str) -> Option<String> {
@@ -29,9 +30,9 @@ pub fn meant(request: &str, rust: &str) -> Option<String> {
             read(&text, &plain).map(|ours| answer::in_characters(&text, ours))
         }
         "rewrite" => rewrite(&form::parse_text(arguments)?, rust),
-        "write" => written(&form::parse_graph(arguments)?, rust),
+        "write" => Some(written(&form::parse_graph(arguments)?, rust)),
         "writein" => written_in(arguments, rust),
-        "order" => order(&form::parse_graph(arguments)?, rust),
+        "order" => Some(ordered(&form::parse_graph(arguments)?, rust)),
         "builder" => builder(arguments),
         "writer" => writer(arguments),
         "pool" => Some(pool(&form::parse_pairs(arguments)?)),
@@ -173,43 +174,64 @@ impl Follower for Counted<'_> {
 fn rewrite(text: &str, rust: &str) -> Option<String> {
     match graph_of(text)? {
         Ok(graph) if is_special(text) => Some(model::written(&graph)),
-        Ok(graph) => written(&graph, rust),
+        Ok(graph) => Some(written(&graph, rust)),
         Err(refusal) if refusal.starts_with("panic") => read(text, &refusal),
         Err(refusal) => Some(refusal),
     }
 }
 
-// What is meant for a graph that purr writes as `rust`: where it panics the
-// walk is refused, by 10 or by 11. Wherever purr's answer is kept, the walk that
-// is meant has to come to the same.
-fn written(graph: &[Atom], rust: &str) -> Option<String> {
-    let ours = model::written(graph);
-
-    if rust.starts_with("panic") || hides_73(rust) {
-        return Some(ours);
-    }
-
-    assert_eq!(ours, rust, "the model walks as purr does");
-    None
+// What is meant for a graph that purr writes as `rust`.
+fn written(graph: &[Atom], rust: &str) -> String {
+    walked(graph, rust, model::written(graph))
 }
 
 // The same for the order of a walk.
-fn order(graph: &[Atom], rust: &str) -> Option<String> {
-    if !rust.starts_with("panic") {
-        return None;
+fn ordered(graph: &[Atom], rust: &str) -> String {
+    walked(graph, rust, model::ordered(graph))
+}
+
+// Rule 5, rings with one end. purr compares the two ends of a bond only where it
+// leads to a new atom. Meant is that they are compared where it leads to an atom met
+// before as well, before a ring number is asked for: the walk is refused at the first
+// ring bond of purr's own walk whose ends do not agree, and nowhere else. Where purr
+// comes to the end of a graph, that is so exactly if the graph is not simple.
+//
+// Elsewhere a walk is refused where purr panics, by 10 or by 11, and where purr's
+// answer is kept, `ours`, the answer of the walk that is meant, has to be the same.
+fn walked(graph: &[Atom], rust: &str, ours: String) -> String {
+    let refusal = first_one_sided(graph);
+
+    if rust.starts_with("0 ") {
+        assert_eq!(refusal.is_none(), is_simple(graph), "what purr writes is simple, or refused");
     }
 
-    Some(match model::walk(graph, &mut Order::new(graph)) {
-        Ok(()) => unreachable!("purr panics only where a walk is refused"),
-        Err(refusal) => refusal,
-    })
+    if let Some(refusal) = refusal {
+        assert_eq!(ours, refusal, "the model compares the ends of each ring bond");
+    } else if !rust.starts_with("panic") && !hides_73(rust) {
+        assert_eq!(ours, rust, "the model walks as purr does");
+    }
+
+    ours
+}
+
+// The refusal of the first ring bond of purr's walk whose ends do not agree, however
+// that walk ends.
+fn first_one_sided(graph: &[Atom]) -> Option<String> {
+    let mut order = Order::new(graph);
+    let copy = form::parse_graph(&form::print_graph(graph)).expect("a graph as printed");
+    let _ = caught(|| walk(copy, &mut order));
+
+    order
+        .joins()
+        .iter()
+        .find_map(|(source, bond)| model::compare_ends(graph, *source, bond).err())
 }
 
 // An output that is too short is refused with the bytes that the line needs;
 // purr has none that is.
 fn written_in(arguments: &str, rust: &str) -> Option<String> {
     let (room, graph) = form::parse_room(arguments)?;
-    let ours = written(&graph, rust).unwrap_or_else(|| rust.to_string());
+    let ours = written(&graph, rust);
     let bytes: Option<usize> = ours
         .strip_prefix("0 ")
         .and_then(|rest| rest.split(' ').next())

@@ -13,6 +13,7 @@ mod make;
 mod model;
 mod order;
 mod random;
+mod simple;
 // The comparison with our exports, which the oracle alone does without.
 #[cfg(exports)]
 mod scale;

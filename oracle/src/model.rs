@@ -1,6 +1,6 @@
 //! An independent walk, by the words of the project's scope, for the graphs at
-//! which purr panics or writes 74 for 73. `differences.rs` holds it against
-//! purr's own answer wherever there is one.
+//! which purr panics, writes 74 for 73 or does not look at the other end of a ring
+//! bond. `differences.rs` holds it against purr's own answer wherever there is one.
 
 use std::collections::HashMap;
 use std::convert::TryFrom;
@@ -10,6 +10,7 @@ use crate::caught::caught;
 use crate::feature::{AtomKind, Rnum};
 use crate::form;
 use crate::graph::{Atom, Bond};
+use crate::order::Order;
 use crate::walk::Follower;
 use crate::write::Writer;
 
@@ -27,6 +28,16 @@ pub fn written(graph: &[Atom]) -> String {
 
     match walk(graph, &mut writer) {
         Ok(()) => answer::text_answer(&writer.write()),
+        Err(refusal) => refusal,
+    }
+}
+
+/// The answer for a graph whose walk order is asked for.
+pub fn ordered(graph: &[Atom]) -> String {
+    let mut order = Order::new(graph);
+
+    match walk(graph, &mut order) {
+        Ok(()) => answer::order_answer(graph.len(), order),
         Err(refusal) => refusal,
     }
 }
@@ -120,6 +131,8 @@ impl<F: Follower> Walk<'_, F> {
         }
 
         if self.met[target] {
+            compare_ends(self.graph, source, bond)?;
+
             let number = self
                 .pool
                 .hit(source, target)
@@ -142,6 +155,36 @@ impl<F: Follower> Walk<'_, F> {
 /// A copy; purr's AtomKind is not Clone.
 pub fn copied(kind: &AtomKind) -> AtomKind {
     form::parse_kind(&form::print_kind(kind)).expect("a kind as printed can be parsed")
+}
+
+/// Compares the two ends of a bond to an atom met before: each of the two atoms has
+/// one entry for the other, of reversed kind. The error is the refusal, as an answer.
+pub fn compare_ends(graph: &[Atom], source: usize, bond: &Bond) -> Result<(), String> {
+    let target = bond.tid;
+    let back = entries(graph, target, source);
+
+    if back.is_empty() {
+        return Err(format!("7 {} {}", source, target));
+    }
+
+    if back.len() > 1 || entries(graph, source, target).len() > 1 {
+        return Err(format!("8 {} {}", source, target));
+    }
+
+    if back[0].kind != bond.kind.reverse() {
+        return Err(format!("9 {} {}", target, source));
+    }
+
+    Ok(())
+}
+
+// The entries of an atom that lead to another.
+fn entries(graph: &[Atom], atom: usize, other: usize) -> Vec<&Bond> {
+    graph[atom]
+        .bonds
+        .iter()
+        .filter(|entry| entry.tid == other)
+        .collect()
 }
 
 // What a new atom is said as, and its entry back to the source.

@@ -2,7 +2,7 @@
 //! an event is about, so it keeps track of the walk.
 
 use crate::feature::{AtomKind, BondKind, Rnum};
-use crate::graph::Atom;
+use crate::graph::{Atom, Bond};
 use crate::walk::Follower;
 
 pub struct Order {
@@ -13,6 +13,7 @@ pub struct Order {
     visited: Vec<bool>,
     path: Vec<usize>,
     met: Vec<Met>,
+    joins: Vec<(usize, Bond)>,
 }
 
 /// An atom that the walk has met.
@@ -37,7 +38,14 @@ impl Order {
             visited: vec![false; graph.len()],
             path: Vec::new(),
             met: Vec::new(),
+            joins: Vec::new(),
         }
+    }
+
+    /// The bonds that were given a ring number, each with its source, as the walk came
+    /// to them.
+    pub fn joins(&self) -> &[(usize, Bond)] {
+        &self.joins
     }
 
     /// For each atom its number, its number in walk order and its text.
@@ -115,8 +123,11 @@ impl Follower for Order {
         self.enter(child, 1 + back, atom_kind);
     }
 
-    fn join(&mut self, _: BondKind, _: Rnum) {
-        self.next_target();
+    fn join(&mut self, bond_kind: BondKind, _: Rnum) {
+        let source = self.head();
+        let target = self.next_target();
+
+        self.joins.push((source, Bond::new(bond_kind, target)));
     }
 
     fn pop(&mut self, depth: usize) {

@@ -187,7 +187,7 @@ impl Scale {
             bonds: read.bonds.cells().to_vec(),
             m: read.report.cells()[2] as usize,
         };
-        let walk = walk_of(graph_read(&line.read));
+        let walk = walk_of(&line.order.answer, graph_read(&line.read));
         let shown = || line.request.clone();
         let written = compare::write(&tables, trip::longest(&tables), &line.written.answer);
         let ordered = compare::order(&tables, tables.n, &line.order.answer, &walk);
@@ -212,7 +212,7 @@ impl Scale {
         let shown = || text.to_string();
         let written = meant(request);
         let ordered = meant(&format!("order {}", text));
-        let walk = walk_of(Some(graph()));
+        let walk = walk_of(&ordered.answer, Some(graph()));
         let mut tables = self.names.tables(&graph());
 
         if self.random.one_in(LITTLE) {
@@ -283,8 +283,8 @@ impl Scale {
     fn order_in_little(&mut self, text: &str, tables: &Tables, answer: &str) {
         let room = self.random.below(tables.n + 2);
         let meant = room::ordered(tables, room, answer);
-        let graph = form::parse_graph(text).filter(|_| compare::is_done(&meant));
-        let difference = compare::order(tables, room, &meant, &walk_of(graph));
+        let walk = walk_of(&meant, form::parse_graph(text));
+        let difference = compare::order(tables, room, &meant, &walk);
         let shown = || format!("{} {}", room, text);
 
         self.tally
@@ -341,9 +341,10 @@ fn graph_read(read: &Meant) -> Option<Vec<Atom>> {
     compare::graph_text(&read.answer).and_then(form::parse_graph)
 }
 
-// purr's own walk; empty tables where it has none.
-fn walk_of(graph: Option<Vec<Atom>>) -> Walk {
+// purr's own walk; empty tables where a refusal is meant.
+fn walk_of(meant: &str, graph: Option<Vec<Atom>>) -> Walk {
     graph
+        .filter(|_| compare::is_done(meant))
         .and_then(|graph| answer::order_of(graph).ok())
         .map(|order| order.tables())
         .unwrap_or_default()

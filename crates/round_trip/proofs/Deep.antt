@@ -25,7 +25,7 @@ use Rattle.trip_text.proofs.Retold.{retold-line}
 use Rattle.trip_graph.proofs.Lists.{by-bool}
 use Rattle.trip_graph.proofs.Follows.{run-app, run-one}
 use Rattle.trip_graph.proofs.Places.{fine-before, places-free}
-use Rattle.trip_graph.proofs.Written.{was-done, table-trip}
+use Rattle.trip_graph.proofs.Written.{was-done, done-simple, table-trip}
 use Rattle.round_trip.specs.RoundTrip.{Plain, readAs}
 use Rattle.round_trip.specs.Steps.{backByTurns}
 use Rattle.round_trip.proofs.Law.{walk-told, walk-spelled, walk-accepted, walk-says, line-nests, line-is, turns-trip}
@@ -101,24 +101,29 @@ unfolding read.readText read.wholeOrRefused readRefusal
 refused-answer s la lb short e =
     rw (le-ltb textLimit (length s) short, ne-eqb (sketchOf s la lb .refusal) 0 (λ z. let y : nesting ≡ 0 = sym e ∙ z in omega arith), e)
 
--- where more branches are open at once than the reader has room for, and the rest of the limits is kept, the answer is 15
+-- where more branches are open at once than the reader has room for, a builder with room for the atoms and entries refuses that
+pub deep-refused : (room : ℕ) (atoms : List ℕ) (n : ℕ) (bonds : List ℕ) (m len : ℕ) (out : List ℕ)
+    → Plain (graphOf n atoms bonds) → writeOf room atoms n bonds m ≡ writeLeaves (Done len) out → hasNest (parse (take len out)) ≡ true
+    → (places slots : ℕ) → n ≤ places → m ≤ slots → runS (startS places slots) (parse (take len out)) .refusal ≡ nesting
+deep-refused room atoms n bonds m len out P e deep places slots ra rb =
+    let d = was-done room atoms n bonds m len out e in
+    let es : List Event = walkEvents atoms n bonds m in
+    let l : take len out ≡ lineSaid es = line-is room atoms n bonds m len out e in
+    let b : Sketch = startS places slots in
+    let t = table-trip atoms bonds n m (d .few) (d .good) (done-simple room atoms n bonds m len out (P .some) e) (P .marks) (d .fine) places slots ra rb in
+    let k : branchLimit < depth es =
+    ltb-true branchLimit (depth es) (sym (line-nests room atoms n bonds m len out P e) ∙ ap (λ (x : List ℕ). hasNest (parse x)) (sym l) ∙ deep) in
+    let s = retold-line atomLimit es (walk-says room atoms n bonds m len out P e) (walk-told room atoms n bonds m len out P e) (walk-spelled room atoms n bonds m len out P e) (walk-accepted room atoms n bonds m len out P e) in
+    ap (λ (x : List ℕ). runS b (parse x) .refusal) l ∙ says-refused b (retold es) (parse (lineSaid es)) k (t .refusal) s
+
+-- and so, if the rest of the limits is kept, the answer is 15
 pub turns-too-deep : (room : ℕ) (atoms : List ℕ) (n : ℕ) (bonds : List ℕ) (m len : ℕ) (out : List ℕ) (la lb : ℕ)
     → Plain (graphOf n atoms bonds) → writeOf room atoms n bonds m ≡ writeLeaves (Done len) out
     → length (take len out) ≤ textLimit → hasNest (parse (take len out)) ≡ true → n ≤ lesserOf atomLimit (la / atomWords) → m ≤ lesserOf bondLimit (lb / bondWords)
     → (p : ℕ) × (read.readText (take len out) la lb .answer ≡ answer.Nesting p)
 unfolding sketchOf
 turns-too-deep room atoms n bonds m len out la lb P e short deep ra rb =
-    let d = was-done room atoms n bonds m len out e in
-    let es : List Event = walkEvents atoms n bonds m in
-    let l : take len out ≡ lineSaid es = line-is room atoms n bonds m len out e in
-    let b : Sketch = startS (lesserOf atomLimit (la / atomWords)) (lesserOf bondLimit (lb / bondWords)) in
-    let t = table-trip atoms bonds n m (d .few) (d .good) (P .simple) (P .marks) (d .fine) (lesserOf atomLimit (la / atomWords)) (lesserOf bondLimit (lb / bondWords)) ra rb in
-    let k : branchLimit < depth es =
-    ltb-true branchLimit (depth es) (sym (line-nests room atoms n bonds m len out P e) ∙ ap (λ (x : List ℕ). hasNest (parse x)) (sym l) ∙ deep) in
-    let s = retold-line atomLimit es (walk-says room atoms n bonds m len out P e) (walk-told room atoms n bonds m len out P e) (walk-spelled room atoms n bonds m len out P e) (walk-accepted room atoms n bonds m len out P e) in
-    let r : runS b (parse (lineSaid es)) .refusal ≡ nesting =
-    says-refused b (retold es) (parse (lineSaid es)) k (t .refusal) s in
-    (_, refused-answer (take len out) la lb short (ap (λ (x : List ℕ). runS b (parse x) .refusal) l ∙ r))
+    (_, refused-answer (take len out) la lb short (deep-refused room atoms n bonds m len out P e deep (lesserOf atomLimit (la / atomWords)) (lesserOf bondLimit (lb / bondWords)) ra rb))
 
 -- The round trip, asked of the answer: a line that is not too long, with room lent for its atoms and entries, is read back
 -- unless the answer is 15, a branch too many.

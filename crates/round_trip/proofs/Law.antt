@@ -27,7 +27,7 @@ use Rattle.trip_text.proofs.Retold.{retold-shallow, retold-nests}
 use Rattle.trip_graph.specs.Steps as graph-steps
 use Rattle.trip_graph.specs.Renumbered.{Numbers, byWalk, renumbered}
 use Rattle.walk_entry.specs.Graph.{Graph, kindAt}
-use Rattle.trip_graph.proofs.Written.{was-done, table-numbers, table-numbered, table-count}
+use Rattle.trip_graph.proofs.Written.{was-done, done-simple, table-numbers, table-numbered, table-count}
 use Rattle.trip_graph.proofs.Trip.{renumbered-length}
 use Rattle.trip_graph.proofs.ComesBack.{text-comes-back, tables-hold}
 use Rattle.round_trip.specs.RoundTrip.{Plain, Readable, readAs, Same}
@@ -56,7 +56,7 @@ module _ (room : ℕ) (atoms : List ℕ) (n : ℕ) (bonds : List ℕ) (m len : �
       kept-spelled (walkEvents atoms n bonds m)
       (unfold saidIn in
       kept-turns (graphOf n atoms bonds) (λ a h. passes (kindAt (graphOf n atoms bonds) a) (P .survive a h)) (turnsOf n m) _)
-      (table-numbered atoms bonds n m (d .few) (d .good) (P .simple) (P .marks) (d .fine))
+      (table-numbered atoms bonds n m (d .few) (d .good) (done-simple room atoms n bonds m len out (P .some) done) (P .marks) (d .fine))
 
   pub walk-accepted : AllAccepted atomLimit (walkEvents atoms n bonds m) []
   unfolding saidIn
@@ -66,7 +66,7 @@ module _ (room : ℕ) (atoms : List ℕ) (n : ℕ) (bonds : List ℕ) (m len : �
   pub walk-says : 0 < length (walkEvents atoms n bonds m)
   unfolding saidIn turnsOf
   walk-says =
-      some-said (graphOf n atoms bonds) atomLimit atomLimit atomLimit atomLimit (zeros pairWords) (P .simple .some) few (turnsOf n m) (omega (arith, P .simple .some))
+      some-said (graphOf n atoms bonds) atomLimit atomLimit atomLimit atomLimit (zeros pairWords) (P .some) few (turnsOf n m) (omega (arith, P .some))
 
   -- a branch too many is met exactly where more are open at once than the reader has room for
   pub line-nests : hasNest (parse (lineSaid (walkEvents atoms n bonds m))) ≡ ltb branchLimit (depth (walkEvents atoms n bonds m))
@@ -103,7 +103,7 @@ line-comes-back room atoms n bonds m len out P e flat la lb ra rb =
     let f : hasNest (parse (lineSaid (walkEvents atoms n bonds m))) ≡ false = ap (λ (x : List ℕ). hasNest (parse x)) (sym l) ∙ flat in
     let h : unplaced (parse (take len out)) ≡ retold (walkEvents atoms n bonds m) =
     ap (λ (x : List ℕ). unplaced (parse x)) l ∙ line-says room atoms n bonds m len out P e f in
-    text-comes-back room atoms n bonds m len out (P .simple) (P .marks) e (take len out) h la lb ra rb
+    text-comes-back room atoms n bonds m len out (done-simple room atoms n bonds m len out (P .some) e) (P .marks) e (take len out) h la lb ra rb
 
 -- ---- the laws
 -- The round trip: what the reading says and both tables that it leaves, whole.
@@ -149,8 +149,8 @@ turns-same room atoms n bonds m len out la lb P e r =
     subst (λ (x : Said). Same (graphOf n atoms bonds) (graphOf n (x .atoms) (x .bonds)) (byWalk (walkOf atoms n bonds m)))
     (sym (turns-trip room atoms n bonds m len out la lb P e r))
     (record {
-      numbers = table-numbers atoms bonds n m (d .few) (d .good) (P .simple) (P .marks) (d .fine);
-      renumbers = tables-hold room atoms n bonds m len out (P .simple) (P .marks) e la lb;
+      numbers = table-numbers atoms bonds n m (d .few) (d .good) (done-simple room atoms n bonds m len out (P .some) e) (P .marks) (d .fine);
+      renumbers = tables-hold room atoms n bonds m len out (done-simple room atoms n bonds m len out (P .some) e) (P .marks) e la lb;
     })
 
 -- ---- two graphs with one line
@@ -174,4 +174,4 @@ turns-one-count r1 a1 n1 b1 m1 l1 o1 r2 a2 n2 b2 m2 l2 o2 P1 P2 e1 e2 q flat =
     let d1 = was-done r1 a1 n1 b1 m1 l1 o1 e1 in
     let d2 = was-done r2 a2 n2 b2 m2 l2 o2 e2 in
     let z : backByTurns a1 n1 b1 m1 ≡ backByTurns a2 n2 b2 m2 = turns-one-line r1 a1 n1 b1 m1 l1 o1 r2 a2 n2 b2 m2 l2 o2 P1 P2 e1 e2 q flat in
-    (sym (renumbered-length (graphOf n1 a1 b1) _) ∙ ap length z ∙ renumbered-length (graphOf n2 a2 b2) _, sym (table-count a1 b1 n1 m1 (d1 .few) (d1 .good) (P1 .simple) (P1 .marks) (d1 .fine)) ∙ ap countOf z ∙ table-count a2 b2 n2 m2 (d2 .few) (d2 .good) (P2 .simple) (P2 .marks) (d2 .fine))
+    (sym (renumbered-length (graphOf n1 a1 b1) _) ∙ ap length z ∙ renumbered-length (graphOf n2 a2 b2) _, sym (table-count a1 b1 n1 m1 (d1 .few) (d1 .good) (done-simple r1 a1 n1 b1 m1 l1 o1 (P1 .some) e1) (P1 .marks) (d1 .fine)) ∙ ap countOf z ∙ table-count a2 b2 n2 m2 (d2 .few) (d2 .good) (done-simple r2 a2 n2 b2 m2 l2 o2 (P2 .some) e2) (P2 .marks) (d2 .fine))

@@ -3,6 +3,8 @@ pub mod Ordered
 pub mod Spelling
 pub mod Law
 pub mod ByOrder
+pub mod Wider
 pub mod Deep
+pub mod Answers
 pub mod RoundTrip
 pub mod Sample

@@ -18,11 +18,13 @@ use Rattle.write.specs.Plain.{writePlain, orderPlain}
 use Rattle.write.proofs.Plain.{write-plain, order-plain}
 use Rattle.trip_graph.specs.Renumbered.{Numbers, byWalk, renumbered}
 use Rattle.round_trip.specs.RoundTrip.{Plain, Readable, readAs, byOrder, backOf, RoundTrip, OneLine, Same}
+use Rattle.round_trip.specs.Answers.{Reread, blamesRing}
 use Rattle.round_trip.specs.ByOrder.{Lent, TripByOrder}
 use Rattle.round_trip.specs.Steps.{backByTurns}
 use Rattle.round_trip.proofs.Law.{turns-trip, turns-trip-wide, turns-same, turns-one-line, turns-one-count}
 use Rattle.round_trip.proofs.ByOrder.{order-done, order-numbers}
 use Rattle.round_trip.proofs.Deep.{turns-too-deep, turns-trip-answer}
+use Rattle.round_trip.proofs.Answers.{turns-reread, no-ring}
 use Rattle.read_line.specs.Events.{hasNest}
 
 -- ---- from turns to promises
@@ -75,6 +77,20 @@ pub round-trip-answer : (room : ℕ) (atoms : List ℕ) (n : ℕ) (bonds : List 
 round-trip-answer room atoms n bonds m len out la lb P e short ra rb never =
     turns-trip-answer room atoms n bonds m len out la lb P (by-turns room atoms n bonds m len out e) short ra rb never
     ∙ ap (readAs n m la lb) (back-same room atoms n bonds m len out e)
+
+-- Whatever room is lent, such a line is reread with all its atoms and entries, or refused with 12, 13, 14 or 15, each for its reason.
+pub reread-answers : (room : ℕ) (atoms : List ℕ) (n : ℕ) (bonds : List ℕ) (m len : ℕ) (out : List ℕ)
+    → Plain (graphOf n atoms bonds) → writePlain room atoms n bonds m ≡ writeLeaves (Done len) out
+    → (la lb : ℕ) → Reread (take len out) n m la lb (readText (take len out) la lb .answer)
+reread-answers room atoms n bonds m len out P e =
+    turns-reread room atoms n bonds m len out P (by-turns room atoms n bonds m len out e)
+
+-- So it is never answered with 3 or 4: no ring number in it is left open, and the ends of each agree.
+pub never-rings : (room : ℕ) (atoms : List ℕ) (n : ℕ) (bonds : List ℕ) (m len : ℕ) (out : List ℕ)
+    → Plain (graphOf n atoms bonds) → writePlain room atoms n bonds m ≡ writeLeaves (Done len) out
+    → (la lb : ℕ) → blamesRing (readText (take len out) la lb .answer) ≡ false
+never-rings room atoms n bonds m len out P e la lb =
+    no-ring (reread-answers room atoms n bonds m len out P e la lb)
 
 -- Two such graphs with the same line have the same renumbering, and so as many atoms and as many entries.
 pub one-line : (r1 : ℕ) (a1 : List ℕ) (n1 : ℕ) (b1 : List ℕ) (m1 l1 : ℕ) (o1 : List ℕ) (r2 : ℕ) (a2 : List ℕ) (n2 : ℕ) (b2 : List ℕ) (m2 l2 : ℕ) (o2 : List ℕ)

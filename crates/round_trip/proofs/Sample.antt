@@ -24,18 +24,20 @@ use Rattle.read.specs.declared.Answer.the-variants as answer
 use Rattle.read.specs.Read.{said}
 use Rattle.read.specs.Line as read
 use Rattle.writer.specs.Line as writer
-use Rattle.walk_entry.specs.Graph.{Graph, kindAt, degreeAt, bondOf, kindOr, kindIn, bondIn}
+use Rattle.walk_entry.specs.Graph.{Graph, kindAt, kindOr, kindIn, bondIn}
 use Rattle.walk_entry.specs.Ways.{isRefused, isFixed, even, saidAs, scanIn, judgedBack, wayOf}
-use Rattle.walk.specs.Walk.{popsOf, rootTurn, leftIn, numberedOf, ringTurn, enteredOf, enterTurn, bondTurn, entryTurn, atomOf, turnOf, stepOf, walkTo, eventsOf, turnsOf}
+use Rattle.walk_entry.specs.Ties.{leading, lastLeading, tieOf}
+use Rattle.walk.specs.Walk.{popsOf, rootTurn, leftIn, numberedOf, ringTurn, tiedOf, tieTurn, enteredOf, enterTurn, bondTurn, entryTurn, atomOf, turnOf, stepOf, walkTo, eventsOf, turnsOf}
 use Rattle.table_check.specs.Judge.{isEntry, bondStands, atomsFrom, firstBadBond, afterAtoms, badRecord}
 use Rattle.write.specs.declared.answer.Written.the-variants.{Done}
 use Rattle.write.specs.Write.{graphOf, walkIn, saidIn, atomPlaces, bondSlots, writeLeaves, putLine, lineConcluded, graphWritten, writeOf}
 use Rattle.write.specs.Plain.{orderPlain}
 use Rattle.write.proofs.Plain.{write-plain}
-use Rattle.trip_graph.specs.Renumber.{Backed, Simple}
+use Rattle.trip_graph.specs.Renumber.{Simple}
+use Rattle.trip_graph.proofs.Written.{done-simple}
 use Rattle.trip_graph.specs.Renumbered.{othersOf, parentEntry, doneOf, edgeOf, nodeOf, firstAtoms, renumbered}
 use Rattle.trip_graph.specs.Marks.{Tetrahedral, bearsHydrogen, otherMark, toggled, oddIndex, backKind}
-use Rattle.trip_graph.proofs.Bench.{below-three, below-two}
+use Rattle.trip_graph.proofs.Bench.{below-three}
 use Rattle.round_trip.specs.RoundTrip.{Plain, Readable, readAs}
 use Rattle.round_trip.specs.Steps.{backByTurns}
 use Rattle.round_trip.specs.ByOrder.{ReadByOrder}
@@ -61,7 +63,7 @@ abbrev line : List ℕ
 line = bytes "C-[C@H]-C"
 
 written : writeOf 12 atoms 3 bonds 4 ≡ writeLeaves (Done 9) (line ++ (0 ∷ 0 ∷ 0 ∷ []))
-unfolding words.listOf words.wordsOf words.pairOf words.bracketPair words.loadAt words.loadOf words.plainOf words.bracketOf words.entryStored words.entryOfWords words.entryCoded kindOf codeOf reverseOf bracketInRange inRange invertBracket invertOf kindOr sureKind kindIn bondIn isRefused isFixed turnedOr even saidAs scanIn judgedBack wayOf popsOf rootTurn leftIn numberedOf ringTurn enteredOf enterTurn bondTurn entryTurn atomOf turnOf stepOf walkTo eventsOf turnsOf words.isHeld isEntry words.isAtom bondStands atomsFrom firstBadBond afterAtoms badRecord entryStarts sumOf lesserOf walkIn saidIn atomPlaces bondSlots putLine lineConcluded graphWritten writeOf writer.lineOf writer.dotText writer.addPiece writer.onLast writer.wrapped writer.popPieces writer.writeEvent writer.writeEvents spell.atomText spell.kindText spell.nameText spell.symbolText spell.organicSymbols spell.bracketText spell.numberText spell.configurationText spell.hydrogensText spell.chargeText spell.mapText spell.bondText spell.digits names
+unfolding words.listOf words.wordsOf words.pairOf words.bracketPair words.loadAt words.loadOf words.plainOf words.bracketOf words.entryStored words.entryOfWords words.entryCoded kindOf codeOf reverseOf bracketInRange inRange invertBracket invertOf kindOr sureKind kindIn bondIn isRefused isFixed turnedOr even saidAs scanIn judgedBack wayOf leading lastLeading tieOf popsOf rootTurn leftIn numberedOf ringTurn tiedOf tieTurn enteredOf enterTurn bondTurn entryTurn atomOf turnOf stepOf walkTo eventsOf turnsOf words.isHeld isEntry words.isAtom bondStands atomsFrom firstBadBond afterAtoms badRecord entryStarts sumOf lesserOf walkIn saidIn atomPlaces bondSlots putLine lineConcluded graphWritten writeOf writer.lineOf writer.dotText writer.addPiece writer.onLast writer.wrapped writer.popPieces writer.writeEvent writer.writeEvents spell.atomText spell.kindText spell.nameText spell.symbolText spell.organicSymbols spell.bracketText spell.numberText spell.configurationText spell.hydrogensText spell.chargeText spell.mapText spell.bondText spell.digits names
 written = refl
 
 -- ---- what is asked
@@ -72,34 +74,10 @@ below-one P x (suc a) h = absurd (omega arith)
 abbrev chain : Graph
 chain = graphOf 3 atoms bonds
 
--- for each entry of the chain
-each-entry : (P : ℕ → ℕ → Type 0) → P 0 0 → P 1 0 → P 1 1 → P 2 0 → (a i : ℕ) → a < 3 → i < degreeAt chain a → P a i
-unfolding words.listOf words.wordsOf words.pairOf words.bracketPair inRange bracketInRange
-each-entry P p q r s a i ha =
-    below-three (λ (a : ℕ). i < degreeAt chain a → P a i) (below-one (P 0) p i) (below-two (P 1) q r i) (below-one (P 2) s i) a ha
-
-chain-simple : Simple chain
-unfolding words.listOf words.wordsOf words.pairOf words.bracketPair words.entryStored words.entryOfWords words.entryCoded kindOf reverseOf sureKind bondIn inRange bracketInRange entryStarts sumOf
-chain-simple = record {
-  some = omega arith;
-  apart = each-entry (λ (a i : ℕ). bondOf chain a i .to ≡ a → ⊥) (λ z. omega arith) (λ z. omega arith) (λ z. omega arith) (λ z. omega arith);
-  once = λ a i j ha hi hj. each-entry (λ (a i : ℕ). (j : ℕ) → j < degreeAt chain a → bondOf chain a i .to ≡ bondOf chain a j .to → i ≡ j)
-      (below-one (λ (j : ℕ). bondOf chain 0 0 .to ≡ bondOf chain 0 j .to → 0 ≡ j) (λ z. refl))
-      (below-two (λ (j : ℕ). bondOf chain 1 0 .to ≡ bondOf chain 1 j .to → 0 ≡ j) (λ z. refl) (λ z. absurd (omega arith)))
-      (below-two (λ (j : ℕ). bondOf chain 1 1 .to ≡ bondOf chain 1 j .to → 1 ≡ j) (λ z. absurd (omega arith)) (λ z. refl))
-      (below-one (λ (j : ℕ). bondOf chain 2 0 .to ≡ bondOf chain 2 j .to → 0 ≡ j) (λ z. refl))
-      a i ha hi j hj;
-  backed = each-entry (λ (a i : ℕ). Backed chain a (bondOf chain a i .to) (bondOf chain a i))
-      (record { place = 1; within = omega arith; leads = refl; reversed = refl })
-      (record { place = 0; within = omega arith; leads = refl; reversed = refl })
-      (record { place = 0; within = omega arith; leads = refl; reversed = refl })
-      (record { place = 0; within = omega arith; leads = refl; reversed = refl });
-}
-
 chain-plain : Plain chain
 unfolding words.listOf words.wordsOf words.pairOf words.bracketPair words.loadAt words.loadOf words.plainOf words.bracketOf bracketInRange inRange kindOr kindIn survive.symbolSurvives survive.configurationSurvives survive.hydrogensSurvive survive.chargeSurvives survive.fieldsSurvive survive.survives
 chain-plain = record {
-  simple = chain-simple;
+  some = omega arith;
   survive = below-three (λ (a : ℕ). survive.Survives (kindAt chain a)) (alone carbon refl) (alone (marked 1) refl) (alone carbon refl);
   marks = below-three (λ (a : ℕ). Tetrahedral (kindAt chain a)) tt (omega arith) tt;
 }
@@ -116,7 +94,7 @@ readable = record { short = omega arith; shallow = line-flat; atoms = omega arit
 -- ---- what is said
 -- atom 1 comes back with its mark toggled and its bond to atom 0 first
 chain-renumbered : backByTurns atoms 3 bonds 4 ≡ node carbon (edge Single (To 1) ∷ []) ∷ node (marked 2) (edge Single (To 0) ∷ edge Single (To 2) ∷ []) ∷ node carbon (edge Single (To 1) ∷ []) ∷ []
-unfolding words.listOf words.wordsOf words.pairOf words.bracketPair words.loadAt words.loadOf words.plainOf words.bracketOf words.entryStored words.entryOfWords words.entryCoded kindOf codeOf reverseOf bracketInRange inRange invertBracket invertOf kindOr sureKind kindIn bondIn isRefused isFixed turnedOr even saidAs scanIn judgedBack wayOf popsOf rootTurn leftIn numberedOf ringTurn enteredOf enterTurn bondTurn entryTurn atomOf turnOf stepOf walkTo turnsOf entryStarts sumOf walkIn bearsHydrogen otherMark toggled oddIndex backKind othersOf parentEntry doneOf edgeOf nodeOf firstAtoms renumbered
+unfolding words.listOf words.wordsOf words.pairOf words.bracketPair words.loadAt words.loadOf words.plainOf words.bracketOf words.entryStored words.entryOfWords words.entryCoded kindOf codeOf reverseOf bracketInRange inRange invertBracket invertOf kindOr sureKind kindIn bondIn isRefused isFixed turnedOr even saidAs scanIn judgedBack wayOf leading lastLeading tieOf popsOf rootTurn leftIn numberedOf ringTurn tiedOf tieTurn enteredOf enterTurn bondTurn entryTurn atomOf turnOf stepOf walkTo turnsOf entryStarts sumOf walkIn bearsHydrogen otherMark toggled oddIndex backKind othersOf parentEntry doneOf edgeOf nodeOf firstAtoms renumbered
 chain-renumbered = refl
 
 -- so the tables that the reading leaves are these, word for word
@@ -146,36 +124,13 @@ abbrev back : Graph
 back = graphOf 3 backAtoms backBonds
 
 back-written : writeOf 9 backAtoms 3 backBonds 4 ≡ writeLeaves (Done 9) line
-unfolding words.listOf words.wordsOf words.pairOf words.bracketPair words.loadAt words.loadOf words.plainOf words.bracketOf words.entryStored words.entryOfWords words.entryCoded kindOf codeOf reverseOf bracketInRange inRange invertBracket invertOf kindOr sureKind kindIn bondIn isRefused isFixed turnedOr even saidAs scanIn judgedBack wayOf popsOf rootTurn leftIn numberedOf ringTurn enteredOf enterTurn bondTurn entryTurn atomOf turnOf stepOf walkTo eventsOf turnsOf words.isHeld isEntry words.isAtom bondStands atomsFrom firstBadBond afterAtoms badRecord entryStarts sumOf lesserOf walkIn saidIn atomPlaces bondSlots putLine lineConcluded graphWritten writeOf writer.lineOf writer.dotText writer.addPiece writer.onLast writer.wrapped writer.popPieces writer.writeEvent writer.writeEvents spell.atomText spell.kindText spell.nameText spell.symbolText spell.organicSymbols spell.bracketText spell.numberText spell.configurationText spell.hydrogensText spell.chargeText spell.mapText spell.bondText spell.digits names
+unfolding words.listOf words.wordsOf words.pairOf words.bracketPair words.loadAt words.loadOf words.plainOf words.bracketOf words.entryStored words.entryOfWords words.entryCoded kindOf codeOf reverseOf bracketInRange inRange invertBracket invertOf kindOr sureKind kindIn bondIn isRefused isFixed turnedOr even saidAs scanIn judgedBack wayOf leading lastLeading tieOf popsOf rootTurn leftIn numberedOf ringTurn tiedOf tieTurn enteredOf enterTurn bondTurn entryTurn atomOf turnOf stepOf walkTo eventsOf turnsOf words.isHeld isEntry words.isAtom bondStands atomsFrom firstBadBond afterAtoms badRecord entryStarts sumOf lesserOf walkIn saidIn atomPlaces bondSlots putLine lineConcluded graphWritten writeOf writer.lineOf writer.dotText writer.addPiece writer.onLast writer.wrapped writer.popPieces writer.writeEvent writer.writeEvents spell.atomText spell.kindText spell.nameText spell.symbolText spell.organicSymbols spell.bracketText spell.numberText spell.configurationText spell.hydrogensText spell.chargeText spell.mapText spell.bondText spell.digits names
 back-written = refl
-
-each-back : (P : ℕ → ℕ → Type 0) → P 0 0 → P 1 0 → P 1 1 → P 2 0 → (a i : ℕ) → a < 3 → i < degreeAt back a → P a i
-unfolding words.listOf words.wordsOf words.pairOf words.bracketPair inRange bracketInRange
-each-back P p q r s a i ha =
-    below-three (λ (a : ℕ). i < degreeAt back a → P a i) (below-one (P 0) p i) (below-two (P 1) q r i) (below-one (P 2) s i) a ha
-
-back-simple : Simple back
-unfolding words.listOf words.wordsOf words.pairOf words.bracketPair words.entryStored words.entryOfWords words.entryCoded kindOf reverseOf sureKind bondIn inRange bracketInRange entryStarts sumOf
-back-simple = record {
-  some = omega arith;
-  apart = each-back (λ (a i : ℕ). bondOf back a i .to ≡ a → ⊥) (λ z. omega arith) (λ z. omega arith) (λ z. omega arith) (λ z. omega arith);
-  once = λ a i j ha hi hj. each-back (λ (a i : ℕ). (j : ℕ) → j < degreeAt back a → bondOf back a i .to ≡ bondOf back a j .to → i ≡ j)
-      (below-one (λ (j : ℕ). bondOf back 0 0 .to ≡ bondOf back 0 j .to → 0 ≡ j) (λ z. refl))
-      (below-two (λ (j : ℕ). bondOf back 1 0 .to ≡ bondOf back 1 j .to → 0 ≡ j) (λ z. refl) (λ z. absurd (omega arith)))
-      (below-two (λ (j : ℕ). bondOf back 1 1 .to ≡ bondOf back 1 j .to → 1 ≡ j) (λ z. absurd (omega arith)) (λ z. refl))
-      (below-one (λ (j : ℕ). bondOf back 2 0 .to ≡ bondOf back 2 j .to → 0 ≡ j) (λ z. refl))
-      a i ha hi j hj;
-  backed = each-back (λ (a i : ℕ). Backed back a (bondOf back a i .to) (bondOf back a i))
-      (record { place = 0; within = omega arith; leads = refl; reversed = refl })
-      (record { place = 0; within = omega arith; leads = refl; reversed = refl })
-      (record { place = 0; within = omega arith; leads = refl; reversed = refl })
-      (record { place = 1; within = omega arith; leads = refl; reversed = refl });
-}
 
 back-plain : Plain back
 unfolding words.listOf words.wordsOf words.pairOf words.bracketPair words.loadAt words.loadOf words.plainOf words.bracketOf bracketInRange inRange kindOr kindIn survive.symbolSurvives survive.configurationSurvives survive.hydrogensSurvive survive.chargeSurvives survive.fieldsSurvive survive.survives
 back-plain = record {
-  simple = back-simple;
+  some = omega arith;
   survive = below-three (λ (a : ℕ). survive.Survives (kindAt back a)) (alone carbon refl) (alone (marked 2) refl) (alone carbon refl);
   marks = below-three (λ (a : ℕ). Tetrahedral (kindAt back a)) tt (omega arith) tt;
 }
@@ -197,14 +152,7 @@ star-written = refl
 star-plain : Plain (graphOf 1 starAtoms [])
 unfolding words.listOf words.wordsOf words.pairOf words.loadAt words.loadOf words.plainOf inRange kindOr kindIn survive.survives
 star-plain = record {
-  simple = record {
-    some = omega arith;
-    apart = λ a i ha. below-one (λ (a : ℕ). i < degreeAt (graphOf 1 starAtoms []) a → bondOf (graphOf 1 starAtoms []) a i .to ≡ a → ⊥) (λ h. absurd (omega arith)) a ha;
-    once = λ a i j ha. below-one (λ (a : ℕ). i < degreeAt (graphOf 1 starAtoms []) a → j < degreeAt (graphOf 1 starAtoms []) a
-        → bondOf (graphOf 1 starAtoms []) a i .to ≡ bondOf (graphOf 1 starAtoms []) a j .to → i ≡ j) (λ h. absurd (omega arith)) a ha;
-    backed = λ a i ha. below-one (λ (a : ℕ). i < degreeAt (graphOf 1 starAtoms []) a → Backed (graphOf 1 starAtoms []) a (bondOf (graphOf 1 starAtoms []) a i .to) (bondOf (graphOf 1 starAtoms []) a i))
-        (λ h. absurd (omega arith)) a ha;
-  };
+  some = omega arith;
   survive = below-one (λ (a : ℕ). survive.Survives (kindAt (graphOf 1 starAtoms []) a)) (alone Star refl);
   marks = below-one (λ (a : ℕ). Tetrahedral (kindAt (graphOf 1 starAtoms []) a)) tt;
 }
@@ -218,3 +166,7 @@ unfolding lesserOf padded atomTable bondTable edgeTable words.listOf words.words
 star-back =
     turns-trip 1 starAtoms 1 [] 0 1 (bytes "*") 3 0 star-plain star-written
     (record { short = omega arith; shallow = star-flat; atoms = omega arith; bonds = omega arith })
+
+-- so the chain is simple
+chain-simple : Simple chain
+chain-simple = done-simple 12 atoms 3 bonds 4 9 (line ++ (0 ∷ 0 ∷ 0 ∷ [])) (omega arith) written

@@ -17,7 +17,8 @@ use Rattle.walk_entry.specs.declared.entry.Way.{Way}
 use Rattle.walk_entry.specs.declared.entry.Way.the-variants.{Enters, Refuses}
 use Rattle.walk_entry.specs.Graph.{BondEntry, Graph, kindAt, degreeAt, bondOf}
 use Rattle.walk_entry.specs.Ways.{saidAs, wayOf}
-use Rattle.walk.specs.Walk.{Walk, Turn, tookAt, popsOf, popsThen, rootTurn, numberedOf, ringTurn, enteredOf, enterTurn, bondTurn, entryTurn, atomOf, turnOf, stepOf, eventsOf}
+use Rattle.walk_entry.specs.Ties.{tieOf}
+use Rattle.walk.specs.Walk.{Walk, Turn, tookAt, popsOf, popsThen, rootTurn, numberedOf, ringTurn, tiedOf, tieTurn, enteredOf, enterTurn, bondTurn, entryTurn, atomOf, turnOf, stepOf, eventsOf}
 use Rattle.feature.proofs.Cases.{by-test}
 use Rattle.trip_text.specs.Steps.{Spellable}
 use Rattle.trip_graph.specs.Opened.{RingsHaveText}
@@ -72,14 +73,19 @@ module _ (g : Graph) (K : (a : ℕ) → a < g .size → survives (kindAt g a) �
   fine-way k t l (Refuses r a b) = tt
   fine-way k t l (Enters b) = kept-pops (w .at .pend) (Extend k (saidAs (kindAt g t) b)) (marks-serve .kept (kindAt g t) b (K t l), tt)
 
+  fine-tied : (k : BondKind) (s t : ℕ) (x : Way) → Fine (tiedOf w k s t x)
+  unfolding tiedOf ringTurn
+  fine-tied k s t (Refuses r a b) = tt
+  fine-tied k s t (Enters b) = fine-given k s t _ _
+
   fine-bond : (s : ℕ) (b : BondEntry) → Fine (bondTurn g w s b)
-  unfolding bondTurn enterTurn ringTurn
+  unfolding bondTurn enterTurn tieTurn
   fine-bond s b =
       by-test Fine (leb (g .size) (b .to)) (λ q. tt)
       (λ q. by-test Fine (eqb (b .to) s) (λ z. tt)
       (λ z. by-test Fine (eqb (getD (w .met) (b .to) 0) 0)
       (λ y. fine-way (b .kind) (b .to) (leb-false _ _ q) (wayOf g (b .kind) s (b .to)))
-      (λ y. fine-given (b .kind) s (b .to) _ _)))
+      (λ y. fine-tied (b .kind) s (b .to) (tieOf g (b .kind) s (b .to)))))
 
 module _ (g : Graph) (K : (a : ℕ) → a < g .size → survives (kindAt g a) ≡ true) where
   fine-atom : (w : Walk) (a : ℕ) → Fine (atomOf g w a)

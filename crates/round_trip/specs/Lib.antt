@@ -1,3 +1,4 @@
 pub mod RoundTrip
 pub mod ByOrder
+pub mod Answers
 pub mod Steps

@@ -1,9 +1,9 @@
--- The round trip. Take a graph with at least one atom, no self-bond, at most one bond between two atoms, each bond held at both
--- ends as the other's reverse, every atom of a kind that survives writing and rereading alone, and no configuration but TH1 or
--- TH2. If it is written without refusal and the line is within the reader's limits and lent room, reading the line back
--- succeeds and gives that graph renumbered in walk order. Each non-root atom has its parent bond moved to the front, the other
--- bonds in order; a TH mark is toggled exactly if the atom bears hydrogen and its parent bond was at an odd index. Nothing
--- else differs.
+-- The round trip. Take a graph with at least one atom, every atom of a kind that survives writing and rereading alone, and no
+-- configuration but TH1 or TH2. If it is written without refusal (so it has no self-bond, at most one bond between two atoms, and
+-- each bond is held at both ends as the other's reverse) and the line is within the reader's limits and lent room, reading the
+-- line back succeeds and gives that graph renumbered in walk order. Each non-root atom has its parent bond moved to the front,
+-- the other bonds in order; a TH mark is toggled exactly if the atom bears hydrogen and its parent bond was at an odd index.
+-- Nothing else differs.
 --
 -- The graph that comes back is a defined one (`renumbered`), and what the reading leaves is an equation: 0 with the counts, and both
 -- tables whole. Writing, the walk order and reading are what the public calls promise: `writePlain`, `orderPlain` and `readText`.
@@ -26,15 +26,14 @@ use Rattle.write.specs.Write.{graphOf, writeLeaves}
 use Rattle.write.specs.Order.{Order}
 use Rattle.write.specs.Plain.{writePlain, orderPlain}
 use Rattle.trip_graph.specs.Marks.{Tetrahedral}
-use Rattle.trip_graph.specs.Renumber.{Simple, Numbering, Renumbers}
+use Rattle.trip_graph.specs.Renumber.{Numbering, Renumbers}
 use Rattle.trip_graph.specs.Renumbered.{Numbers, renumbered}
 use Rattle.read_line.specs.Events.{hasNest}
 
 -- ---- what is asked
--- of the graph: at least one atom, no self-bond, at most one bond between two atoms, each bond held at both ends as the other's
--- reverse; every atom of a kind that survives, with no configuration but TH1 or TH2
+-- of the graph: at least one atom, and every atom of a kind that survives, with no configuration but TH1 or TH2
 pub record Plain (g : Graph) : Type 0 where
-  pub simple : Simple g
+  pub some : 1 ≤ g .size
   pub survive : (a : ℕ) → a < g .size → Survives (kindAt g a)
   pub marks : (a : ℕ) → a < g .size → Tetrahedral (kindAt g a)
 

@@ -18,6 +18,7 @@ use Rattle.join_pool.specs.Pairs as pool
 use Rattle.writer.specs.Line.{lineOf, dotText, addPiece, onLast, wrapped, popPieces, writeEvent, writeEvents}
 use Rattle.walk_entry.specs.Graph.{kindOr, kindIn, bondIn}
 use Rattle.walk_entry.specs.Ways.{isRefused, isFixed, even, saidAs, scanIn, judgedBack, wayOf}
+use Rattle.walk_entry.specs.Ties.{leading, lastLeading, tieOf}
 use Rattle.walk.specs.Walk as walk
 use Rattle.table_check.specs.Judge as judge
 use Rattle.walk_laws.specs.Plain as plain
@@ -33,5 +34,5 @@ use Rattle.starred_lines.specs.Asked.{Asked, Answered, readAnswered, wri
 
 -- EACH IS ANSWERED SO, and leaves this
 pub rows-said : map (λ (r : Asked × Answered). answerOf (r .0)) starredRows ≡ map (λ (r : Asked × Answered). r .1) starredRows
-unfolding placeOf names begins peekAt digitOf digitAt missingAt bracketAt aromaticOf aliphaticOf optionalAt organicAt starAt orElse otherAt atomAt markWidth rnumAt afterCharge afterConfiguration afterHydrogens afterIsotope afterMap afterSymbol chargeAt closeAt configurationAt configured digitStep hydrogensAt insideAt isotopeAt mapAt numberAt signedAt slip symbolAt symbolOf fifteenAt shortAt longAt lateAt lesserOf ledAt bodyOf bodyAt missP foundP atomP ringP unionBy unionP unitBy unitP lineP closeP branchP bodies endP parse sketchOf runS stepS enterS numberS missedS rootS extendS bondedS joinS ringS openedS closedS firstOf nextNumber countOf upd addEdge edgesAt openKind waits fillEdges fill lookup ringFreed invertOf reverseOf reconcileOf isDirectional codeOf openHere openIn firstOpenS ringsSay saysS finishS leftS readRefusal builtAnswer atomTable bondTable edgeTable targetOf padded inRange bracketInRange invertBracket kindOf words.bracketPair words.pairOf words.wordsOf words.listOf words.plainOf words.bracketOf words.loadOf words.loadAt words.entryCoded words.entryOfWords words.entryStored signKind bondAt spell.digits spell.numberText spell.nameText spell.symbolText spell.templateText spell.markedText spell.configurationText spell.hydrogensText spell.chargeText spell.mapText spell.bracketText spell.organicSymbols spell.kindText spell.atomText spell.bondText spell.rnumText sumOf entryStarts pool.opens pool.openNumber pool.slot pool.counterNext pool.counterOf pool.nextOf pool.openOf pool.closeOf pool.openOrClose pool.hitPair pool.hitOf lineOf dotText addPiece onLast wrapped popPieces writeEvent writeEvents kindOr sureKind kindIn bondIn isRefused isFixed turnedOr even saidAs scanIn judgedBack wayOf walk.popsOf plain.andThen plain.numberFrom plain.joins plain.rings plain.enters plain.follows plain.entriesFrom plain.visitOf plain.rootsFrom plain.plainWalk words.isHeld judge.isEntry words.isAtom judge.bondStands judge.atomsFrom judge.firstBadBond judge.afterAtoms judge.badRecord write.writeRefusal write.atomPlaces write.bondSlots write.putLine written.outcomeWritten written.writePlain read-numbers.readTold write-numbers.writtenTold line.wholeOf line.wholeOrRefused line.readText ofRead ofWritten readAnswered writtenAs rewriteOf numberGiven poolGiven callsFrom answerOf
+unfolding placeOf names begins peekAt digitOf digitAt missingAt bracketAt aromaticOf aliphaticOf optionalAt organicAt starAt orElse otherAt atomAt markWidth rnumAt afterCharge afterConfiguration afterHydrogens afterIsotope afterMap afterSymbol chargeAt closeAt configurationAt configured digitStep hydrogensAt insideAt isotopeAt mapAt numberAt signedAt slip symbolAt symbolOf fifteenAt shortAt longAt lateAt lesserOf ledAt bodyOf bodyAt missP foundP atomP ringP unionBy unionP unitBy unitP lineP closeP branchP bodies endP parse sketchOf runS stepS enterS numberS missedS rootS extendS bondedS joinS ringS openedS closedS firstOf nextNumber countOf upd addEdge edgesAt openKind waits fillEdges fill lookup ringFreed invertOf reverseOf reconcileOf isDirectional codeOf openHere openIn firstOpenS ringsSay saysS finishS leftS readRefusal builtAnswer atomTable bondTable edgeTable targetOf padded inRange bracketInRange invertBracket kindOf words.bracketPair words.pairOf words.wordsOf words.listOf words.plainOf words.bracketOf words.loadOf words.loadAt words.entryCoded words.entryOfWords words.entryStored signKind bondAt spell.digits spell.numberText spell.nameText spell.symbolText spell.templateText spell.markedText spell.configurationText spell.hydrogensText spell.chargeText spell.mapText spell.bracketText spell.organicSymbols spell.kindText spell.atomText spell.bondText spell.rnumText sumOf entryStarts pool.opens pool.openNumber pool.slot pool.counterNext pool.counterOf pool.nextOf pool.openOf pool.closeOf pool.openOrClose pool.hitPair pool.hitOf lineOf dotText addPiece onLast wrapped popPieces writeEvent writeEvents kindOr sureKind kindIn bondIn isRefused isFixed turnedOr even saidAs scanIn judgedBack wayOf leading lastLeading tieOf walk.popsOf plain.andThen plain.numberFrom plain.joins plain.rings plain.ties plain.enters plain.follows plain.entriesFrom plain.visitOf plain.rootsFrom plain.plainWalk words.isHeld judge.isEntry words.isAtom judge.bondStands judge.atomsFrom judge.firstBadBond judge.afterAtoms judge.badRecord write.writeRefusal write.atomPlaces write.bondSlots write.putLine written.outcomeWritten written.writePlain read-numbers.readTold write-numbers.writtenTold line.wholeOf line.wholeOrRefused line.readText ofRead ofWritten readAnswered writtenAs rewriteOf numberGiven poolGiven callsFrom answerOf
 rows-said = refl

@@ -14,13 +14,15 @@ use Rattle.join_pool.specs.Pairs as pool
 use Rattle.builder_meaning.specs.Sketch.{To, Node, edge, node, startS, runS}
 use Rattle.walk_entry.specs.Graph.{Graph, graph, kindAt, degreeAt, bondOf, kindOr, kindIn, bondIn}
 use Rattle.walk_entry.specs.Ways.{isRefused, isFixed, even, saidAs, scanIn, judgedBack, wayOf}
-use Rattle.walk.specs.Walk.{Walk, popsOf, rootTurn, leftIn, numberedOf, ringTurn, enteredOf, enterTurn, bondTurn, entryTurn, atomOf, turnOf, stepOf, walkTo, eventsOf, turnsOf}
+use Rattle.walk_entry.specs.Ties.{leading, lastLeading, tieOf}
+use Rattle.walk.specs.Walk.{Walk, popsOf, rootTurn, leftIn, numberedOf, ringTurn, tiedOf, tieTurn, enteredOf, enterTurn, bondTurn, entryTurn, atomOf, turnOf, stepOf, walkTo, eventsOf, turnsOf}
 use Rattle.write.specs.Write.{pairWords}
 use Rattle.walk_laws.specs.Trek.{fresh, degrees}
 use Rattle.trip_graph.specs.Renumber.{Backed, Simple}
 use Rattle.trip_graph.specs.Steps.{Built}
 use Rattle.trip_graph.specs.Renumbered.{othersOf, parentEntry, doneOf, edgeOf, nodeOf, byWalk, firstAtoms, renumbered}
 use Rattle.trip_graph.specs.Marks.{Tetrahedral, bearsHydrogen, otherMark, toggled, oddIndex, backKind}
+use Rattle.trip_graph.proofs.Fair.{written-simple}
 use Rattle.trip_graph.proofs.Trip.{graph-trip}
 use Rattle.trip_text.specs.Steps.{retold}
 
@@ -41,12 +43,12 @@ abbrev walked : Walk
 walked = walkTo ring (turnsOf 3 6) (fresh 3 3 3 3 (replicate pairWords 0))
 
 not-refused : walked .at .refusal ≡ 0
-unfolding words.listOf words.wordsOf words.pairOf words.bracketPair words.loadAt words.loadOf words.plainOf words.bracketOf words.entryStored words.entryOfWords words.entryCoded kindOf codeOf reverseOf bracketInRange inRange invertBracket invertOf pool.opens pool.openNumber pool.slot pool.counterNext pool.counterOf pool.nextOf pool.openOf pool.closeOf pool.openOrClose pool.hitPair pool.hitOf kindOr sureKind kindIn bondIn isRefused isFixed turnedOr even saidAs scanIn judgedBack wayOf popsOf rootTurn leftIn numberedOf ringTurn enteredOf enterTurn bondTurn entryTurn atomOf turnOf stepOf walkTo turnsOf
+unfolding words.listOf words.wordsOf words.pairOf words.bracketPair words.loadAt words.loadOf words.plainOf words.bracketOf words.entryStored words.entryOfWords words.entryCoded kindOf codeOf reverseOf bracketInRange inRange invertBracket invertOf pool.opens pool.openNumber pool.slot pool.counterNext pool.counterOf pool.nextOf pool.openOf pool.closeOf pool.openOrClose pool.hitPair pool.hitOf kindOr sureKind kindIn bondIn isRefused isFixed turnedOr even saidAs scanIn judgedBack wayOf leading lastLeading tieOf popsOf rootTurn leftIn numberedOf ringTurn tiedOf tieTurn enteredOf enterTurn bondTurn entryTurn atomOf turnOf stepOf walkTo turnsOf
 not-refused = refl
 
 -- atom 1 comes back with its mark toggled and its bond to atom 0 first
 ring-renumbered : renumbered ring (byWalk walked) ≡ node carbon (edge Single (To 1) ∷ edge Up (To 2) ∷ []) ∷ node (marked 2) (edge Single (To 0) ∷ edge Single (To 2) ∷ []) ∷ node carbon (edge Single (To 1) ∷ edge Down (To 0) ∷ []) ∷ []
-unfolding words.listOf words.wordsOf words.pairOf words.bracketPair words.loadAt words.loadOf words.plainOf words.bracketOf words.entryStored words.entryOfWords words.entryCoded kindOf codeOf reverseOf bracketInRange inRange invertBracket invertOf pool.opens pool.openNumber pool.slot pool.counterNext pool.counterOf pool.nextOf pool.openOf pool.closeOf pool.openOrClose pool.hitPair pool.hitOf kindOr sureKind kindIn bondIn isRefused isFixed turnedOr even saidAs scanIn judgedBack wayOf popsOf rootTurn leftIn numberedOf ringTurn enteredOf enterTurn bondTurn entryTurn atomOf turnOf stepOf walkTo turnsOf othersOf parentEntry doneOf bearsHydrogen otherMark toggled oddIndex backKind edgeOf nodeOf firstAtoms renumbered
+unfolding words.listOf words.wordsOf words.pairOf words.bracketPair words.loadAt words.loadOf words.plainOf words.bracketOf words.entryStored words.entryOfWords words.entryCoded kindOf codeOf reverseOf bracketInRange inRange invertBracket invertOf pool.opens pool.openNumber pool.slot pool.counterNext pool.counterOf pool.nextOf pool.openOf pool.closeOf pool.openOrClose pool.hitPair pool.hitOf kindOr sureKind kindIn bondIn isRefused isFixed turnedOr even saidAs scanIn judgedBack wayOf leading lastLeading tieOf popsOf rootTurn leftIn numberedOf ringTurn tiedOf tieTurn enteredOf enterTurn bondTurn entryTurn atomOf turnOf stepOf walkTo turnsOf othersOf parentEntry doneOf bearsHydrogen otherMark toggled oddIndex backKind edgeOf nodeOf firstAtoms renumbered
 ring-renumbered = refl
 
 -- ---- the hypotheses
@@ -103,3 +105,7 @@ ring-built : Built (runS (startS 3 6) (retold (eventsOf ring (turnsOf 3 6) (fres
 ring-built =
     subst (λ (ns : List Node). Built (runS (startS 3 6) (retold (eventsOf ring (turnsOf 3 6) (fresh 3 3 3 3 (replicate pairWords 0))))) ns) ring-renumbered
     (graph-trip ring ring-simple ring-tetrahedral 3 3 3 3 (record { met = omega arith; back = omega arith; taken = omega arith }) (omega arith) 6 (omega (arith, ring-degrees)) not-refused 3 6 (omega arith) (omega (arith, ring-degrees)))
+
+-- and its walk alone says that it is simple
+ring-fair : Simple ring
+ring-fair = written-simple ring 3 3 3 3 (replicate pairWords 0) (record { met = omega arith; back = omega arith; taken = omega arith }) (omega arith) 6 (omega (arith, ring-degrees)) (omega arith) not-refused

@@ -12,8 +12,10 @@ pub mod State
 pub mod Turns
 pub mod Trip
 pub mod Refusals
+pub mod Fair
 pub mod Places
 pub mod Written
+pub mod Walked
 pub mod Tables
 pub mod ComesBack
 pub mod Bench

@@ -17,7 +17,7 @@ use Rattle.walk_entry.specs.declared.entry.Way.{Way}
 use Rattle.walk_entry.specs.Graph.{BondEntry, Graph, kindAt, degreeAt, bondOf}
 use Rattle.walk_entry.specs.Ways.{isFixed, even}
 use Rattle.walk.specs.declared.walker.Walker.{Walker}
-use Rattle.walk.specs.Walk.{Walk, Turn, quiet, withWalker, tookAt, leftIn, rootTurn, leaveOf, numberedOf, ringTurn, enteredOf, enterTurn, bondTurn, entryTurn, atomOf, turnOf, stepOf, walkTo}
+use Rattle.walk.specs.Walk.{Walk, Turn, quiet, withWalker, tookAt, leftIn, rootTurn, leaveOf, numberedOf, ringTurn, tiedOf, tieTurn, enteredOf, enterTurn, bondTurn, entryTurn, atomOf, turnOf, stepOf, walkTo}
 use Rattle.walk_laws.specs.Trek.{Room, fresh}
 use Rattle.feature.proofs.Cases.{by-test, both-first, clash}
 use Rattle.walk_laws.proofs.Moves.{turn-moves}
@@ -25,7 +25,7 @@ use Rattle.walk_laws.proofs.Sound.{Sound, sound-start, step-sound, up-within}
 use Rattle.trip_graph.specs.Renumber.{Simple, Known}
 use Rattle.trip_graph.specs.Marks.{Tetrahedral}
 use Rattle.trip_graph.proofs.Marks.{marks-serve}
-use Rattle.trip_graph.proofs.Ways.{way-is}
+use Rattle.trip_graph.proofs.Ways.{way-is, tie-is}
 
 -- none, an entry whose target is no atom, want of a ring number, or a mark that can't be turned
 pub data Only (g : Graph) (r : ℕ) : Type 0 where
@@ -75,12 +75,18 @@ module _ (g : Graph) (W : Simple g) (w : Walk) (dep : ℕ) (snd : Sound g w dep)
         (by-test (λ (y : Way). O (enteredOf g (tookAt w s0 i0) (e0 .kind) (e0 .to) y)) (both (isFixed (kindAt g (e0 .to))) (even (k .place)))
         (λ q. mark refl (e0 .to) ht (both-first _ _ q)) (λ q. none fine))
 
+    tie-only : e0 .to < g .size → O (tieTurn g (tookAt w s0 i0) (e0 .kind) s0 (e0 .to))
+    unfolding tieTurn tiedOf ringTurn
+    tie-only ht =
+        subst (λ (y : Way). O (tiedOf (tookAt w s0 i0) (e0 .kind) s0 (e0 .to) y)) (sym (tie-is g W s0 i0 (e0 .to) hs more ht refl (W .backed s0 i0 hs more)))
+        (given-only _ _)
+
     bond-only : O (bondTurn g (tookAt w s0 i0) s0 e0)
-    unfolding bondTurn ringTurn
+    unfolding bondTurn
     bond-only =
         by-test O (leb (g .size) (e0 .to)) (λ z. unknown refl s0 i0 hs more (leb-true (g .size) (e0 .to) z))
         (λ z. by-test O (eqb (e0 .to) s0) (λ y. absurd (W .apart s0 i0 hs more (eqb-true _ _ y)))
-        (λ y. by-test O (eqb (getD (w .met) (e0 .to) 0) 0) (λ x. enter-only (leb-false _ _ z)) (λ x. given-only _ _)))
+        (λ y. by-test O (eqb (getD (w .met) (e0 .to) 0) 0) (λ x. enter-only (leb-false _ _ z)) (λ x. tie-only (leb-false _ _ z))))
 
     entry-only : O (entryTurn g w s0 i0)
     unfolding entryTurn

@@ -1,5 +1,5 @@
--- What holds of the walk's tables at every turn of a walk over a simple graph: the order of the atoms met, the entries behind the
--- walk, and the way from the current atom up to its root.
+-- What holds of the walk's tables at every turn of a walk: the order of the atoms met, the entries behind the walk, and the way
+-- from the current atom up to its root.
 use borrow.Author.Tests.{ne-eqb, eqb-true}
 use mathlib.Core.Path.{_≡_, refl, sym, ap, ap₂, _∙_, subst, fun-ext}
 use mathlib.Core.Logic.{_≢_}
@@ -8,7 +8,7 @@ use mathlib.Core.Bool.{true, false}
 use Prim.Native.Nat.{ℕ, zero, suc, _+_, _-_, _≤_, _<_}
 use native.Mathlib.Omega.{arith}
 use native.Mathlib.Numerals.{add-one}
-use lib.ListN.{length, getD, set, length-append, length-set}
+use lib.ListN.{length, getD, set, length-append, length-set, length-replicate}
 use lib.Seq.{getD-set-same, getD-set-other}
 use lib.Dec.{eqb}
 use Rattle.feature.specs.Pick.{pick}
@@ -19,11 +19,13 @@ use Rattle.join_pool.specs.declared.Pool.{Pool}
 use Rattle.walk_entry.specs.Graph.{BondEntry, Graph, kindAt, degreeAt, bondIn, bondOf, entryTo}
 use Rattle.walk.specs.declared.walker.Walker.{Walker}
 use Rattle.walk.specs.Walk.{Walk, rootPassed, backAt, atEnd, ringSaid, withWalker, pooled, metAt, tookAt}
+use Rattle.table.proofs.Zeros.{zero-at}
+use Rattle.walk_laws.specs.Trek.{fresh}
 use Rattle.walk_laws.proofs.Moves.{parentOf}
 use Rattle.trip_graph.specs.Renumber.{Backed, Simple}
 use Rattle.trip_graph.specs.Renumbered.{doneOf, firstAtoms}
 use Rattle.trip_graph.specs.Marks.{backKind}
-use Rattle.trip_graph.proofs.Lists.{memb, idx, Nodup, by-bool, or-elim, idx-app, idx-new, nodup-snoc, memb-left, memb-new, memb-old, ne-of-memb, not-new, memb-cons, memb-there, memb-here}
+use Rattle.trip_graph.proofs.Lists.{memb, idx, Nodup, nil, by-bool, or-elim, idx-app, idx-new, nodup-snoc, memb-left, memb-new, memb-old, ne-of-memb, not-new, memb-cons, memb-there, memb-here}
 use Rattle.trip_graph.proofs.View.{hasT, push, push-same, push-other}
 use Rattle.trip_graph.proofs.Opens.{hasT-push}
 use Rattle.trip_graph.proofs.Entries.{done-step, done-pass, done-nothing, done-parent, done-fresh}
@@ -158,6 +160,39 @@ unfolding firstAtoms
 order-kept walked i v zero h = refl
 order-kept walked i v (suc n) h =
     ap₂ (λ (l : List ℕ) (x : ℕ). l ++ (x ∷ [])) (order-kept walked i v n (omega arith)) (getD-set-other walked i n v 0 (λ z. omega arith))
+
+-- ---- the beginning
+module _ (g : Graph) (lm lw lb lt : ℕ) (pairs : List ℕ) (wide : g .size ≤ lw) where
+  abbrev w0 : Walk
+  w0 = fresh lm lw lb lt pairs
+
+  done-start : (v : ℕ) → doneIn g (w0 .back) (w0 .taken) v ≡ []
+  unfolding doneIn
+  done-start v = rw (zero-at lb v, zero-at lt v) (done-nothing g v)
+
+  pub has-start : (v x : ℕ) → hasT x (doneIn g (w0 .back) (w0 .taken) v) ≡ false
+  unfolding hasT
+  has-start v x = rw (done-start v)
+
+  pub sta-start : Sta g w0 [] []
+  unfolding mark memb firstAtoms
+  sta-start = record {
+    nod = nil;
+    count = refl;
+    met = λ x. zero-at lm x;
+    order = refl;
+    wide = rw (length-replicate {A = ℕ} lw 0) wide;
+    small = λ x h. clash h refl;
+    unback = λ v h. zero-at lb v;
+    untaken = λ v h. zero-at lt v;
+    seen = λ v x h. clash h (has-start v x);
+    backs = λ v. rw (zero-at lb v) (omega arith);
+    takes = λ v. rw (zero-at lt v) (omega arith);
+    left = λ v m k. clash m refl;
+    held = λ v m. clash m refl;
+    line = λ q. clash q refl;
+    rest = λ q. refl;
+  }
 
 -- ---- the changes
 module _ {g : Graph} {w : Walk} {o fr : List ℕ} (S : Sta g w o fr) where

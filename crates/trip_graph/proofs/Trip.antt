@@ -7,10 +7,9 @@ use mathlib.Core.Option.{Option, none}
 use mathlib.Core.Bool.{Bool, true, false, not, _&&_}
 use Prim.Native.Nat.{ℕ, zero, suc, _-_, _≤_, _<_}
 use native.Mathlib.Omega.{arith}
-use lib.ListN.{length, getD, replicate, length-append, length-map, length-replicate, List·getD-append}
+use lib.ListN.{length, getD, replicate, length-append, length-map, List·getD-append}
 use lib.Seq.{getD-append-seam}
 use Rattle.feature.proofs.Cases.{by-eq, clash}
-use Rattle.table.proofs.Zeros.{zero-at}
 use Rattle.join_pool.specs.declared.Pool.{Pool}
 use Rattle.writer.specs.Line.{Event, Root, Extend, Join, Pop}
 use Rattle.builder_meaning.specs.Sketch.{To, Edge, Sketch, node, startS, runS, countOf, openHere, openIn, firstOpenS, ringsSay, saysS, finishS}
@@ -23,17 +22,17 @@ use Rattle.walk_laws.proofs.Sound.{Sound, sound-start, step-sound}
 use Rattle.walk_laws.proofs.Ended as walk-laws
 use Rattle.walk.proofs.Going.{walk-off, step-on}
 use Rattle.trip_graph.specs.Opened.{Pair, look, joinIn, Serves, dnil, RingsHaveText}
-use Rattle.trip_graph.specs.Renumber.{Simple, Known, Backed, Numbering}
+use Rattle.trip_graph.specs.Renumber.{Simple, Backed, Numbering}
 use Rattle.trip_graph.specs.Steps.{Built}
 use Rattle.trip_graph.specs.Renumbered.{entriesOf, edgeOf, nodeOf, Numbers, byWalk, firstAtoms, renumbered}
 use Rattle.trip_graph.specs.Marks.{Tetrahedral, backKind}
 use Rattle.trip_graph.proofs.Lists.{memb, idx, Nodup, nil, cons, same-refl, map-same, idx-lt, memb-here, memb-there}
 use Rattle.trip_graph.proofs.View.{hasT, tgt, encT, aim, view, enc-same, look-here, pair-this}
 use Rattle.trip_graph.proofs.Opens.{Pol, fnil, from-first, isSome, heldOf}
-use Rattle.trip_graph.proofs.Entries.{Behind, first, done-all, done-has, done-length, done-nothing, entries-length}
+use Rattle.trip_graph.proofs.Entries.{Behind, first, done-all, done-has, done-length, entries-length}
 use Rattle.trip_graph.proofs.Counts.{view-count-all}
 use Rattle.trip_graph.proofs.Follows.{idxs, run-app, told-app}
-use Rattle.trip_graph.proofs.State.{doneIn, kindBy, orderOf, mark, mark-in, Sta, is-met}
+use Rattle.trip_graph.proofs.State.{doneIn, kindBy, orderOf, mark-in, is-met, has-start, sta-start}
 use Rattle.trip_graph.proofs.Turns.{Inv, Result, goes, stops, one-turn}
 use Rattle.trip_graph.proofs.Pool.{Holds, pool-serves}
 use Rattle.trip_text.specs.Steps.{retold}
@@ -83,42 +82,14 @@ module _ (H : Pool → List ℕ → List Pair → Type 0) (Q : Serves H) (g : Gr
   abbrev w0 : Walk
   w0 = fresh lm lw lb lt (replicate pairWords 0)
 
-  done-start : (v : ℕ) → doneIn g (w0 .back) (w0 .taken) v ≡ []
-  unfolding doneIn
-  done-start v = rw (zero-at lb v, zero-at lt v) (done-nothing g v)
-
-  has-start : (v x : ℕ) → hasT x (doneIn g (w0 .back) (w0 .taken) v) ≡ false
-  unfolding hasT
-  has-start v x = rw (done-start v)
-
-  sta-start : Sta g w0 [] []
-  unfolding mark memb firstAtoms
-  sta-start = record {
-    nod = nil;
-    count = refl;
-    met = λ x. zero-at lm x;
-    order = refl;
-    wide = rw (length-replicate {A = ℕ} lw 0) wide;
-    small = λ x h. clash h refl;
-    unback = λ v h. zero-at lb v;
-    untaken = λ v h. zero-at lt v;
-    seen = λ v x h. clash h (has-start v x);
-    backs = λ v. rw (zero-at lb v) (omega arith);
-    takes = λ v. rw (zero-at lt v) (omega arith);
-    left = λ v m k. clash m refl;
-    held = λ v m. clash m refl;
-    line = λ q. clash q refl;
-    rest = λ q. refl;
-  }
-
   pub inv-start : (places slots : ℕ) → g .size ≤ places → degrees g (g .size) ≤ slots → Inv H g w0 (startS places slots)
   unfolding isSome look idxs joinIn
   inv-start places slots hp hs = record {
     order = [];
     frame = [];
     opened = [];
-    sta = sta-start;
-    pol = record { opn = λ a b. rw (has-start a b); good = dnil; froms = fnil };
+    sta = sta-start g lm lw lb lt (replicate pairWords 0) wide;
+    pol = record { opn = λ a b. rw (has-start g lm lw lb lt (replicate pairWords 0) wide a b); good = dnil; froms = fnil };
     hold = Q .start;
     bld = record {
       junk = [];
@@ -194,12 +165,6 @@ module _ (H : Pool → List ℕ → List Pair → Type 0) (g : Graph) (W : Simpl
   end-done : (v : ℕ) → memb v (I .order) ≡ true → doneIn g (w .back) (w .taken) v ≡ entriesOf g v (getD (w .back) v 0)
   unfolding doneIn
   end-done v m = rw (all-taken v m)
-
-  -- every entry is behind the walk, so every target was met
-  pub end-known : Known g
-  end-known a i ha hi =
-      let m : memb a (I .order) ≡ true = all-met a ha in
-      I .sta .small _ (I .sta .seen a (bondOf g a i .to) (rw (end-done a m) (done-has g a (getD (w .back) a 0) (degreeAt g a) i hi)))
 
   -- the entry at the other end is behind the walk too
   end-back : (v x : ℕ) → memb v (I .order) ≡ true → hasT x (doneIn g (w .back) (w .taken) v) ≡ true → hasT v (doneIn g (w .back) (w .taken) x) ≡ true
@@ -349,16 +314,6 @@ pub walk-numbered : (g : Graph) → Simple g → ((a : ℕ) → a < g .size → 
 walk-numbered g W T lm lw lb lt room wide m few fine =
     numbered g W T lm lw lb lt room wide m few fine (g .size) (degrees g (g .size)) (omega arith) (omega arith)
     (walked g W T lm lw lb lt room wide m few fine (g .size) (degrees g (g .size)) (omega arith) (omega arith))
-
--- No target is anything but an atom.
-pub walk-known : (g : Graph) → Simple g → ((a : ℕ) → a < g .size → Tetrahedral (kindAt g a))
-    → (lm lw lb lt : ℕ) → Room g lm lb lt → g .size ≤ lw
-    → (m : ℕ) → degrees g (g .size) ≤ m
-    → walkTo g (turnsOf (g .size) m) (fresh lm lw lb lt (replicate pairWords 0)) .at .refusal ≡ 0
-    → Known g
-walk-known g W T lm lw lb lt room wide m few fine =
-    end-known Holds g W (walkTo g (turnsOf (g .size) m) (fresh lm lw lb lt (replicate pairWords 0))) _
-    (invariant g W T lm lw lb lt room wide m few fine (g .size) (degrees g (g .size)) (omega arith) (omega arith)) (finished g W T lm lw lb lt room wide m few fine)
 
 -- There are as many entries as before,
 pub renumbered-count : (g : Graph) → Simple g → ((a : ℕ) → a < g .size → Tetrahedral (kindAt g a))

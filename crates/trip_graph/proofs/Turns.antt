@@ -25,7 +25,7 @@ use Rattle.walk_entry.specs.declared.entry.Way.{Way}
 use Rattle.walk_entry.specs.Graph.{BondEntry, Graph, kindAt, degreeAt, bondOf, entryTo}
 use Rattle.walk_entry.specs.Ways.{saidAs}
 use Rattle.walk.specs.declared.walker.Walker.{Walker}
-use Rattle.walk.specs.Walk.{Walk, Turn, turn, quiet, rootPassed, ringSaid, withWalker, pooled, metAt, tookAt, popsOf, popsThen, leftIn, rootTurn, leaveOf, numberedOf, ringTurn, enteredOf, enterTurn, bondTurn, entryTurn, atomOf, turnOf}
+use Rattle.walk.specs.Walk.{Walk, Turn, turn, quiet, rootPassed, ringSaid, withWalker, pooled, metAt, tookAt, popsOf, popsThen, leftIn, rootTurn, leaveOf, numberedOf, ringTurn, tiedOf, tieTurn, enteredOf, enterTurn, bondTurn, entryTurn, atomOf, turnOf}
 use Rattle.walk_laws.specs.Trek.{degrees}
 use Rattle.feature.proofs.Cases.{by-test}
 use Rattle.walk_laws.proofs.Sound.{Sound}
@@ -38,7 +38,7 @@ use Rattle.trip_graph.proofs.View.{hasT, kindT, NodupB, view, push}
 use Rattle.trip_graph.proofs.Opens.{Pol, shut, opened-has, pol-extend, pol-open, pol-close, froms-snoc}
 use Rattle.trip_graph.proofs.Entries.{done-length, done-nodup, reverse-kind}
 use Rattle.trip_graph.proofs.Marks.{marks-serve}
-use Rattle.trip_graph.proofs.Ways.{way-enters}
+use Rattle.trip_graph.proofs.Ways.{way-enters, tie-is}
 use Rattle.trip_graph.proofs.Counts.{view-count}
 use Rattle.trip_graph.proofs.Follows.{Bld, Entry, run-one, run-pops, bld-pops, bld-left, bld-ended, bld-root, bld-extend, bld-open, bld-close}
 use Rattle.trip_graph.proofs.State.{doneIn, kindBy, Sta, line-head, line-above, is-met, is-new, here-held, done-new, took-done, pass-done, root-done, sta-skip, sta-ends, sta-leaves, sta-pass, entry, sta-joins, sta-root, sta-enters, entered-done}
@@ -376,6 +376,12 @@ module _ (H : Pool → List ℕ → List Pair → Type 0) (Q : Serves H) (g : Gr
             (λ x l. let c = Q .closes (w .at .pool) (w .pairs) (I .opened) s0 (e0 .to) x (I .hold) (I .pol .good) (E0 .apart) l l′ in
             subst (λ (h : Hits). Rings h) (sym (c .is)) (close-goes x l (c .after) (c .words) (c .small) (c .holds)))
 
+        -- both ends hold one entry for the other
+        tie-turn : e0 .to < g .size → R (tieTurn g w1 (e0 .kind) s0 (e0 .to))
+        unfolding tieTurn tiedOf
+        tie-turn ht =
+            subst (λ (y : Way). R (tiedOf w1 (e0 .kind) s0 (e0 .to) y)) (sym (tie-is g W s0 i0 (e0 .to) hs more ht refl (W .backed s0 i0 hs more))) ring-turn
+
       bond-turn : R (bondTurn g w1 s0 e0)
       unfolding bondTurn
       bond-turn =
@@ -383,7 +389,7 @@ module _ (H : Pool → List ℕ → List Pair → Type 0) (Q : Serves H) (g : Gr
           (λ z. by-test R (eqb (e0 .to) s0) (λ y. absurd (W .apart s0 i0 hs more (eqb-true _ _ y)))
           (λ y. by-test R (eqb (getD (w .met) (e0 .to) 0) 0)
           (λ x. enter-turn (eqb-true _ _ x) (leb-false _ _ z))
-          (λ x. ring-turn (is-met (I .sta) (e0 .to) (eqb-false _ _ x)))))
+          (λ x. tie-turn (is-met (I .sta) (e0 .to) (eqb-false _ _ x)) (leb-false _ _ z))))
 
     entry-turn : R (entryTurn g w s0 i0)
     unfolding entryTurn

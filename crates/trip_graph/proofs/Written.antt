@@ -18,17 +18,18 @@ use Rattle.table_check.proofs.Records.{bad-most}
 use Rattle.write.specs.declared.answer.Written.{Written}
 use Rattle.write.specs.declared.answer.Written.the-variants.{Done, AtomRoom, BondRoom, OutRoom, BadTable}
 use Rattle.table.specs.Zeros.{zeros}
-use Rattle.write.specs.Write.{graphOf, walkIn, saidIn, walkOf, walkEvents, lineSaid, writeRefusal, atomPlaces, bondSlots, WriteLeft, writeLeaves, lineRefusing, putLine, lineConcluded, graphWritten, writeOf}
+use Rattle.write.specs.Write.{pairWords, graphOf, walkIn, saidIn, walkOf, walkEvents, lineSaid, writeRefusal, atomPlaces, bondSlots, WriteLeft, writeLeaves, lineRefusing, putLine, lineConcluded, graphWritten, writeOf}
 use Rattle.walk_laws.specs.Trek.{Room, degrees}
 use Rattle.feature.proofs.Cases.{by-test, impossible}
 use Rattle.write.proofs.Said.{few-atoms, few-bonds}
 use Rattle.walk_laws.proofs.Judged.{judged-degrees}
-use Rattle.trip_graph.specs.Renumber.{Simple, Known, Numbering}
+use Rattle.trip_graph.specs.Renumber.{Simple, Numbering}
 use Rattle.trip_graph.specs.Steps.{Built}
 use Rattle.trip_graph.specs.Renumbered.{byWalk, renumbered}
 use Rattle.trip_graph.specs.Marks.{Tetrahedral}
 use Rattle.trip_graph.specs.Opened.{RingsHaveText}
-use Rattle.trip_graph.proofs.Trip.{graph-trip, walk-numbers, walk-numbered, walk-known, renumbered-count}
+use Rattle.trip_graph.proofs.Trip.{graph-trip, walk-numbers, walk-numbered, renumbered-count}
+use Rattle.trip_graph.proofs.Fair.{written-simple}
 use Rattle.trip_graph.proofs.Places.{places-free}
 use Rattle.read_line.specs.Steps.{unplaced}
 use Rattle.trip_text.specs.Steps.{retold}
@@ -52,10 +53,6 @@ module _ (atoms bonds : List ℕ) (n m : ℕ) (few : n ≤ atomLimit) (good : ba
   pub table-numbers : Numbering (graphOf n atoms bonds) (byWalk (walkOf atoms n bonds m))
   unfolding walkIn
   table-numbers = walk-numbers (graphOf n atoms bonds) W T atomLimit atomLimit atomLimit atomLimit table-room few m (omega (arith, entries)) fine
-
-  pub table-known : Known (graphOf n atoms bonds)
-  unfolding walkIn
-  table-known = walk-known (graphOf n atoms bonds) W T atomLimit atomLimit atomLimit atomLimit table-room few m (omega (arith, entries)) fine
 
   pub table-numbered : RingsHaveText (walkEvents atoms n bonds m)
   unfolding walkIn saidIn
@@ -142,3 +139,13 @@ pub written-trip : (room : ℕ) (atoms : List ℕ) (n : ℕ) (bonds : List ℕ) 
 written-trip room atoms n bonds m len out W T e places slots hp hs es h =
     let d = was-done room atoms n bonds m len out e in
     (placed-trip atoms bonds n m (d .few) (d .good) W T (d .fine) places slots hp hs es h, table-numbers atoms bonds n m (d .few) (d .good) W T (d .fine))
+
+-- ---- what was written is simple
+-- A graph with at least one atom that was written is simple and held at both ends as reverses.
+pub done-simple : (room : ℕ) (atoms : List ℕ) (n : ℕ) (bonds : List ℕ) (m len : ℕ) (out : List ℕ) → 1 ≤ n
+    → writeOf room atoms n bonds m ≡ writeLeaves (Done len) out → Simple (graphOf n atoms bonds)
+unfolding walkIn
+done-simple room atoms n bonds m len out some e =
+    let d = was-done room atoms n bonds m len out e in
+    written-simple (graphOf n atoms bonds) atomLimit atomLimit atomLimit atomLimit (zeros pairWords) (record { met = d .few; back = d .few; taken = d .few }) (d .few) m
+    (omega (arith, judged-degrees n m atoms bonds (graphOf n atoms bonds .first) (d .good))) some (d .fine)

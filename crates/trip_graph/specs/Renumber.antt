@@ -1,4 +1,4 @@
--- What is asked of a graph whose walk is told to a builder, what the builder is told, and what it makes of it.
+-- What a graph is whose walk comes to its end, and what a builder that is told such a walk makes of it.
 use Prim.Native.Nat.{ℕ, _≤_, _<_}
 use mathlib.Core.Path.{_≡_}
 use mathlib.Core.Logic.{_≢_}
@@ -9,7 +9,7 @@ use Rattle.walk_entry.specs.Graph.{BondEntry, Graph, kindAt, degreeAt, bondOf, 
 use Rattle.trip_graph.specs.Marks.{backKind}
 use Rattle.trip_graph.specs.Renumbered.{Numbers, entriesOf}
 
--- ---- what is asked of a graph
+-- ---- graphs that can be walked
 -- an entry of t that leads back to a, and is the reverse of the entry e
 pub record Backed (g : Graph) (a t : ℕ) (e : BondEntry) : Type 0 where
   pub place : ℕ
@@ -24,7 +24,7 @@ pub record Simple (g : Graph) : Type 0 where
   pub once : (a i j : ℕ) → a < g .size → i < degreeAt g a → j < degreeAt g a → bondOf g a i .to ≡ bondOf g a j .to → i ≡ j
   pub backed : (a i : ℕ) → a < g .size → i < degreeAt g a → Backed g a (bondOf g a i .to) (bondOf g a i)
 
--- every target is an atom: no premise where a walk was not refused, for it would have met a target that is none (5)
+-- every target is an atom; a walk is refused with 5 where it meets one that is none
 abbrev pub Known : Graph → Type 0
 Known g = (a i : ℕ) → a < g .size → i < degreeAt g a → bondOf g a i .to < g .size
 

@@ -15,8 +15,9 @@ use Rattle.walk_entry.specs.declared.entry.Way.{Way}
 use Rattle.walk_entry.specs.declared.entry.Way.the-variants.{Enters, Refuses}
 use Rattle.walk_entry.specs.Graph.{BondEntry, Graph, kindAt, degreeAt, bondOf}
 use Rattle.walk_entry.specs.Ways.{saidAs, wayOf}
+use Rattle.walk_entry.specs.Ties.{tieOf}
 use Rattle.walk.specs.declared.walker.Walker.{Walker}
-use Rattle.walk.specs.Walk.{Walk, walk, refusedAs, rootPassed, currentAt, metAt, tookAt, popsOf, leftIn, rootTurn, ringTurn, enteredOf, enterTurn, bondTurn, entryTurn, atomOf, turnOf}
+use Rattle.walk.specs.Walk.{Walk, walk, refusedAs, rootPassed, currentAt, metAt, tookAt, popsOf, leftIn, rootTurn, ringTurn, tiedOf, tieTurn, enteredOf, enterTurn, bondTurn, entryTurn, atomOf, turnOf}
 use Rattle.walk.specs.Steps.{Did}
 use Rattle.walk.proofs.Moves.{did-as, did-quiet, say-one, say-then}
 
@@ -52,6 +53,22 @@ module _ (g : Graph) (z r : Walker) (met walked back taken pairs : List ℕ) (k 
         after = marked-as z z r met walked back met′ walked′ back′ taken pairs t b m;
         said = say-then line popped said (z .pend) (Extend k (saidAs (kindAt g t) b)) f (i ∙ ap (λ (x : AtomKind). sayT popped (Extend k x)) (q ∙ ap (λ (x : AtomKind). saidAs x b) d));
       })
+
+-- ---- a bond to an atom met before
+module _ (g : Graph) (z : Walker) (met walked back taken pairs : List ℕ) (k : BondKind) (s t : ℕ) (v : Way) (way : v ≡ tieOf g k s t) where
+  tie-as : (x : Way) → v ≡ x → tieTurn g (walk z met walked back taken pairs) k s t ≡ tiedOf (walk z met walked back taken pairs) k s t x
+  unfolding tieTurn
+  tie-as x e = ap (λ (y : Way). tiedOf (walk z met walked back taken pairs) k s t y) (sym way ∙ e)
+
+  pub tie-refused : (line : Spoken) (r : Walker) (n a b : ℕ) → v ≡ Refuses n a b → r ≡ refusedAs z n a b → Did (tieTurn g (walk z met walked back taken pairs) k s t) (walk r met walked back taken pairs) line line
+  unfolding tiedOf
+  tie-refused line r n a b e f =
+      did-as (tie-as (Refuses n a b) e)
+      (did-quiet (walk (refusedAs z n a b) met walked back taken pairs) _ line (ap (λ (x : Walker). walk x met walked back taken pairs) f))
+
+  pub tie-ring : (w : Walk) (line said : Spoken) (b : ℕ) → v ≡ Enters b → Did (ringTurn (walk z met walked back taken pairs) k s t) w line said → Did (tieTurn g (walk z met walked back taken pairs) k s t) w line said
+  unfolding tiedOf
+  tie-ring w line said b e d = did-as (tie-as (Enters b) e) d
 
 -- ---- the next root
 module _ (g : Graph) (z : Walker) (met walked back taken pairs : List ℕ) where
@@ -94,7 +111,7 @@ module _ (g : Graph) (z : Walker) (met walked back taken pairs : List ℕ) (s : 
   bond-new w line said m h e f d i =
       did-as (simp (lt-leb (g .size) (b .to) h, ne-eqb (b .to) s e, eq-eqb (getD met (b .to) 0) 0 (sym f ∙ d))) i
 
-  pub bond-met : (w : Walk) (line said : Spoken) (m : ℕ) → b .to < g .size → b .to ≢ s → m ≡ getD met (b .to) 0 → m ≢ 0 → Did (ringTurn (walk z met walked back taken pairs) (b .kind) s (b .to)) w line said → Did (bondTurn g (walk z met walked back taken pairs) s b) w line said
+  pub bond-met : (w : Walk) (line said : Spoken) (m : ℕ) → b .to < g .size → b .to ≢ s → m ≡ getD met (b .to) 0 → m ≢ 0 → Did (tieTurn g (walk z met walked back taken pairs) (b .kind) s (b .to)) w line said → Did (bondTurn g (walk z met walked back taken pairs) s b) w line said
   unfolding bondTurn
   bond-met w line said m h e f d i =
       did-as (simp (lt-leb (g .size) (b .to) h, ne-eqb (b .to) s e, ne-eqb (getD met (b .to) 0) 0 (λ q. d (f ∙ q)))) i

@@ -1,9 +1,9 @@
 -- The walk: roots in number order, bonds in table order, depth first.
 --
 -- At a bond of the current atom: 5 if the target is none of the atoms, 6 if it is the source itself. If the target is
--- new, `Ways` says whether it can be entered: 10, 8, 7 and 9. If it was met before, a ring number is asked for and nothing is
--- compared; 11 if there is none left. Atoms that were left since the last event are popped before the next one; those left at
--- the end of a component never are.
+-- new, `Ways` says whether it can be entered: 10, 8, 7 and 9. If it was met before, `Ways` says whether each of the two holds
+-- one entry for the other, of reversed kind: 7, 8 and 9; then a ring number is asked for, 11 if there is none left. Atoms that
+-- were left since the last event are popped before the next one; those left at the end of a component never are.
 use Prim.Native.Nat.{ℕ, zero, suc, _+_, _-_, _*_}
 use mathlib.Core.List.{List, [], _∷_, _++_}
 use mathlib.Core.Bool.{Bool, true, false}
@@ -22,6 +22,7 @@ use Rattle.walk_entry.specs.declared.entry.Way.{Way}
 use Rattle.walk_entry.specs.declared.entry.Way.the-variants.{Enters, Refuses}
 use Rattle.walk_entry.specs.Graph.{BondEntry, Graph, kindAt, degreeAt, bondIn, bondOf}
 use Rattle.walk_entry.specs.Ways.{saidAs, wayOf}
+use Rattle.walk_entry.specs.Ties.{tieOf}
 use Rattle.walk.specs.declared.walker.Walker.{Walker}
 use Rattle.walk.specs.declared.walker.Numbered.{Numbered}
 
@@ -158,6 +159,14 @@ unfoldable pub ringTurn : Walk → BondKind → ℕ → ℕ → Turn
 ringTurn w k s t =
     numberedOf w k s t (hitOf (w .at .pool) (w .pairs) s t .answer) (hitOf (w .at .pool) (w .pairs) s t .left)
 
+-- once both ends were compared
+unfoldable pub tiedOf : Walk → BondKind → ℕ → ℕ → Way → Turn
+tiedOf w k s t (Refuses r a b) = refuseTurn w r a b
+tiedOf w k s t (Enters b) = ringTurn w k s t
+
+unfoldable pub tieTurn : Graph → Walk → BondKind → ℕ → ℕ → Turn
+tieTurn g w k s t = tiedOf w k s t (tieOf g k s t)
+
 unfoldable pub enteredOf : Graph → Walk → BondKind → ℕ → Way → Turn
 enteredOf g w k t (Refuses r a b) = refuseTurn w r a b
 enteredOf g w k t (Enters b) =
@@ -172,7 +181,7 @@ unfoldable pub bondTurn : Graph → Walk → ℕ → BondEntry → Turn
 bondTurn g w s b =
     pick (leb (g .size) (b .to)) (refuseTurn w unknownTarget s (b .to))
     (pick (eqb (b .to) s) (refuseTurn w loop s 0)
-    (pick (eqb (getD (w .met) (b .to) 0) 0) (enterTurn g w (b .kind) s (b .to)) (ringTurn w (b .kind) s (b .to))))
+    (pick (eqb (getD (w .met) (b .to) 0) 0) (enterTurn g w (b .kind) s (b .to)) (tieTurn g w (b .kind) s (b .to))))
 
 -- the entry i of the atom a, but for the one by which a was reached
 unfoldable pub entryTurn : Graph → Walk → ℕ → ℕ → Turn

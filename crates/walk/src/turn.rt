@@ -7,7 +7,7 @@ ghost use lib.ListN.{set};
 ghost use Rattle.writer.specs.Tables.{spoken, sayAll, far};
 ghost use Rattle.walk_entry.specs.Graph.{graph, entryTo};
 ghost use Rattle.writer.specs.Steps.{LineNear, LineGrows};
-ghost use Rattle.walk.specs.Walk.{walk, currentAt, popsOf, rootTurn, leftIn, ringTurn, enterTurn, bondTurn, atomOf, turnOf};
+ghost use Rattle.walk.specs.Walk.{walk, currentAt, popsOf, rootTurn, leftIn, ringTurn, tieTurn, enterTurn, bondTurn, atomOf, turnOf};
 ghost use Rattle.walk.specs.Steps.{Did, TurnNear, TurnOnward, TurnGrows};
 use crate::walker::Walker;
 use desk_numbers::LOOP;
@@ -25,6 +25,7 @@ use walk_entry::graph::degree_at;
 use walk_entry::graph::entry_at;
 use walk_entry::graph::kind_at;
 use walk_entry::graph::target_at;
+use walk_entry::tie::find_tie;
 use writer::Writer;
 use writer::say::say_extend;
 use writer::say::say_join;
@@ -124,7 +125,7 @@ fn leave(bonds: &[u32], first: &[u32], back: &[u32], walker: Walker, a: u32) -> 
     walker.leave(target_at(bonds, first, a, b - 1))
 }
 
-// A bond to an atom met before: a ring number.
+// A ring number for a bond between two atoms that were met.
 fn ring(
     pairs: &mut [u32],
     starts: &mut [u32],
@@ -158,6 +159,38 @@ fn ring(
                 line: said,
             }
         }
+    }
+}
+
+// A bond to an atom met before: both ends are compared first.
+fn tie(
+    atoms: &[u32],
+    bonds: &[u32],
+    first: &[u32],
+    pairs: &mut [u32],
+    starts: &mut [u32],
+    out: &mut [u8],
+    walker: Walker,
+    line: Writer,
+    k: BondKind,
+    s: u32,
+    t: u32,
+) -> Turned
+    requires { ⌜ TurnNear walker line ⌝ }
+    ensures { λ r. ⌜ ((n : ℕ) (met walked back taken : List ℕ) →
+        Did
+        (tieTurn (graph n (now (atoms .entry)) (now (bonds .entry)) (now (first .entry)))
+        (walk walker met walked back taken (now (pairs .entry))) k s t)
+        (walk (r .walker) met walked back taken (now (pairs .exit))) (spoken line (now (out .entry)) (now (starts .entry)))
+        (spoken (r .line) (now (out .exit)) (now (starts .exit)))) ⌝ }
+    ensures { λ r. ⌜ TurnGrows walker (r .walker) line (r .line) ⌝ }
+{
+    match find_tie(atoms, bonds, first, k, s, t) {
+        Way::Refuses(number, a, b) => Turned {
+            walker: walker.refused(number, a, b),
+            line,
+        },
+        Way::Enters(_) => ring(pairs, starts, out, walker, line, k, s, t),
     }
 }
 
@@ -259,7 +292,19 @@ fn take_bond(
             t,
         );
     }
-    ring(pairs, starts, out, walker, line, k, s, t)
+    tie(
+        atoms,
+        bonds,
+        first,
+        pairs,
+        starts,
+        out,
+        walker,
+        line,
+        k,
+        s,
+        t,
+    )
 }
 
 // The current atom: its next entry, but for the one by which it was reached, or the way back.

@@ -1,2 +1,4 @@
 pub mod Graph
 pub mod Ways
+pub mod Ties
+pub mod Steps

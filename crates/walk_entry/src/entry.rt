@@ -84,7 +84,7 @@ fn is_stuck(fixed: bool, index: u32) -> bool
 }
 
 // The entries of the atom t from the last, of which there are n.
-fn scan_back(bonds: &[u32], first: &[u32], t: u32, s: u32, fixed: bool, n: u32) -> Back
+pub fn scan_back(bonds: &[u32], first: &[u32], t: u32, s: u32, fixed: bool, n: u32) -> Back
     ensures { λ r. ⌜ r ≡ scanIn (now (bonds .entry)) (now (first .entry)) t s fixed n 0 ⌝ }
 {
     let mut back: u32 = 0;

@@ -10,4 +10,5 @@ pub mod Ended
 pub mod Judged
 pub mod Longer
 pub mod PlainLines
+pub mod RingLines
 pub mod Plain

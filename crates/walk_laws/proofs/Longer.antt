@@ -1,7 +1,7 @@
 -- The lengths of a walk's tables do not matter: with more room than the atoms need, each turn says the same, and leaves the same
 -- tables with zeros after them. Nor does the room for more pieces of the line than there are atoms. Assumes nothing.
 use Prim.Native.Nat.{ℕ, zero, suc, _+_, _-_, _*_, _≤_, _<_}
-use mathlib.Core.Path.{_≡_, refl, sym, ap, _∙_, subst}
+use mathlib.Core.Path.{_≡_, refl, sym, ap, _∙_, subst, ap₂}
 use mathlib.Core.List.{List, [], _∷_}
 use mathlib.Core.Bool.{Bool, true, false}
 use native.Mathlib.Omega.{arith}
@@ -21,8 +21,11 @@ use Rattle.walk_entry.specs.declared.entry.Way.the-variants.{Enters, Refuses}
 use Rattle.walk_entry.specs.Graph.{BondEntry, Graph, entryAt, bondIn, bondOf, kindAt, degreeAt}
 use Rattle.table.specs.Records.{bondWords}
 use Rattle.walk_entry.specs.Ways.{saidAs, scanIn, scanOf, judgedBack, wayOf}
+use Rattle.walk_entry.specs.Ties.{tieOf}
+use Rattle.walk_entry.specs.Steps.{scannedTo, isTwice, tiedBy}
+use Rattle.walk_entry.proofs.Ties.{tie-scans}
 use Rattle.walk.specs.declared.walker.Walker.{Walker}
-use Rattle.walk.specs.Walk.{Walk, Turn, turn, quiet, rootPassed, withWalker, metAt, tookAt, popsThen, leftIn, rootTurn, leaveOf, numberedOf, ringTurn, enteredOf, enterTurn, bondTurn, entryTurn, atomOf, turnOf, stepOf, walkTo, eventsOf}
+use Rattle.walk.specs.Walk.{Walk, Turn, turn, quiet, rootPassed, withWalker, metAt, tookAt, popsThen, leftIn, rootTurn, leaveOf, numberedOf, ringTurn, tiedOf, tieTurn, enteredOf, enterTurn, bondTurn, entryTurn, atomOf, turnOf, stepOf, walkTo, eventsOf}
 use Rattle.walk_laws.specs.Trek.{Room, fresh, Accepts, AllAccepted, leastWalk}
 use Rattle.walk_laws.specs.Steps.{longer, longerGraph, longerWalk, Alike, Lengths, AnyLength, ExactWalk}
 use Rattle.feature.proofs.Cases.{by-test}
@@ -65,6 +68,19 @@ unfolding wayOf
 way-longer j g k s t =
     judged-longer j g k s t (scanOf (longerGraph j g) t s)
     ∙ ap (judgedBack g k s t) (scan-longer j (g .bonds) (g .first) t s _ (degreeAt g t) 0)
+
+tied-longer : (j : ℕ) (g : Graph) (k : BondKind) (s t : ℕ) (q : Bool) (x : Back) → tiedBy (longerGraph j g) k s t q x ≡ tiedBy g k s t q x
+unfolding tiedBy
+tied-longer j g k s t q Fixed = refl
+tied-longer j g k s t q Twice = refl
+tied-longer j g k s t q (Found b) = rw (bond-longer j (g .bonds) (g .first) t (b - 1)) refl
+
+tie-longer : (j : ℕ) (g : Graph) (k : BondKind) (s t : ℕ) → tieOf (longerGraph j g) k s t ≡ tieOf g k s t
+tie-longer j g k s t =
+    tie-scans (longerGraph j g) k s t
+    ∙ tied-longer j g k s t (isTwice (scannedTo (longerGraph j g) s t)) (scannedTo (longerGraph j g) t s)
+    ∙ ap₂ (λ (x y : Back). tiedBy g k s t (isTwice x) y) (scan-longer j (g .bonds) (g .first) s t _ (degreeAt g s) 0) (scan-longer j (g .bonds) (g .first) t s _ (degreeAt g t) 0)
+    ∙ sym (tie-scans g k s t)
 
 -- ---- one turn
 -- what a turn needs of the tables: room for every atom, and for the next number in walk order where an atom is not met
@@ -136,6 +152,15 @@ module _ (g : Graph) (lf lm lw lb lt : ℕ) where
     ring-long k s t =
         given-long k s t (hitOf (w .at .pool) (w .pairs) s t .answer) (hitOf (w .at .pool) (w .pairs) s t .left)
 
+    tied-long : (k : BondKind) (s t : ℕ) (x : Way) → Later (tiedOf (long w) k s t x) (tiedOf w k s t x)
+    unfolding tiedOf
+    tied-long k s t (Refuses r a b) = record { is = refl }
+    tied-long k s t (Enters b) = ring-long k s t
+
+    tie-long : (k : BondKind) (s t : ℕ) → Later (tieTurn wide (long w) k s t) (tieTurn g w k s t)
+    unfolding tieTurn
+    tie-long k s t = rw (tie-longer lf g k s t) (tied-long k s t (tieOf g k s t))
+
     way-long : (k : BondKind) (t : ℕ) → t < g .size → getD (w .met) t 0 ≡ 0 → (x : Way) → Later (enteredOf wide (long w) k t x) (enteredOf g w k t x)
     unfolding enteredOf
     way-long k t h m (Refuses r a b) = record { is = refl }
@@ -153,7 +178,7 @@ module _ (g : Graph) (lf lm lw lb lt : ℕ) where
         (λ q. chosen (eqb (b .to) s) (eqb (b .to) s) refl (λ z. record { is = refl })
         (λ z. chosen (eqb (getD (longer lm (w .met)) (b .to) 0) 0) (eqb (getD (w .met) (b .to) 0) 0) (ap (λ (x : ℕ). eqb x 0) (getD-longer lm (w .met) (b .to)))
         (λ y. enter-long (b .kind) s (b .to) (leb-false _ _ q) (eqb-true _ _ y))
-        (λ y. ring-long (b .kind) s (b .to))))
+        (λ y. tie-long (b .kind) s (b .to))))
 
   -- an entry taken leaves as much room
   took-enough : (w : Walk) → Enough g w → (a i : ℕ) → Enough g (tookAt w a i)

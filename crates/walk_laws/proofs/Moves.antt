@@ -24,7 +24,7 @@ use Rattle.walk_entry.specs.declared.entry.Way.the-variants.{Enters, Refuses}
 use Rattle.walk_entry.specs.Graph.{BondEntry, Graph, degreeAt, bondIn, bondOf}
 use Rattle.walk_entry.specs.Ways.{even, scanIn, scanOf, judgedBack, wayOf}
 use Rattle.walk.specs.declared.walker.Walker.{Walker}
-use Rattle.walk.specs.Walk.{Walk, Turn, turn, quiet, refuseTurn, rootPassed, backAt, atEnd, ringSaid, withWalker, pooled, metAt, tookAt, popsThen, leftIn, rootTurn, leaveOf, numberedOf, ringTurn, enteredOf, enterTurn, bondTurn, entryTurn, atomOf, turnOf}
+use Rattle.walk.specs.Walk.{Walk, Turn, turn, quiet, refuseTurn, rootPassed, backAt, atEnd, ringSaid, withWalker, pooled, metAt, tookAt, popsThen, leftIn, rootTurn, leaveOf, numberedOf, ringTurn, tiedOf, tieTurn, enteredOf, enterTurn, bondTurn, entryTurn, atomOf, turnOf}
 
 -- how many entries of the current atom were taken
 abbrev pub takenOf : Walk → ℕ
@@ -123,14 +123,19 @@ module _ (g : Graph) (w : Walk) (d : ℕ) where
     way-moves k t h m (Refuses r a b) e = (d, refuses s more (w .pairs) r a b)
     way-moves k t h m (Enters b) e = (suc d, enters s more t b h m (e .0) (e .1) k _)
 
+    tied-moves : (k : BondKind) (t : ℕ) (x : Way) → Moves (tiedOf (tookOne w) k (w .at .here) t x)
+    unfolding tiedOf ringTurn
+    tied-moves k t (Refuses r a b) = (d, refuses s more (w .pairs) r a b)
+    tied-moves k t (Enters b) = given-moves k t _ _
+
     bond-moves : (b : BondEntry) → Moves (bondTurn g (tookOne w) (w .at .here) b)
-    unfolding bondTurn enterTurn ringTurn
+    unfolding bondTurn enterTurn tieTurn
     bond-moves b =
         by-test Moves (leb (g .size) (b .to)) (λ q. (d, refuses s more (w .pairs) _ _ _))
         (λ q. by-test Moves (eqb (b .to) (w .at .here)) (λ z. (d, refuses s more (w .pairs) _ _ _))
         (λ z. by-test Moves (eqb (getD (w .met) (b .to) 0) 0)
         (λ y. way-moves (b .kind) (b .to) (leb-false _ _ q) (eqb-true _ _ y) _ (way-back g (b .kind) (w .at .here) (b .to)))
-        (λ y. given-moves (b .kind) (b .to) _ _)))
+        (λ y. tied-moves (b .kind) (b .to) _)))
 
     entry-moves : Moves (entryTurn g w (w .at .here) (takenOf w))
     unfolding entryTurn

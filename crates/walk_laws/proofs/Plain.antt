@@ -11,7 +11,7 @@ use lib.Seq.{getD-set-same, getD-set-other, take-suc-set, take-all}
 use lib.Dec.{ltb, leb, eqb}
 use borrow.Author.Tests.{eqb-true, eqb-false, leb-true, leb-false, ne-eqb, eq-eqb}
 use Rattle.feature.proofs.Cases.{by-test, by-eq}
-use Rattle.feature.specs.Pick.{pick}
+use Rattle.feature.specs.Pick.{pick, either}
 use Rattle.feature.specs.Bonds.{sameKind, reverseOf}
 use Rattle.feature.specs.declared.bond_kind.BondKind.{BondKind}
 use Rattle.table.proofs.Zeros.{zero-at}
@@ -27,10 +27,11 @@ use Rattle.walk_entry.specs.declared.entry.Way.{Way}
 use Rattle.walk_entry.specs.declared.entry.Way.the-variants.{Enters, Refuses}
 use Rattle.walk_entry.specs.Graph.{BondEntry, Graph, kindAt, degreeAt, bondIn, bondOf}
 use Rattle.walk_entry.specs.Ways.{saidAs, judgedBack, scanOf, wayOf}
+use Rattle.walk_entry.specs.Ties.{countTo, placeTo, tieOf}
 use Rattle.walk.specs.declared.walker.Walker.{Walker}
-use Rattle.walk.specs.Walk.{Walk, Turn, turn, quiet, refuseTurn, rootPassed, backAt, atEnd, withWalker, metAt, tookAt, pooled, popsThen, leftIn, rootTurn, leaveOf, numberedOf, ringTurn, enteredOf, enterTurn, bondTurn, entryTurn, atomOf, turnOf, stepOf, walkTo, eventsOf, turnsOf}
+use Rattle.walk.specs.Walk.{Walk, Turn, turn, quiet, refuseTurn, rootPassed, backAt, atEnd, withWalker, metAt, tookAt, pooled, popsThen, leftIn, rootTurn, leaveOf, numberedOf, ringTurn, tiedOf, tieTurn, enteredOf, enterTurn, bondTurn, entryTurn, atomOf, turnOf, stepOf, walkTo, eventsOf, turnsOf}
 use Rattle.walk_laws.specs.Trek.{fresh, degrees, Finished, leastWalk, leastSaid}
-use Rattle.walk_laws.specs.Plain.{Trail, Outcome, Goes, Refused, Visit, andThen, numberFrom, numberIn, meets, leaves, joins, rings, enters, follows, entriesFrom, visitOf, rootsFrom, startTrail, plainWalk}
+use Rattle.walk_laws.specs.Plain.{Trail, Outcome, Goes, Refused, Visit, andThen, numberFrom, numberIn, meets, leaves, joins, rings, ties, enters, follows, entriesFrom, visitOf, rootsFrom, startTrail, plainWalk}
 use Rattle.walk_laws.specs.OneWalk.{trailOf, refusalIn, HoldTrail, OneWalk}
 use Rattle.walk_laws.proofs.Moves.{EntersBy, way-back}
 use Rattle.walk_laws.proofs.Sums.{unmet, unmet-set, unmet-all}
@@ -71,6 +72,13 @@ judged-nonzero g k s t (Found b) =
 way-nonzero : (g : Graph) (k : BondKind) (s t : ℕ) → Nonzero (wayOf g k s t)
 unfolding wayOf
 way-nonzero g k s t = judged-nonzero g k s t (scanOf g t s)
+
+tie-nonzero : (g : Graph) (k : BondKind) (s t : ℕ) → Nonzero (tieOf g k s t)
+unfolding tieOf Nonzero
+tie-nonzero g k s t =
+    by-test Nonzero (eqb (countTo g t s) 0) (λ q. omega arith)
+    (λ q. by-test Nonzero (either (ltb 1 (countTo g t s)) (ltb 1 (countTo g s t))) (λ z. omega arith)
+    (λ z. by-test Nonzero (sameKind (bondOf g t (placeTo g t s - 1) .kind) (reverseOf k)) (λ y. tt) (λ y. omega arith)))
 
 -- ---- a pool with no number left keeps its words
 record Keeps (pairs : List ℕ) (h : Hits) : Type 0 where
@@ -478,6 +486,12 @@ module _ (g : Graph) where
         subst (λ (x : Hits). Step s (numberedOf took k (f .atom) u (x .answer) (x .left)) (after (rings s k (f .atom) u))) e
         (given-step k u (hitOf (s .pool) (s .pairs) (f .atom) u .answer) (hitOf (s .pool) (s .pairs) (f .atom) u .left) (hit-keeps (s .pool) (s .pairs) (f .atom) u .full))
 
+    -- to an atom met before, once both ends were compared
+    tied-step : (k : BondKind) (u : ℕ) (x : Way) → Nonzero x → Step s (tiedOf took k (f .atom) u x) (after (ties s k (f .atom) u x))
+    unfolding tiedOf ties Nonzero
+    tied-step k u (Refuses r a b) nz = refuse-step r a b (w .pairs) refl nz
+    tied-step k u (Enters b) nz = ring-step k u
+
     -- to a new atom
     way-step : (k : BondKind) (u : ℕ) → u < g .size → getD (w .met) u 0 ≡ 0 → (x : Way) → EntersBy g (f .atom) u x → Nonzero x
         → Step s (enteredOf g took k u x) (after (enters g (below fs) s k u x))
@@ -492,13 +506,13 @@ module _ (g : Graph) where
         (ap after (sym (visit-is (g .size - suc (length fs)) (suc (length fs)) u b (meets s u b es) (omega (arith, c, h .deep)))))
 
     bond-step : (e : BondEntry) → Step s (bondTurn g took (f .atom) e) (after (follows g (below fs) (f .atom) e s))
-    unfolding bondTurn follows enterTurn
+    unfolding bondTurn follows enterTurn tieTurn
     bond-step e =
         chosen after (leb (g .size) (e .to)) (leb (g .size) (e .to)) refl (λ q. refuse-step unknownTarget (f .atom) (e .to) (w .pairs) refl (omega arith))
         (λ q. chosen after (eqb (e .to) (f .atom)) (eqb (e .to) (f .atom)) refl (λ z. refuse-step loop (f .atom) 0 (w .pairs) refl (omega arith))
         (λ z. chosen after (eqb (getD (w .met) (e .to) 0) 0) (eqb (numberIn (s .order) (e .to)) 0) (ap (λ (n : ℕ). eqb n 0) (h .tables .met (e .to)))
         (λ y. way-step (e .kind) (e .to) (leb-false _ _ q) (h .tables .met (e .to) ∙ eqb-true _ _ y) _ (way-back g (e .kind) (f .atom) (e .to)) (way-nonzero g (e .kind) (f .atom) (e .to)))
-        (λ y. ring-step (e .kind) (e .to))))
+        (λ y. tied-step (e .kind) (e .to) _ (tie-nonzero g (e .kind) (f .atom) (e .to)))))
 
     entry-step : f .done < degreeAt g (f .atom) → Step s (entryTurn g w (f .atom) (f .done)) (whole (w .at .next) (f ∷ fs) (Goes s))
     unfolding entryTurn

@@ -12,8 +12,9 @@ use Rattle.join_pool.specs.Pairs as pool
 use Rattle.writer.specs.Line.{Event, Root, Extend, Join, Pop}
 use Rattle.walk_entry.specs.Graph.{Graph, graph, kindOr, kindIn, bondIn}
 use Rattle.walk_entry.specs.Ways.{isRefused, isFixed, even, saidAs, scanIn, judgedBack, wayOf}
+use Rattle.walk_entry.specs.Ties.{leading, lastLeading, tieOf}
 use Rattle.walk.specs.Walk.{popsOf}
-use Rattle.walk_laws.specs.Plain.{Outcome, Goes, Refused, andThen, numberFrom, joins, rings, enters, follows, entriesFrom, visitOf, rootsFrom, plainWalk}
+use Rattle.walk_laws.specs.Plain.{Outcome, Goes, Refused, andThen, numberFrom, joins, rings, ties, enters, follows, entriesFrom, visitOf, rootsFrom, plainWalk}
 
 -- what a walk comes to: the refusal's number and what it carries, or zeros; what was said; the walk order; the entries back
 record Shown : Type 0 where
@@ -60,10 +61,10 @@ rows =
       graph 4 (8 ∷ 0 ∷ 1 ∷ 15631396 ∷ 32031 ∷ 3 ∷ 9 ∷ 0 ∷ 1 ∷ 10 ∷ 0 ∷ 1 ∷ []) (1 ∷ 1 ∷ 1 ∷ 0 ∷ 1 ∷ 2 ∷ 1 ∷ 3 ∷ 1 ∷ 1 ∷ 1 ∷ 1 ∷ []) (0 ∷ 1 ∷ 4 ∷ 5 ∷ []),
       shown [] (Root (Aliphatic 6) ∷ Extend Elided (Bracket (bracketOfSix 1000 16 1 1 31 1000)) ∷ Extend Elided (Aliphatic 7) ∷ Pop 1 ∷ Extend Elided (Aliphatic 8) ∷ []) (0 ∷ 1 ∷ 2 ∷ 3 ∷ []) (0 ∷ 1 ∷ 1 ∷ 1 ∷ []),
     )
-    -- a ring bond that only one of its atoms has: its number is not closed
+    -- 7 with 2, 0: a ring bond that only one of its atoms has
     ∷ (
       graph 3 (3 ∷ 0 ∷ 1 ∷ 3 ∷ 0 ∷ 2 ∷ 3 ∷ 0 ∷ 2 ∷ []) (1 ∷ 1 ∷ 1 ∷ 0 ∷ 1 ∷ 2 ∷ 1 ∷ 1 ∷ 1 ∷ 0 ∷ []) (0 ∷ 1 ∷ 3 ∷ []),
-      shown [] (Root (Aliphatic 1) ∷ Extend Elided (Aliphatic 1) ∷ Extend Elided (Aliphatic 1) ∷ Join Elided 1 ∷ []) (0 ∷ 1 ∷ 2 ∷ []) (0 ∷ 1 ∷ 1 ∷ []),
+      shown (7 ∷ 2 ∷ 0 ∷ []) (Root (Aliphatic 1) ∷ Extend Elided (Aliphatic 1) ∷ Extend Elided (Aliphatic 1) ∷ []) (0 ∷ 1 ∷ 2 ∷ []) (0 ∷ 1 ∷ 1 ∷ []),
     )
     -- 7 with 0, 1: the new atom has no entry back; what was said before stays said
     ∷ (
@@ -84,5 +85,5 @@ rows =
 
 -- each comes to that
 rows-shown : map (λ (r : Graph × Shown). shows (plainWalk (r .0) lent)) rows ≡ map (λ (r : Graph × Shown). r .1) rows
-unfolding shows andThen numberFrom joins rings enters follows entriesFrom visitOf rootsFrom plainWalk inRange bracketInRange invertOf invertBracket kindOf sureKind codeOf reverseOf isDirectional words.plainOf words.bracketOf words.loadOf words.loadAt pool.opens pool.openNumber pool.slot pool.counterNext pool.counterOf pool.nextOf pool.openOf pool.closeOf pool.openOrClose pool.hitPair pool.hitOf kindOr kindIn bondIn isRefused isFixed turnedOr even saidAs scanIn judgedBack wayOf popsOf
+unfolding shows andThen numberFrom joins rings ties enters follows entriesFrom visitOf rootsFrom plainWalk inRange bracketInRange invertOf invertBracket kindOf sureKind codeOf reverseOf isDirectional words.plainOf words.bracketOf words.loadOf words.loadAt pool.opens pool.openNumber pool.slot pool.counterNext pool.counterOf pool.nextOf pool.openOf pool.closeOf pool.openOrClose pool.hitPair pool.hitOf kindOr kindIn bondIn isRefused isFixed turnedOr even saidAs scanIn judgedBack wayOf leading lastLeading tieOf popsOf
 rows-shown = refl

@@ -17,6 +17,7 @@ use Rattle.walk_entry.specs.declared.entry.Way.{Way}
 use Rattle.walk_entry.specs.declared.entry.Way.the-variants.{Enters, Refuses}
 use Rattle.walk_entry.specs.Graph.{BondEntry, Graph, kindAt, degreeAt, bondOf}
 use Rattle.walk_entry.specs.Ways.{saidAs, wayOf}
+use Rattle.walk_entry.specs.Ties.{tieOf}
 use Rattle.walk.specs.Walk.{popsThen}
 
 -- What a walk has done: the atoms met, in walk order; for each atom the place, from 1, of its entry back to the atom that it was
@@ -55,8 +56,7 @@ meets s a b es =
 abbrev pub leaves : Trail → Trail
 leaves s = record { order = s .order; back = s .back; pool = s .pool; pairs = s .pairs; left = s .left + 1; said = s .said }
 
--- A bond of kind k from a to an atom t that was met before: a ring number is asked for, and nothing is compared. It is said after
--- the pops; 11 if there is none left.
+-- A ring number for a bond of kind k from a to an atom t that was met before. It is said after the pops; 11 if there is none left.
 unfoldable pub joins : Trail → BondKind → ℕ → ℕ → Given → List ℕ → Outcome
 joins s k a t Full pairs = Refused ringNumbers a t s
 joins s k a t (Number p n) pairs =
@@ -64,6 +64,11 @@ joins s k a t (Number p n) pairs =
 
 unfoldable pub rings : Trail → BondKind → ℕ → ℕ → Outcome
 rings s k a t = joins s k a t (hitOf (s .pool) (s .pairs) a t .answer) (hitOf (s .pool) (s .pairs) a t .left)
+
+-- A bond to an atom t that was met before: the entries of both for each other refuse it, by 7, 8 or 9, or a ring number is asked for.
+unfoldable pub ties : Trail → BondKind → ℕ → ℕ → Way → Outcome
+ties s k a t (Refuses r x y) = Refused r x y s
+ties s k a t (Enters b) = rings s k a t
 
 -- A bond to a new atom t: its entries back to the source refuse it, by 10, 8, 7 or 9, or name one, at place b. Then it is said
 -- after the pops, its mark turned as that place asks, and visited before anything else.
@@ -80,7 +85,7 @@ follows g visit a e s =
     pick (leb (g .size) (e .to)) (Refused unknownTarget a (e .to) s)
     (pick (eqb (e .to) a) (Refused loop a 0 s)
     (pick (eqb (numberIn (s .order) (e .to)) 0) (enters g visit s (e .kind) (e .to) (wayOf g (e .kind) a (e .to)))
-    (rings s (e .kind) a (e .to))))
+    (ties s (e .kind) a (e .to) (tieOf g (e .kind) a (e .to)))))
 
 -- The n entries of the atom a from entry i on, in table order, but for its entry back at place b.
 unfoldable pub entriesFrom : Graph → Visit → ℕ → ℕ → ℕ → ℕ → Trail → Outcome

@@ -13,6 +13,7 @@ use crate::scale::tally::Tally;
 use crate::scale::trip::{self, Trip};
 use crate::scale::words::Names;
 use crate::scale::{Line, LARGEST};
+use crate::simple::is_simple;
 
 /// Graphs that are not plain, each for another reason, and are written all the
 /// same: docs/ROUNDTRIP.md. They do not come back.
@@ -24,6 +25,17 @@ const NOT_PLAIN: &[&str] = &[
     "[~,C,~,~,0,~]",
     "[~,C,~,~,5,~]",
     "[~,C,~,~,10,~]",
+];
+
+/// Graphs that are not simple, each for another reason.
+const NOT_SIMPLE: &[&str] = &[
+    "C e1",
+    "C e0",
+    "C e1;C",
+    "*;* e0",
+    "C e1 e1;C e0 e0",
+    "C e1 e1;C e0",
+    "C e1 /2;C e0 e2;C /0 e1",
 ];
 
 /// Panics if a comparison is not to be trusted.
@@ -103,7 +115,7 @@ fn check_trip(names: &Names) {
     let differs = |meant: &[Atom]| trip::comes_back(names, line, &tables, meant).is_some();
     let returns = |graph: &[Atom]| matches!(trip::trip(names, graph), Trip::Compared(None));
 
-    assert!(trip::is_plain(&vial) && returns(&vial));
+    assert!(trip::is_plain(&vial) && is_simple(&vial) && returns(&vial));
     assert!(!differs(&right));
     assert!(differs(&vial));
     assert!(differs(&turned));
@@ -115,6 +127,17 @@ fn check_trip(names: &Names) {
             text
         );
     }
+
+    for text in NOT_SIMPLE {
+        let graph = graph(text);
+
+        assert!(!is_simple(&graph), "{}", text);
+        assert!(matches!(trip::trip(names, &graph), Trip::Refused), "{}", text);
+    }
+
+    assert!(trip::one_sided(b"C1CC1").is_none());
+    assert!(trip::one_sided(b"C1CC").is_some());
+    assert!(trip::one_sided(b"C=1CC#1").is_some());
 }
 
 // One line's answers are right, the other's are all wrong. The count of those that

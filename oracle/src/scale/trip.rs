@@ -12,6 +12,8 @@ use crate::scale::compare::{self, Difference};
 use crate::scale::exports::{self, Ordered, Tables};
 use crate::scale::tally::Tally;
 use crate::scale::words::{Names, ATOM_WORDS, BOND_WORDS};
+use crate::scale::LARGEST;
+use crate::simple::is_simple;
 
 // The reader's limits.
 const TEXT: usize = 8192;
@@ -19,6 +21,11 @@ const ATOMS: usize = 1024;
 const ENTRIES: usize = 2304;
 const BRANCHES: usize = 128;
 
+// Numbers of the report. Those of bonds: an unknown target, a bond to the atom itself,
+// with one end, held twice, of kinds that do not match.
+const RING_ENDS: u64 = 3;
+const RING_OPEN: u64 = 4;
+const OF_BONDS: std::ops::RangeInclusive<u64> = 5..=9;
 const RING_NUMBERS: u64 = 11;
 
 /// What came of the graphs of one source.
@@ -27,6 +34,7 @@ struct Row {
     graphs: usize,
     plain: usize,
     refused: usize,
+    numbers: usize,
     beyond: usize,
     compared: usize,
 }
@@ -38,8 +46,10 @@ pub struct Trips {
 
 /// What came of one plain graph.
 pub enum Trip {
-    /// It needs a ring number over 99.
+    /// It is not simple.
     Refused,
+    /// It needs a ring number over 99.
+    Numbers,
     /// Its line is beyond the reader's limits.
     Beyond,
     Compared(Difference),
@@ -53,6 +63,9 @@ impl Trips {
             return;
         }
 
+        tally.count("reread", false, reread(names, &graph), || {
+            form::print_graph(&graph)
+        });
         graph.iter_mut().for_each(|atom| mend(&mut atom.kind));
         self.count(&format!("{}, mended", kind), &graph, names, tally);
     }
@@ -71,6 +84,7 @@ impl Trips {
 
         match trip(names, graph) {
             Trip::Refused => row.refused += 1,
+            Trip::Numbers => row.numbers += 1,
             Trip::Beyond => row.beyond += 1,
             Trip::Compared(difference) => {
                 row.compared += 1;
@@ -83,40 +97,22 @@ impl Trips {
 
     pub fn print(&self) {
         println!(
-            "{:<28}{:>10}{:>10}{:>10}{:>10}{:>10}",
-            "round trip of", "graphs", "plain", "refused", "too long", "compared"
+            "{:<28}{:>10}{:>10}{:>12}{:>10}{:>10}{:>10}",
+            "round trip of", "graphs", "plain", "not simple", "over 99", "too long", "compared"
         );
 
         for (kind, row) in &self.rows {
             println!(
-                "{:<28}{:>10}{:>10}{:>10}{:>10}{:>10}",
-                kind, row.graphs, row.plain, row.refused, row.beyond, row.compared
+                "{:<28}{:>10}{:>10}{:>12}{:>10}{:>10}{:>10}",
+                kind, row.graphs, row.plain, row.refused, row.numbers, row.beyond, row.compared
             );
         }
     }
 }
 
-/// At least one atom, no self-bond, at most one bond between two atoms, each bond
-/// held at both ends as the other's reverse; kinds that survive, and no
-/// configuration but TH1 or TH2.
+/// At least one atom, kinds that survive, and no configuration but TH1 or TH2.
 pub fn is_plain(graph: &[Atom]) -> bool {
-    !graph.is_empty()
-        && graph.iter().all(|atom| is_plain_kind(&atom.kind))
-        && (0..graph.len()).all(|atom| is_simple_at(graph, atom))
-}
-
-fn is_simple_at(graph: &[Atom], atom: usize) -> bool {
-    let bonds = &graph[atom].bonds;
-
-    bonds.iter().enumerate().all(|(index, bond)| {
-        bond.tid < graph.len()
-            && bond.tid != atom
-            && bonds[..index].iter().all(|other| other.tid != bond.tid)
-            && graph[bond.tid]
-                .bonds
-                .iter()
-                .any(|back| back.tid == atom && back.kind == bond.kind.reverse())
-    })
+    !graph.is_empty() && graph.iter().all(|atom| is_plain_kind(&atom.kind))
 }
 
 fn is_plain_kind(kind: &AtomKind) -> bool {
@@ -178,16 +174,20 @@ fn mend(kind: &mut AtomKind) {
     }
 }
 
-/// The trip of a plain graph.
+/// The trip of a plain graph. What is written of them is simple, and what is simple is
+/// refused for want of a ring number alone.
 pub fn trip(names: &Names, graph: &[Atom]) -> Trip {
     let tables = names.tables(graph);
     let written = exports::write(&tables, longest(&tables));
     let report = written.report.cells();
 
-    match report[0] {
-        0 => (),
-        RING_NUMBERS => return Trip::Refused,
-        _ => return Trip::Compared(Some(format!("written with {:?}", report))),
+    match (report[0], is_simple(graph)) {
+        (0, true) => (),
+        (RING_NUMBERS, _) => return Trip::Numbers,
+        (number, false) if OF_BONDS.contains(&number) => return Trip::Refused,
+        (_, simple) => {
+            return Trip::Compared(Some(format!("answered {:?}, simple: {}", report, simple)))
+        }
     }
 
     let line = &written.out.cells()[..report[1] as usize];
@@ -202,6 +202,28 @@ pub fn trip(names: &Names, graph: &[Atom]) -> Trip {
         misnumbers(graph, &ordered)
             .or_else(|| comes_back(names, line, &tables, &renumbered(graph, &ordered))),
     )
+}
+
+/// A line that our export writes, of any kinds, is never read as one whose ring numbers
+/// do not agree or are not closed.
+pub fn reread(names: &Names, graph: &[Atom]) -> Difference {
+    let tables = names.tables(graph);
+    let written = exports::write(&tables, longest(&tables));
+    let report = written.report.cells();
+
+    if report[0] != 0 {
+        return None;
+    }
+
+    one_sided(&written.out.cells()[..report[1] as usize])
+}
+
+/// What is wrong with the ring numbers of a line, if it is refused for them.
+pub fn one_sided(line: &[u8]) -> Difference {
+    let number = exports::read(line, LARGEST.0, LARGEST.1).report.cells()[0];
+
+    Some(format!("the line is answered {}", number))
+        .filter(|_| [RING_ENDS, RING_OPEN].contains(&number))
 }
 
 /// The bytes that a line has at most: 24 for each atom and 4 for each entry.

@@ -41,8 +41,8 @@ same-length-5 c = search needs
 returns-3 : tie.Need-returns-3
 returns-3 c = (λ taken. bond-new _ _ _ _ _ _ _ _ _ _ _ _ _ (c .before .before .before .before .before .before .before .before .before .before .before .before .before .before .before .before .before .before .before .before .if1 .left) (c .before .before .before .before .before .before .before .before .before .before .before .before .before .before .before .before .before .before .before .if2 .left) (c .before .before .before .before .before .before .before .before .before .before .before .before .before .before .before .before .before .look .ensures) (c .before .before .before .before .before .before .before .before .before .before .before .before .before .before .before .before .if3 .taken) (c .before .before .before .before .before .before .before .before .before .before .enter .ensures .0 _ taken _), c .before .before .before .before .before .before .before .before .before .before .enter .ensures .1)
 
-ring-requires : tie.Need-ring-requires
-ring-requires c κs = search needs
+tie-requires : tie.Need-tie-requires
+tie-requires c κs = search needs
 
 same-length-6 : tie.Need-same-length-6
 same-length-6 c = search needs
@@ -57,7 +57,7 @@ same-length-9 : tie.Need-same-length-9
 same-length-9 c = search needs
 
 returns-4 : tie.Need-returns-4
-returns-4 c = (λ taken. bond-met _ _ _ _ _ _ _ _ _ _ _ _ _ (c .before .before .before .before .before .before .before .before .before .before .before .before .before .before .if1 .left) (c .before .before .before .before .before .before .before .before .before .before .before .before .before .if2 .left) (c .before .before .before .before .before .before .before .before .before .before .before .look .ensures) (c .before .before .before .before .before .before .before .before .before .before .if3 .left) (c .before .before .before .before .before .before .ring .ensures .0 _ _ _ taken), c .before .before .before .before .before .before .ring .ensures .1)
+returns-4 c = (λ taken. bond-met _ _ _ _ _ _ _ _ _ _ _ _ _ (c .before .before .before .before .before .before .before .before .before .before .before .before .before .before .if1 .left) (c .before .before .before .before .before .before .before .before .before .before .before .before .before .if2 .left) (c .before .before .before .before .before .before .before .before .before .before .before .look .ensures) (c .before .before .before .before .before .before .before .before .before .before .if3 .left) (c .before .before .before .before .before .before .tie .ensures .0 _ _ _ _ taken), c .before .before .before .before .before .before .tie .ensures .1)
 
 pub take-bond-spec : {M : Type 1} → statement M
 take-bond-spec =
@@ -75,7 +75,7 @@ take-bond-spec =
     same-length-4
     same-length-5
     returns-3
-    ring-requires
+    tie-requires
     same-length-6
     same-length-7
     same-length-8
