@@ -29,7 +29,7 @@ extern "C" {
 #endif
 
 /* The version of this header, and of the library: mavisdrok_version tells it of a library at hand. */
-#define MAVISDROK_VERSION "0.1.0"
+#define MAVISDROK_VERSION "0.2.0"
 const char *mavisdrok_version(void);
 
 /* The largest job: bytes of a line, atoms and bond entries; and the words of an atom and of an entry. */
@@ -97,7 +97,13 @@ void mavisdrok_read(const uint8_t *text, size_t text_len,
                     uint64_t *report, size_t report_len);
 
 /* Writes the graph of n atoms and m bond entries. After 0, with the bytes written, the output holds the line and zeros
- * after it; after a refusal it holds zeros. */
+ * after it; after a refusal it holds zeros.
+ *
+ * A graph that is answered 0 is simple: every bond leads to another atom, no two atoms have more than one, and each is held at
+ * both ends, of reversed kind. 5 to 9 name the first that is not so, as the walk comes to it, ring bonds among them: 5 with an
+ * atom and its target that is none, 6 with an atom that is bonded to itself, 7 with an atom and one that has no entry back, 8
+ * with two atoms one of which has more than one entry for the other, 9 with the target and the source of a bond whose two
+ * entries do not match. */
 void mavisdrok_write(const uint32_t *atoms, size_t atoms_len, size_t n,
                      const uint32_t *bonds, size_t bonds_len, size_t m,
                      uint8_t *out, size_t out_len,

@@ -261,7 +261,8 @@ class Graph:
         return "Graph(%r, %r)" % self.words()
 
     def write(self):
-        """The graph as a line."""
+        """The graph as a line. A graph that is written is simple: every bond leads to another atom, no two atoms have more than
+        one, and each is held at both ends, of reversed kind. Any other is refused, where purr writes some."""
         lent = _lent
         _write(*self._lend(), lent.at[2], len(lent.out), lent.at[3], REPORT_WORDS)
         return ctypes.string_at(lent.at[2], _told(lent.report)[0]).decode("ascii")

@@ -11,11 +11,15 @@ pub enum Error {
     Join(usize, usize),
     /// Which use of a ring number, from 0.
     Rnum(usize),
+    /// An atom, and the target of its bond, which is no atom.
     UnknownTarget(usize, usize),
+    /// An atom that is bonded to itself.
     Loop(usize),
+    /// The source of a bond, and its target, which has no entry back. purr says it of new targets alone, not of ring bonds.
     HalfBond(usize, usize),
+    /// Source, then target: one of the two has more than one entry for the other.
     DuplicateBond(usize, usize),
-    /// Target, then source.
+    /// Target, then source: their two entries for each other do not match.
     IncompatibleBond(usize, usize),
     Inversion(usize),
     RingNumbers(usize, usize),

@@ -129,7 +129,9 @@ impl Graph {
         self.iter().nth(id)
     }
 
-    /// Writes the graph. A line has at most 24 bytes for each atom and 4 for each bond entry.
+    /// Writes the graph. A line has at most 24 bytes for each atom and 4 for each bond entry. A graph that is written is
+    /// simple: every bond leads to another atom, no two atoms have more than one, and each is held at both ends, of reversed
+    /// kind. Where purr writes another graph, this refuses it.
     pub fn write(&self) -> Result<String, Error> {
         let (n, m) = (self.len(), self.bonds.len() / BOND_WORDS);
         let mut out = vec![0; 24 * n + 4 * m];

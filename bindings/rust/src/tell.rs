@@ -137,7 +137,8 @@ struct Walk<'a, F> {
 }
 
 impl Graph {
-    /// Walks the graph and tells its events, as purr's `walk` does: the line that a `Writer` makes of them is that of `write`.
+    /// Walks the graph and tells its events, as purr's `walk` does: the line that a `Writer` makes of them is that of `write`,
+    /// and what `write` refuses is refused.
     ///
     /// ```
     /// let graph = mavisdrok::read(b"C1CC[C@H]1F")?;
