@@ -63,9 +63,10 @@ impl Trips {
             return;
         }
 
-        tally.count("reread", false, reread(names, &graph), || {
-            form::print_graph(&graph)
-        });
+        if let Some(difference) = reread(names, &graph) {
+            tally.count("reread", false, difference, || form::print_graph(&graph));
+        }
+
         graph.iter_mut().for_each(|atom| mend(&mut atom.kind));
         self.count(&format!("{}, mended", kind), &graph, names, tally);
     }
@@ -205,8 +206,8 @@ pub fn trip(names: &Names, graph: &[Atom]) -> Trip {
 }
 
 /// A line that our export writes, of any kinds, is never read as one whose ring numbers
-/// do not agree or are not closed.
-pub fn reread(names: &Names, graph: &[Atom]) -> Difference {
+/// do not agree or are not closed. None if it writes none.
+pub fn reread(names: &Names, graph: &[Atom]) -> Option<Difference> {
     let tables = names.tables(graph);
     let written = exports::write(&tables, longest(&tables));
     let report = written.report.cells();
@@ -215,7 +216,7 @@ pub fn reread(names: &Names, graph: &[Atom]) -> Difference {
         return None;
     }
 
-    one_sided(&written.out.cells()[..report[1] as usize])
+    Some(one_sided(&written.out.cells()[..report[1] as usize]))
 }
 
 /// What is wrong with the ring numbers of a line, if it is refused for them.
