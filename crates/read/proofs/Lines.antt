@@ -70,7 +70,7 @@ both-held s la lb =
     reads-ends s la lb (replicate (bondLimit * entryWords) 0) (replicate atomLimit 0) (replicate ringNumberCount 0) (omega (arith, room-of (bondLimit * entryWords), lesser-most bondLimit (lb / bondWords))) (omega (arith, room-of atomLimit, lesser-most atomLimit (la / atomWords))) (room-of ringNumberCount) (λ n h. zero-at ringNumberCount n)
 
 -- no refusal is called 0
-not-done : (r c n m : ℕ) → readRefusal r c ≡ Done n m → ⊥
+pub not-done : (r c n m : ℕ) → readRefusal r c ≡ Done n m → ⊥
 unfolding readRefusal
 not-done r c n m =
     let Not : Answer → Type 0 = λ x. x ≡ Done n m → ⊥ in

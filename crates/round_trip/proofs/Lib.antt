@@ -6,5 +6,6 @@ pub mod ByOrder
 pub mod Wider
 pub mod Deep
 pub mod Answers
+pub mod Lines
 pub mod RoundTrip
 pub mod Sample

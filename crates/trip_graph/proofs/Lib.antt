@@ -11,11 +11,13 @@ pub mod Follows
 pub mod State
 pub mod Turns
 pub mod Trip
+pub mod Refused
 pub mod Refusals
 pub mod Fair
 pub mod Places
 pub mod Written
 pub mod Walked
+pub mod HeldEnds
 pub mod Tables
 pub mod ComesBack
 pub mod Bench

@@ -4,7 +4,7 @@ use mathlib.Core.Path.{_≡_, refl, sym, subst}
 use mathlib.Core.Logic.{_≢_}
 use mathlib.Core.List.{List}
 use mathlib.Core.Bool.{true}
-use Prim.Native.Nat.{ℕ, zero, suc, _+_, _≤_, _<_}
+use Prim.Native.Nat.{ℕ, _≤_, _<_}
 use native.Mathlib.Omega.{arith}
 use lib.ListN.{getD}
 use lib.Dec.{leb, eqb}
@@ -16,16 +16,15 @@ use Rattle.join_pool.specs.declared.Given.the-variants.{Number, Full}
 use Rattle.walk_entry.specs.declared.entry.Way.{Way}
 use Rattle.walk_entry.specs.Graph.{BondEntry, Graph, kindAt, degreeAt, bondOf}
 use Rattle.walk_entry.specs.Ways.{isFixed, even}
-use Rattle.walk.specs.declared.walker.Walker.{Walker}
-use Rattle.walk.specs.Walk.{Walk, Turn, quiet, withWalker, tookAt, leftIn, rootTurn, leaveOf, numberedOf, ringTurn, tiedOf, tieTurn, enteredOf, enterTurn, bondTurn, entryTurn, atomOf, turnOf, stepOf, walkTo}
+use Rattle.walk.specs.Walk.{Walk, Turn, tookAt, numberedOf, ringTurn, tiedOf, tieTurn, enteredOf, enterTurn, bondTurn, walkTo}
 use Rattle.walk_laws.specs.Trek.{Room, fresh}
 use Rattle.feature.proofs.Cases.{by-test, both-first, clash}
-use Rattle.walk_laws.proofs.Moves.{turn-moves}
-use Rattle.walk_laws.proofs.Sound.{Sound, sound-start, step-sound, up-within}
+use Rattle.walk_laws.proofs.Sound.{Sound, sound-start, up-within}
 use Rattle.trip_graph.specs.Renumber.{Simple, Known}
 use Rattle.trip_graph.specs.Marks.{Tetrahedral}
 use Rattle.trip_graph.proofs.Marks.{marks-serve}
 use Rattle.trip_graph.proofs.Ways.{way-is, tie-is}
+use Rattle.trip_graph.proofs.Refused.{turns-hold}
 
 -- none, an entry whose target is no atom, want of a ring number, or a mark that can't be turned
 pub data Only (g : Graph) (r : ℕ) : Type 0 where
@@ -37,17 +36,6 @@ pub data Only (g : Graph) (r : ℕ) : Type 0 where
 module _ (g : Graph) (W : Simple g) (w : Walk) (dep : ℕ) (snd : Sound g w dep) (fine : w .at .refusal ≡ 0) where
   abbrev O : Turn → Type 0
   O x = Only g (x .after .at .refusal)
-
-  root-only : O (rootTurn g w)
-  unfolding rootTurn
-  root-only =
-      by-test O (leb (g .size) (w .at .next)) (λ q. none fine)
-      (λ q. by-test O (eqb (getD (w .met) (w .at .next) 0) 0) (λ z. none fine) (λ z. none fine))
-
-  left-only : O (leaveOf g w (w .at .here))
-  unfolding leftIn
-  left-only =
-      by-test (λ (z : Walker). O (quiet (withWalker w z))) (eqb (getD (w .back) (w .at .here) 0) 0) (λ q. none fine) (λ q. none fine)
 
   module _ (r : w .at .current ≡ true) (more : getD (w .taken) (w .at .here) 0 < degreeAt g (w .at .here)) where
     abbrev s0 : ℕ
@@ -88,30 +76,11 @@ module _ (g : Graph) (W : Simple g) (w : Walk) (dep : ℕ) (snd : Sound g w dep)
         (λ z. by-test O (eqb (e0 .to) s0) (λ y. absurd (W .apart s0 i0 hs more (eqb-true _ _ y)))
         (λ y. by-test O (eqb (getD (w .met) (e0 .to) 0) 0) (λ x. enter-only (leb-false _ _ z)) (λ x. tie-only (leb-false _ _ z))))
 
-    entry-only : O (entryTurn g w s0 i0)
-    unfolding entryTurn
-    entry-only = by-test O (eqb (getD (w .back) s0 0) (i0 + 1)) (λ z. none fine) (λ z. bond-only)
-
-  turn-only : O (turnOf g w)
-  unfolding turnOf atomOf
-  turn-only =
-      by-test O (w .at .current)
-      (λ r. by-test O (leb (degreeAt g (w .at .here)) (getD (w .taken) (w .at .here) 0)) (λ z. left-only) (λ z. entry-only r (leb-false _ _ z)))
-      (λ r. root-only)
-
-turns-only : (g : Graph) → Simple g → (t : ℕ) (w : Walk) (dep : ℕ) → Sound g w dep → Only g (w .at .refusal) → Only g (walkTo g t w .at .refusal)
-unfolding walkTo stepOf
-turns-only g W zero w dep s o = o
-turns-only g W (suc t) w dep s o =
-    by-test (λ (x : Turn). Only g (walkTo g t (x .after) .at .refusal)) (eqb (w .at .refusal) 0)
-    (λ q. let m = turn-moves g w dep in turns-only g W t (turnOf g w .after) (m .0) (step-sound s (m .1)) (turn-only g W w dep s (eqb-true _ _ q)))
-    (λ q. turns-only g W t w dep s o)
-
 -- so a walk over a simple graph is never refused with 6 to 9, and with 5 only at a target that is no atom, whatever its turns and
 -- its pool's words
 pub only-refusals : (g : Graph) → Simple g → (lm lw lb lt : ℕ) (pairs : List ℕ) → Room g lm lb lt → (t : ℕ) → Only g (walkTo g t (fresh lm lw lb lt pairs) .at .refusal)
 only-refusals g W lm lw lb lt pairs r t =
-    turns-only g W t (fresh lm lw lb lt pairs) 0 (sound-start g lm lw lb lt pairs r) (none refl)
+    turns-hold g (Only g) (bond-only g W) t (fresh lm lw lb lt pairs) 0 (sound-start g lm lw lb lt pairs r) (none refl)
 
 -- and not with 5 where every target is an atom, nor with 10 where no kind has a configuration but TH1 or TH2
 pub rings-only : (g : Graph) → Simple g → Known g → ((a : ℕ) → a < g .size → Tetrahedral (kindAt g a)) → (lm lw lb lt : ℕ) (pairs : List ℕ) → Room g lm lb lt → (t : ℕ)

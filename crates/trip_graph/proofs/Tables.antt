@@ -22,6 +22,7 @@ use Rattle.table.specs.Limits.{atomLimit}
 use Rattle.builder_meaning.specs.Sketch.{To, Edge, Node, edge, node, countOf, atomTable, targetOf, edgeTable, bondTable, padded}
 use Rattle.walk_entry.specs.Graph.{BondEntry, Graph, kindAt, degreeAt, bondOf, entryTo, entryAt, kindOr, kindIn, bondIn}
 use Rattle.table.specs.Zeros.{zeros}
+use Rattle.table.proofs.Zeros.{zero-at}
 use Rattle.table.specs.Starts.{sumOf}
 use Rattle.table.proofs.EntryStarts.{entry-starts-at}
 use Rattle.write.specs.Write.{graphOf}
@@ -33,10 +34,10 @@ use Rattle.trip_graph.proofs.Entries.{entries-length}
 use Rattle.trip_graph.proofs.Marks.{marks-serve}
 use Rattle.trip_graph.proofs.Trip.{atoms-length, atoms-at, renumbered-length}
 
-abbrev noEdge : Edge
+abbrev pub noEdge : Edge
 noEdge = edge Elided (To 0)
 
-abbrev noNode : Node
+abbrev pub noNode : Node
 noNode = node Star []
 
 -- ---- tables by place
@@ -122,6 +123,40 @@ sum-is ns z (suc v) h k =
     let d = before-most ns (suc v) in
     ap₂ (λ (x y : ℕ). (x + y) % 2 ^ 32) a b ∙ omega arith
 
+atom-table : (ns : List Node) → length (atomTable ns) ≡ length ns * 3
+unfolding atomTable words.listOf
+atom-table [] = refl
+atom-table (n ∷ ns) = omega (arith, atom-table ns)
+
+-- ---- the graph that tables of nodes hold, with any zeros after them
+module _ (ns : List Node) (n la lb : ℕ) (limit : n ≤ atomLimit) (few : countOf ns < 2 ^ 32) where
+  abbrev pub held : Graph
+  held = graphOf n (padded la (atomTable ns)) (padded lb (bondTable ns))
+
+  pub nodes-degree : (v : ℕ) → v < length ns → degreeAt held v ≡ length (getD ns v noNode .edges)
+  unfolding padded
+  nodes-degree v q = atom-words ns (replicate (la - length (atomTable ns)) 0) v q .2
+
+  -- past the nodes there are no entries
+  pub nodes-beyond : (v : ℕ) → length ns ≤ v → degreeAt held v ≡ 0
+  unfolding padded
+  nodes-beyond v q =
+      let i : v * 3 + 2 ≡ length (atomTable ns) + (v * 3 + 2 - length ns * 3) = omega (arith, atom-table ns) in
+      ap (λ (j : ℕ). getD (atomTable ns ++ zeros (la - length (atomTable ns))) j 0) i
+      ∙ getD-append-add (atomTable ns) (zeros (la - length (atomTable ns))) (v * 3 + 2 - length ns * 3) 0 ∙ zero-at (la - length (atomTable ns)) (v * 3 + 2 - length ns * 3)
+
+  pub nodes-entry : (v i : ℕ) → v < n → v < length ns → i < length (getD ns v noNode .edges)
+      → bondOf held v i ≡ entryTo (getD (getD ns v noNode .edges) i noEdge .kind) (targetOf (getD (getD ns v noNode .edges) i noEdge .target))
+  unfolding bondIn padded
+  nodes-entry v i h q k =
+      let r = bond-table ns (replicate (lb - length (bondTable ns)) 0) v i q k in
+      let s : getD (held .first) v 0 ≡ before ns v =
+      entry-starts-at n v (padded la (atomTable ns)) (zeros atomLimit) h (rw (length-replicate {A = ℕ} atomLimit 0) (omega (arith, h, limit)))
+      ∙ sum-is ns (replicate (la - length (atomTable ns)) 0) v (omega (arith, q)) few in
+      ap (λ (y : ℕ). entryAt (padded lb (bondTable ns)) ((y + i) * 2)) s
+      ∙ ap₂ (λ (y z : ℕ). entryTo (sureKind (kindOf y)) z) (r .0) (r .1)
+      ∙ ap (λ (x : BondKind). entryTo x (targetOf (getD (getD ns v noNode .edges) i noEdge .target))) (sure-code (getD (getD ns v noNode .edges) i noEdge .kind))
+
 -- ---- maps by place
 at-map : {A B : Type 0} (f : A → B) (l : List A) (v : ℕ) (x : A) (y : B) → v < length l → getD (map f l) v y ≡ f (getD l v x)
 at-map f [] v x y h = absurd (omega arith)
@@ -172,29 +207,24 @@ module _ (g : Graph) (p : Numbers) (N : Numbering g p) (T : (a : ℕ) → a < g 
       ap length (edges-at v q) ∙ length-map (entriesOf g (p .atom v) (p .parent (p .atom v))) _
       ∙ entries-length g (p .atom v) (p .parent (p .atom v)) (N .parent (p .atom v))
 
+  few-nodes : countOf (renumbered g p) < 2 ^ 32
+  few-nodes = omega (arith, count, few)
+
   degree-at : (v : ℕ) → v < g .size → degreeAt h v ≡ degreeAt g (p .atom v)
-  unfolding padded
-  degree-at v q =
-      atom-words (renumbered g p) (replicate (la - length (atomTable (renumbered g p))) 0) v (in-nodes v q) .2 ∙ edges-long v q
+  degree-at v q = nodes-degree (renumbered g p) (g .size) la lb limit few-nodes v (in-nodes v q) ∙ edges-long v q
 
   entry-at : (v i : ℕ) → v < g .size → i < degreeAt g (p .atom v)
       → bondOf h v i ≡ numberedAs (p .number) (getD (entriesOf g (p .atom v) (p .parent (p .atom v))) i (entryTo Elided 0))
-  unfolding bondIn padded edgeOf numberedAs targetOf
+  unfolding edgeOf numberedAs targetOf
   entry-at v i q k =
       let a : ℕ = p .atom v in
       let es : List BondEntry = entriesOf g a (p .parent a) in
       let x : BondEntry = getD es i (entryTo Elided 0) in
-      let l : i < length (getD (renumbered g p) v noNode .edges) = rw (edges-long v q) k in
       let le : i < length es = rw (entries-length g a (p .parent a) (N .parent a)) k in
-      let r = bond-table (renumbered g p) (replicate (lb - length (bondTable (renumbered g p))) 0) v i (in-nodes v q) l in
       let e : getD (getD (renumbered g p) v noNode .edges) i noEdge ≡ edgeOf (p .number) x =
       ap (λ (y : List Edge). getD y i noEdge) (edges-at v q) ∙ at-map (edgeOf (p .number)) es i (entryTo Elided 0) noEdge le in
-      let s : getD (h .first) v 0 ≡ before (renumbered g p) v =
-      entry-starts-at (g .size) v (padded la (atomTable (renumbered g p))) (zeros atomLimit) q (rw (length-replicate {A = ℕ} atomLimit 0) (omega (arith, q, limit)))
-      ∙ sum-is (renumbered g p) (replicate (la - length (atomTable (renumbered g p))) 0) v (omega (arith, in-nodes v q)) (omega arith) in
-      ap (λ (y : ℕ). entryAt (padded lb (bondTable (renumbered g p))) ((y + i) * 2)) s
-      ∙ ap₂ (λ (y z : ℕ). entryTo (sureKind (kindOf y)) z) (r .0 ∙ ap (λ (y : Edge). codeOf (y .kind)) e) (r .1 ∙ ap (λ (y : Edge). targetOf (y .target)) e)
-      ∙ ap (λ (k : BondKind). entryTo k (p .number (x .to))) (sure-code (x .kind))
+      nodes-entry (renumbered g p) (g .size) la lb limit few-nodes v i q (in-nodes v q) (rw (edges-long v q) k)
+      ∙ ap (λ (y : Edge). entryTo (y .kind) (targetOf (y .target))) e
 
   pub tables-renumber : Renumbers g h p
   tables-renumber = record { size = refl; kind = kind-at; degree = degree-at; entry = entry-at }

@@ -15,6 +15,7 @@ use Rattle.feature.specs.declared.bond_kind.BondKind.{BondKind}
 use Rattle.desk_numbers.specs.Numbers.{inversion}
 use Rattle.feature.proofs.Bonds.{same-code}
 use Rattle.feature.proofs.Cases.{by-eq, by-test, both-first, clash}
+use Rattle.desk_numbers.specs.Numbers.{unknownTarget, halfBond, duplicateBond, incompatibleBond}
 use Rattle.walk_entry.specs.declared.entry.Back.{Back}
 use Rattle.walk_entry.specs.declared.entry.Back.the-variants.{Found, Twice, Fixed}
 use Rattle.walk_entry.specs.declared.entry.Way.{Way}
@@ -208,3 +209,56 @@ tie-ties g k s t =
     subst (Ties g k s t) (sym (tie-scans g k s t))
     (tied-ties g k s t (scannedTo g s t) (scannedTo g t s)
     (scan-tells (g .bonds) (g .first) s t false (degreeAt g s)) (scan-tells (g .bonds) (g .first) t s false (degreeAt g t)))
+
+-- ---- what refuses a bond whose target holds the reverse
+-- no number of a bond with one end, of one whose ends do not match, or of a target that is no atom
+pub record NoEnd (r : ℕ) : Type 0 where
+  pub target : r ≢ unknownTarget
+  pub half : r ≢ halfBond
+  pub match : r ≢ incompatibleBond
+
+unfoldable pub Allows : Way → Type 0
+Allows (Enters b) = Unit {0}
+Allows (Refuses r a b) = NoEnd r
+
+pub twice-ends : NoEnd duplicateBond
+twice-ends = record { target = λ z. omega arith; half = λ z. omega arith; match = λ z. omega arith }
+
+module _ (g : Graph) (s i t : ℕ) (B : Backed g s t (bondOf g s i)) where
+  abbrev kind : BondKind
+  kind = bondOf g s i .kind
+
+  -- the one entry back is the reverse
+  sole-place : (b : ℕ) → Sole (g .bonds) (g .first) t s (degreeAt g t) b → b - 1 ≡ B .place
+  sole-place b h = omega (arith, h .only (B .place) (B .within) (B .leads))
+
+  sole-allows : (b : ℕ) → Sole (g .bonds) (g .first) t s (degreeAt g t) b → Allows (pick (sameKind (bondOf g t (b - 1) .kind) (reverseOf kind)) (Enters b) (Refuses incompatibleBond t s))
+  unfolding Allows
+  sole-allows b h =
+      by-test Allows (sameKind (bondOf g t (b - 1) .kind) (reverseOf kind)) (λ q. tt)
+      (λ q. clash (eq-eqb (codeOf (bondOf g t (b - 1) .kind)) (codeOf (reverseOf kind)) (ap (λ (x : ℕ). codeOf (bondOf g t x .kind)) (sole-place b h) ∙ ap codeOf (B .reversed))) q)
+
+  some-back : (b : ℕ) → Sole (g .bonds) (g .first) t s (degreeAt g t) b → b ≢ 0
+  some-back b h z = omega (arith, h .only (B .place) (B .within) (B .leads))
+
+  judged-allows : (fixed : Bool) (x : Back) → Tells (g .bonds) (g .first) t s fixed (degreeAt g t) x → Allows (judgedBack g kind s t x)
+  unfolding judgedBack Allows Tells
+  judged-allows fixed Fixed h = record { target = λ z. omega arith; half = λ z. omega arith; match = λ z. omega arith }
+  judged-allows fixed Twice h = twice-ends
+  judged-allows fixed (Found b) h = by-test Allows (eqb b 0) (λ q. absurd (some-back b h (eqb-true _ _ q))) (λ q. sole-allows b h)
+
+  pub way-allows : Allows (wayOf g kind s t)
+  unfolding wayOf
+  way-allows =
+      judged-allows (isFixed (kindAt g t)) (scanOf g t s) (scan-tells (g .bonds) (g .first) t s (isFixed (kindAt g t)) (degreeAt g t))
+
+  tied-allows : (twice : Bool) (x : Back) → Tells (g .bonds) (g .first) t s false (degreeAt g t) x → Allows (tiedBy g kind s t twice x)
+  unfolding tiedBy Allows Tells
+  tied-allows twice Fixed h = twice-ends
+  tied-allows twice Twice h = twice-ends
+  tied-allows twice (Found b) h =
+      by-test Allows (eqb b 0) (λ q. absurd (some-back b h (eqb-true _ _ q))) (λ q. by-test Allows twice (λ z. twice-ends) (λ z. sole-allows b h))
+
+  pub tie-allows : Allows (tieOf g kind s t)
+  tie-allows =
+      subst Allows (sym (tie-scans g kind s t)) (tied-allows (isTwice (scannedTo g s t)) (scannedTo g t s) (scan-tells (g .bonds) (g .first) t s false (degreeAt g t)))
