@@ -91,7 +91,7 @@ fn a_builder_that_is_told_a_text_builds_what_is_read() {
 
 #[test]
 fn a_writer_that_is_told_a_walk_writes_what_is_written() {
-    for (name, sort) in [("graphs", "write"), ("broken", "write"), ("order", "order")] {
+    for (name, sort) in [("graphs", "write"), ("broken", "write"), ("rings", "write"), ("order", "order")] {
         for (asked, _) in rows(name, sort) {
             let graph = graph(&asked);
             let mut writer = Writer::new();

@@ -32,7 +32,7 @@ fn lines_are_rewritten_as_listed() {
 
 #[test]
 fn graphs_are_written_as_listed() {
-    for name in ["graphs", "broken"] {
+    for name in ["graphs", "broken", "rings"] {
         for (asked, expected) in rows(name, "write") {
             assert_eq!(written(graph(&asked).write()), expected, "{asked}");
         }

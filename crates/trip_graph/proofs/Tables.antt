@@ -1,5 +1,5 @@
--- The tables of a renumbered graph hold that graph: its kinds, its degrees and its entries are those of the graph walked, by their
--- new numbers.
+-- Tables of nodes hold a graph with their degrees and entries. So those of a renumbered graph hold that graph: its kinds, its
+-- degrees and its entries are those of the graph walked, by their new numbers.
 use mathlib.Core.Path.{_≡_, refl, ap, ap₂, _∙_}
 use mathlib.Core.List.{List, [], _∷_, _++_, map, append-assoc}
 use mathlib.Core.Bool.{true}

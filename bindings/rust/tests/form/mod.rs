@@ -25,7 +25,7 @@ pub fn rows(name: &str, sort: &str) -> Vec<(String, String)> {
             Some((asked.to_string(), answers.split('\t').next_back().unwrap().to_string()))
         })
         .collect();
-    assert!(rows.len() >= 150, "only {} rows of {sort}in {name}", rows.len());
+    assert!(rows.len() >= 80, "only {} rows of {sort}in {name}", rows.len());
     rows
 }
 
