@@ -4,7 +4,6 @@ use Prim.Native.Nat.{ℕ, _/_, _≤_, _<_}
 use mathlib.Core.Path.{_≡_, refl, sym, ap, _∙_, subst}
 use mathlib.Core.Logic.{_≢_}
 use mathlib.Core.List.{List}
-use mathlib.Core.Bool.{false}
 use native.Mathlib.Omega.{arith}
 use lib.ListN.{length, take}
 use lib.Dec.{leb, ltb}
@@ -16,7 +15,6 @@ use Rattle.desk_numbers.specs.Numbers.{atomRoom, bondRoom, nesting}
 use Rattle.read_line.specs.Parse.{parse}
 use Rattle.builder.specs.declared.build.Built.the-variants as built
 use Rattle.builder_meaning.specs.Sketch.{Sketch, startS, runS, sketchOf, finishS, nextNumber, countOf}
-use Rattle.read.specs.declared.Answer.{Answer}
 use Rattle.read.specs.declared.Answer.the-variants as answer
 use Rattle.read.specs.Read.{Said, readRefusal, builtAnswer}
 use Rattle.read.specs.Line as read
@@ -29,7 +27,7 @@ use Rattle.trip_graph.proofs.Lists.{by-bool}
 use Rattle.trip_graph.proofs.Written.{done-simple}
 use Rattle.trip_graph.proofs.ComesBack.{events-come-back}
 use Rattle.round_trip.specs.RoundTrip.{Plain}
-use Rattle.round_trip.specs.Answers.{Reread, whole, long, few-atoms, few-bonds, deep, blamesRing}
+use Rattle.round_trip.specs.Answers.{Reread, whole, long, few-atoms, few-bonds, deep}
 use Rattle.round_trip.proofs.Wider.{Kept, kept, few-places, few-slots, run-wide}
 use Rattle.round_trip.proofs.Law.{line-is, line-says}
 use Rattle.round_trip.proofs.Deep.{deep-refused}
@@ -43,15 +41,15 @@ unfolding read.wholeOrRefused
 refused-is d r la lb e ne = rw (ne-eqb (d .refusal) 0 (λ z. ne (sym e ∙ z)), e)
 
 -- the greater of two, for room that is enough
-abbrev greater : ℕ → ℕ → ℕ
+abbrev pub greater : ℕ → ℕ → ℕ
 greater a b = pick (leb b a) a b
 
-record Enough (a b c : ℕ) : Type 0 where
-  left : a ≤ c
-  right : b ≤ c
-  less : a < c → a < b
+pub record Enough (a b c : ℕ) : Type 0 where
+  pub left : a ≤ c
+  pub right : b ≤ c
+  pub less : a < c → a < b
 
-enough : (a b : ℕ) → Enough a b (greater a b)
+pub enough : (a b : ℕ) → Enough a b (greater a b)
 enough a b =
     by-test (Enough a b) (leb b a)
     (λ q. record { left = omega arith; right = leb-true b a q; less = λ l. absurd (omega arith) })
@@ -99,11 +97,3 @@ module _ (room : ℕ) (atoms : List ℕ) (n : ℕ) (bonds : List ℕ) (m len : �
       by-test (λ (x : Said). Reread line n m la lb (x .answer)) (ltb textLimit (length line)) (λ q. long (ltb-true textLimit (length line) q))
       (λ q. kept-answers (runS (startS places slots) (parse line))
       (run-wide places slots p l (enough places n .left) (enough slots m .left) (parse line) (startS places slots) refl refl))
-
-pub no-ring : {line : List ℕ} {n m la lb : ℕ} {x : Answer} → Reread line n m la lb x → blamesRing x ≡ false
-unfolding blamesRing
-no-ring whole = refl
-no-ring (long h) = refl
-no-ring (few-atoms c h) = refl
-no-ring (few-bonds c h) = refl
-no-ring (deep c h) = refl

@@ -28,6 +28,8 @@ use Rattle.trip_graph.specs.Steps as graph-steps
 use Rattle.trip_graph.specs.Renumbered.{Numbers, byWalk, renumbered}
 use Rattle.walk_entry.specs.Graph.{Graph, kindAt}
 use Rattle.trip_graph.proofs.Written.{was-done, done-simple, table-numbers, table-numbered, table-count}
+use Rattle.survive.specs.Survive.{survives}
+use Rattle.trip_graph.proofs.Marks.{marks-serve}
 use Rattle.trip_graph.proofs.Trip.{renumbered-length}
 use Rattle.trip_graph.proofs.ComesBack.{text-comes-back, tables-hold}
 use Rattle.round_trip.specs.RoundTrip.{Plain, Readable, readAs, Same}
@@ -55,7 +57,7 @@ module _ (room : ℕ) (atoms : List ℕ) (n : ℕ) (bonds : List ℕ) (m len : �
       let d = was-done room atoms n bonds m len out done in
       kept-spelled (walkEvents atoms n bonds m)
       (unfold saidIn in
-      kept-turns (graphOf n atoms bonds) (λ a h. passes (kindAt (graphOf n atoms bonds) a) (P .survive a h)) (turnsOf n m) _)
+      kept-turns survives (marks-serve .kept) (graphOf n atoms bonds) (λ a h. passes (kindAt (graphOf n atoms bonds) a) (P .survive a h)) (turnsOf n m) _)
       (table-numbered atoms bonds n m (d .few) (d .good) (done-simple room atoms n bonds m len out (P .some) done) (P .marks) (d .fine))
 
   pub walk-accepted : AllAccepted atomLimit (walkEvents atoms n bonds m) []

@@ -4,8 +4,10 @@ pub mod Spelling
 pub mod Law
 pub mod ByOrder
 pub mod Wider
+pub mod Bare
 pub mod Deep
 pub mod Answers
+pub mod AnyKinds
 pub mod Lines
 pub mod RoundTrip
 pub mod Sample

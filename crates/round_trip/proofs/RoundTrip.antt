@@ -24,7 +24,8 @@ use Rattle.round_trip.specs.Steps.{backByTurns}
 use Rattle.round_trip.proofs.Law.{turns-trip, turns-trip-wide, turns-same, turns-one-line, turns-one-count}
 use Rattle.round_trip.proofs.ByOrder.{order-done, order-numbers}
 use Rattle.round_trip.proofs.Deep.{turns-too-deep, turns-trip-answer}
-use Rattle.round_trip.proofs.Answers.{turns-reread, no-ring}
+use Rattle.round_trip.proofs.Answers.{turns-reread}
+use Rattle.round_trip.proofs.AnyKinds.{turns-never-rings}
 use Rattle.read_line.specs.Events.{hasNest}
 
 -- ---- from turns to promises
@@ -85,12 +86,11 @@ pub reread-answers : (room : ℕ) (atoms : List ℕ) (n : ℕ) (bonds : List ℕ
 reread-answers room atoms n bonds m len out P e =
     turns-reread room atoms n bonds m len out P (by-turns room atoms n bonds m len out e)
 
--- So it is never answered with 3 or 4: no ring number in it is left open, and the ends of each agree.
-pub never-rings : (room : ℕ) (atoms : List ℕ) (n : ℕ) (bonds : List ℕ) (m len : ℕ) (out : List ℕ)
-    → Plain (graphOf n atoms bonds) → writePlain room atoms n bonds m ≡ writeLeaves (Done len) out
+-- No line that was written, of whatever graph, is answered with 3 or 4: no ring number in it is left open, and the ends of each agree.
+pub never-rings : (room : ℕ) (atoms : List ℕ) (n : ℕ) (bonds : List ℕ) (m len : ℕ) (out : List ℕ) → writePlain room atoms n bonds m ≡ writeLeaves (Done len) out
     → (la lb : ℕ) → blamesRing (readText (take len out) la lb .answer) ≡ false
-never-rings room atoms n bonds m len out P e la lb =
-    no-ring (reread-answers room atoms n bonds m len out P e la lb)
+never-rings room atoms n bonds m len out e =
+    turns-never-rings room atoms n bonds m len out (by-turns room atoms n bonds m len out e)
 
 -- Two such graphs with the same line have the same renumbering, and so as many atoms and as many entries.
 pub one-line : (r1 : ℕ) (a1 : List ℕ) (n1 : ℕ) (b1 : List ℕ) (m1 l1 : ℕ) (o1 : List ℕ) (r2 : ℕ) (a2 : List ℕ) (n2 : ℕ) (b2 : List ℕ) (m2 l2 : ℕ) (o2 : List ℕ)

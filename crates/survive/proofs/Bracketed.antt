@@ -109,7 +109,7 @@ bracketed s n b rest w e =
       close = front s (atClose n b) e6;
     }
 
-of-got : (p : Part) (v k : ℕ) → got p ≡ Got v k → p ≡ part v k
+pub of-got : (p : Part) (v k : ℕ) → got p ≡ Got v k → p ≡ part v k
 of-got p v k e =
     let a : p .value ≡ v = cc in
     let b : p .next ≡ k = cc in

@@ -72,7 +72,7 @@ pub record Here (F : Field) (s : List ℕ) (n v : ℕ) : Type 0 where
   pub next : Starts (F .after) rest
 
 -- what is read there is what is read of the text alone, further on
-here-read : {F : Field} {s : List ℕ} {n v : ℕ} (h : Here F s n v) → F .read s n ≡ onward n (F .read (F .text v ++ (h .next .head ∷ h .next .rest)) 0)
+pub here-read : {F : Field} {s : List ℕ} {n v : ℕ} (h : Here F s n v) → F .read s n ≡ onward n (F .read (F .text v ++ (h .next .head ∷ h .next .rest)) 0)
 here-read {F} {s} {n} {v} h =
     ap (λ (m : ℕ). F .read s m) (sym (add-zero n)) ∙ F .moves s n 0
     ∙ ap (λ (l : List ℕ). onward n (F .read l 0)) (h .stands ∙ ap (λ (l : List ℕ). F .text v ++ l) (h .next .is))

@@ -6,6 +6,7 @@ pub mod Fields
 pub mod Bracketed
 pub mod Organic
 pub mod ReadBack
+pub mod Somehow
 pub mod Length
 pub mod Marks
 pub mod Inside

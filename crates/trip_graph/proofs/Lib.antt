@@ -18,6 +18,7 @@ pub mod Places
 pub mod Written
 pub mod Walked
 pub mod HeldEnds
+pub mod Stars
 pub mod Tables
 pub mod ComesBack
 pub mod Bench

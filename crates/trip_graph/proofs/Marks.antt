@@ -14,7 +14,7 @@ use Rattle.feature.specs.declared.atom_kind.AtomKind.{AtomKind}
 use Rattle.feature.specs.declared.atom_kind.AtomKind.the-variants.{Star, Aliphatic, Aromatic, Bracket}
 use Rattle.feature.specs.declared.atom_kind.Inverted.{Inverted}
 use Rattle.feature.specs.declared.atom_kind.Inverted.the-variants.{Turned}
-use Rattle.feature.proofs.Cases.{by-test, by-eq}
+use Rattle.feature.proofs.Cases.{by-test, by-eq, by-either}
 use Rattle.feature.proofs.Ranges.{good, ranged}
 use Rattle.survive.specs.Survive.{configurationSurvives, fieldsSurvive, survives}
 use Rattle.walk_entry.specs.Ways.{isRefused, isFixed, even, saidAs}
@@ -188,6 +188,30 @@ turned-survives (Bracket b) h =
 said-survives : (k : AtomKind) (b : ℕ) → survives k ≡ true → survives (saidAs k b) ≡ true
 unfolding saidAs
 said-survives k b h = by-test (λ (x : AtomKind). survives x ≡ true) (even b) (λ q. h) (λ q. turned-survives k h)
+
+-- ---- what is said is in range
+mark-range : (b : BracketAtom) (c : ℕ) → c ≤ th2 → inRange (Bracket b) ≡ true → inRange (Bracket (withConfiguration b c)) ≡ true
+mark-range b c l h =
+    let w = good (Bracket b) h in
+    ranged (Bracket (withConfiguration b c))
+    (record { isotope = w .isotope; symbol = w .symbol; configuration = omega arith; hydrogens = w .hydrogens; charge = w .charge; map = w .map })
+
+turned-range : (k : AtomKind) → inRange k ≡ true → inRange (turnedOr k (invertOf k)) ≡ true
+unfolding turnedOr invertOf invertBracket
+turned-range Star h = h
+turned-range (Aliphatic n) h = h
+turned-range (Aromatic n) h = h
+turned-range (Bracket b) h =
+    let P : Inverted → Type 0 = λ x. inRange (turnedOr (Bracket b) x) ≡ true in
+    by-either P (eqb (b .configuration) noConfiguration) h
+    (by-either P (eqb (b .hydrogens) noHydrogens) h
+    (by-either P (eqb (b .hydrogens) 0) h
+    (by-either P (eqb (b .configuration) th1) (mark-range b th2 (omega arith) h)
+    (by-either P (eqb (b .configuration) th2) (mark-range b th1 (omega arith) h) h))))
+
+pub said-range : (k : AtomKind) (b : ℕ) → inRange k ≡ true → inRange (saidAs k b) ≡ true
+unfolding saidAs
+said-range k b h = by-test (λ (x : AtomKind). inRange x ≡ true) (even b) (λ q. h) (λ q. turned-range k h)
 
 -- ---- the law
 pub marks-serve : MarksServe

@@ -169,7 +169,7 @@ unfolding kindOr inRange
 held-range (loaded.Held k) h = h k refl
 held-range loaded.Bad h = refl
 
-kind-range : (g : Graph) (a : ℕ) → inRange (kindAt g a) ≡ true
+pub kind-range : (g : Graph) (a : ℕ) → inRange (kindAt g a) ≡ true
 unfolding kindIn words.loadAt
 kind-range g a = held-range _ (λ k e. only _ _ k e .0)
 

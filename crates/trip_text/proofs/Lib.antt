@@ -7,4 +7,6 @@ pub mod Bodies
 pub mod Sense
 pub mod Held
 pub mod Retold
+pub mod Starred
+pub mod StarredLine
 pub mod Sample
