@@ -1,14 +1,13 @@
 -- Rereading a written line, whatever room is lent: held beside a reading into room for all of it, which refuses nothing but a
 -- branch too many. Assumes nothing.
-use Prim.Native.Nat.{ℕ, _/_, _≤_, _<_}
+use Prim.Native.Nat.{ℕ, _/_, max}
 use mathlib.Core.Path.{_≡_, refl, sym, ap, _∙_, subst}
 use mathlib.Core.Logic.{_≢_}
 use mathlib.Core.List.{List}
 use native.Mathlib.Omega.{arith}
 use lib.ListN.{length, take}
-use lib.Dec.{leb, ltb}
-use borrow.Author.Tests.{eq-eqb, ne-eqb, leb-true, leb-false, ltb-true}
-use Rattle.feature.specs.Pick.{pick}
+use lib.Dec.{ltb}
+use borrow.Author.Tests.{eq-eqb, ne-eqb, ltb-true}
 use Rattle.table.specs.Records.{atomWords, bondWords}
 use Rattle.table.specs.Limits.{textLimit, atomLimit, bondLimit, lesserOf}
 use Rattle.desk_numbers.specs.Numbers.{atomRoom, bondRoom, nesting}
@@ -40,21 +39,6 @@ refused-is : (d : Sketch) (r la lb : ℕ) → d .refusal ≡ r → r ≢ 0 → r
 unfolding read.wholeOrRefused
 refused-is d r la lb e ne = rw (ne-eqb (d .refusal) 0 (λ z. ne (sym e ∙ z)), e)
 
--- the greater of two, for room that is enough
-abbrev pub greater : ℕ → ℕ → ℕ
-greater a b = pick (leb b a) a b
-
-pub record Enough (a b c : ℕ) : Type 0 where
-  pub left : a ≤ c
-  pub right : b ≤ c
-  pub less : a < c → a < b
-
-pub enough : (a b : ℕ) → Enough a b (greater a b)
-enough a b =
-    by-test (Enough a b) (leb b a)
-    (λ q. record { left = omega arith; right = leb-true b a q; less = λ l. absurd (omega arith) })
-    (λ q. let z : a < b = leb-false b a q in record { left = omega arith; right = omega arith; less = λ l. l })
-
 module _ (room : ℕ) (atoms : List ℕ) (n : ℕ) (bonds : List ℕ) (m len : ℕ) (out : List ℕ)
     (P : Plain (graphOf n atoms bonds)) (e : writeOf room atoms n bonds m ≡ writeLeaves (Done len) out) (la lb : ℕ) where
   abbrev line : List ℕ
@@ -67,10 +51,10 @@ module _ (room : ℕ) (atoms : List ℕ) (n : ℕ) (bonds : List ℕ) (m len : �
   slots = lesserOf bondLimit (lb / bondWords)
 
   abbrev p : ℕ
-  p = greater places n
+  p = max places n
 
   abbrev l : ℕ
-  l = greater slots m
+  l = max slots m
 
   -- a builder beside one with room for all
   kept-answers : (d : Sketch) → Kept places slots p l d (runS (startS p l) (parse line)) → Reread line n m la lb (read.wholeOrRefused d la lb .answer)
@@ -79,21 +63,21 @@ module _ (room : ℕ) (atoms : List ℕ) (n : ℕ) (bonds : List ℕ) (m len : �
       let said : line ≡ lineSaid (walkEvents atoms n bonds m) = line-is room atoms n bonds m len out e in
       by-bool (hasNest (parse line))
       (λ q. subst (Reread line n m la lb)
-      (sym (refused-is d nesting la lb (sym (ap (λ (x : Sketch). x .refusal) w) ∙ deep-refused room atoms n bonds m len out P e q p l (enough places n .right) (enough slots m .right)) (λ y. omega arith)))
+      (sym (refused-is d nesting la lb (sym (ap (λ (x : Sketch). x .refusal) w) ∙ deep-refused room atoms n bonds m len out P e q p l (omega arith) (omega arith)) (λ y. omega arith)))
       (deep (d .carried) q))
-      (λ q. let c = events-come-back room atoms n bonds m len out (done-simple room atoms n bonds m len out (P .some) e) (P .marks) e p l (enough places n .right) (enough slots m .right) (parse line)
+      (λ q. let c = events-come-back room atoms n bonds m len out (done-simple room atoms n bonds m len out (P .some) e) (P .marks) e p l (omega arith) (omega arith) (parse line)
       (ap (λ (x : List ℕ). unplaced (parse x)) said ∙ line-says room atoms n bonds m len out P e (ap (λ (x : List ℕ). hasNest (parse x)) (sym said) ∙ q)) in
       subst (Reread line n m la lb)
       (sym (done-is d n m la lb (sym (ap (λ (x : Sketch). x .refusal) w) ∙ c .built .refusal) (sym (ap finishS w) ∙ c .built .says) (sym (ap nextNumber w) ∙ c .atoms) (sym (ap (λ (x : Sketch). countOf (x .nodes)) w) ∙ c .entries)))
       whole)
   kept-answers d (few-places r h) =
-      subst (Reread line n m la lb) (sym (refused-is d atomRoom la lb r (λ y. omega arith))) (few-atoms (d .carried) (enough places n .less h))
+      subst (Reread line n m la lb) (sym (refused-is d atomRoom la lb r (λ y. omega arith))) (few-atoms (d .carried) (omega arith))
   kept-answers d (few-slots r h) =
-      subst (Reread line n m la lb) (sym (refused-is d bondRoom la lb r (λ y. omega arith))) (few-bonds (d .carried) (enough slots m .less h))
+      subst (Reread line n m la lb) (sym (refused-is d bondRoom la lb r (λ y. omega arith))) (few-bonds (d .carried) (omega arith))
 
   pub turns-reread : Reread line n m la lb (read.readText line la lb .answer)
   unfolding read.readText sketchOf
   turns-reread =
       by-test (λ (x : Said). Reread line n m la lb (x .answer)) (ltb textLimit (length line)) (λ q. long (ltb-true textLimit (length line) q))
       (λ q. kept-answers (runS (startS places slots) (parse line))
-      (run-wide places slots p l (enough places n .left) (enough slots m .left) (parse line) (startS places slots) refl refl))
+      (run-wide places slots p l (omega arith) (omega arith) (parse line) (startS places slots) refl refl))

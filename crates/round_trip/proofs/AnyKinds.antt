@@ -1,6 +1,6 @@
 -- A written line is never reread as 3 or 4, whatever the kinds and marks of its atoms: ring numbers and bonds are written and read as in
 -- the same graph with a star for each atom, which comes back. Assumes nothing.
-use Prim.Native.Nat.{ℕ, zero, suc, _+_, _/_, _≤_, _<_}
+use Prim.Native.Nat.{ℕ, zero, suc, _+_, _/_, _≤_, _<_, max}
 use mathlib.Core.Path.{_≡_, refl, sym, ap, ap₂, _∙_, subst}
 use mathlib.Core.List.{List, [], _∷_, _++_, map}
 use mathlib.Core.Bool.{true, false}
@@ -53,7 +53,6 @@ use Rattle.round_trip.proofs.Ordered.{told-walk, some-said}
 use Rattle.round_trip.proofs.Spelling.{Kept, kept-spelled, kept-ranged, kept-turns}
 use Rattle.round_trip.proofs.Law.{line-is}
 use Rattle.round_trip.proofs.Bare.{Bares, same, off, finish-bare, run-bare, lost-refused, nest-refused}
-use Rattle.round_trip.proofs.Answers.{greater, enough}
 
 -- ---- events without kinds and places
 bare-placeless : (x : List ReadEvent) → map bareEvent (unplaced x) ≡ map bareEvent x
@@ -201,10 +200,10 @@ module _ (room : ℕ) (atoms : List ℕ) (n : ℕ) (bonds : List ℕ) (m len : �
   -- a builder that is told the line's events, with whatever room, has refused something or is done
   module _ (places slots : ℕ) where
     abbrev p : ℕ
-    p = greater places n
+    p = max places n
 
     abbrev l : ℕ
-    l = greater slots m
+    l = max slots m
 
     abbrev d : Sketch
     d = runS (startS places slots) (parse (lineSaid said))
@@ -212,7 +211,7 @@ module _ (room : ℕ) (atoms : List ℕ) (n : ℕ) (bonds : List ℕ) (m len : �
     bares-done : runS (startS p l) (map bareEvent (parse (lineSaid said))) ≡ runS (startS p l) (retold stars)
         → Bares p l d (runS (startS p l) (map bareEvent (parse (lineSaid said)))) → d .refusal ≡ 0 → finishS d ≡ built.Done
     bares-done q (same i hp hl) z =
-        sym (finish-bare p l d) ∙ ap finishS (sym i ∙ q) ∙ star-built p l (enough places n .right) (enough slots m .right)
+        sym (finish-bare p l d) ∙ ap finishS (sym i ∙ q) ∙ star-built p l (omega arith) (omega arith)
     bares-done q (off h) z = absurd (h z)
 
     alike-done : Alike (parse (lineSaid stars)) (parse (lineSaid said)) → d .refusal ≡ 0 → finishS d ≡ built.Done
@@ -220,7 +219,7 @@ module _ (room : ℕ) (atoms : List ℕ) (n : ℕ) (bonds : List ℕ) (m len : �
     alike-done (alike q) z =
         by-bool (hasNest (parse (lineSaid stars)))
         (λ h. absurd (nest-refused (parse (lineSaid said)) (sym (bare-nests (parse (lineSaid said))) ∙ ap hasNest (sym q) ∙ bare-nests (parse (lineSaid stars)) ∙ h) (startS places slots) z))
-        (λ h. bares-done (ap (runS (startS p l)) (sym q ∙ star-read h)) (run-bare p l (parse (lineSaid said)) (startS places slots) (enough places n .left) (enough slots m .left)) z)
+        (λ h. bares-done (ap (runS (startS p l)) (sym q ∙ star-read h)) (run-bare p l (parse (lineSaid said)) (startS places slots) (omega arith) (omega arith)) z)
 
   some-never-rings : (la lb : ℕ) → blamesRing (read.readText (take len out) la lb .answer) ≡ false
   unfolding read.readText sketchOf blamesRing

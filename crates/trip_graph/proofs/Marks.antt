@@ -149,16 +149,20 @@ said-built k b h n =
     (λ e. ap invertOf (said-odd k b h e) ∙ invert-is (turned k) (turned-stays k h) ∙ ap Turned (turned-twice k h ∙ sym (back-quiet k b (odd-index b n ∙ e))))
 
 -- ---- ranges
+mark-range : (b : BracketAtom) (c : ℕ) → c ≤ th2 → inRange (Bracket b) ≡ true → inRange (Bracket (withConfiguration b c)) ≡ true
+mark-range b c l h =
+    let w = good (Bracket b) h in
+    ranged (Bracket (withConfiguration b c))
+    (record { isotope = w .isotope; symbol = w .symbol; configuration = omega arith; hydrogens = w .hydrogens; charge = w .charge; map = w .map })
+
 toggled-range : (k : AtomKind) → Tetrahedral k → inRange k ≡ true → inRange (toggled k) ≡ true
 unfolding toggled
 toggled-range Star t h = h
 toggled-range (Aliphatic n) t h = h
 toggled-range (Aromatic n) t h = h
 toggled-range (Bracket b) t h =
-    let w = good (Bracket b) h in
     let m = mark-small (b .configuration) t in
-    ranged (Bracket (withConfiguration b (otherMark (b .configuration))))
-    (record { isotope = w .isotope; symbol = w .symbol; configuration = omega arith; hydrogens = w .hydrogens; charge = w .charge; map = w .map })
+    mark-range b (otherMark (b .configuration)) (omega arith) h
 
 back-range : (k : AtomKind) (b : ℕ) → Tetrahedral k → inRange k ≡ true → inRange (backKind k b) ≡ true
 unfolding backKind
@@ -190,12 +194,6 @@ unfolding saidAs
 said-survives k b h = by-test (λ (x : AtomKind). survives x ≡ true) (even b) (λ q. h) (λ q. turned-survives k h)
 
 -- ---- what is said is in range
-mark-range : (b : BracketAtom) (c : ℕ) → c ≤ th2 → inRange (Bracket b) ≡ true → inRange (Bracket (withConfiguration b c)) ≡ true
-mark-range b c l h =
-    let w = good (Bracket b) h in
-    ranged (Bracket (withConfiguration b c))
-    (record { isotope = w .isotope; symbol = w .symbol; configuration = omega arith; hydrogens = w .hydrogens; charge = w .charge; map = w .map })
-
 turned-range : (k : AtomKind) → inRange k ≡ true → inRange (turnedOr k (invertOf k)) ≡ true
 unfolding turnedOr invertOf invertBracket
 turned-range Star h = h

@@ -88,7 +88,7 @@ part zero {d = d} c (more {d = x} h a b) g =
 part (suc e) {d = d} c (more {d = x} h a b) g = part-more (part e {d = d} (suc x) h (omega arith)) a
 
 -- ---- one event
-root-dot : (n : ℕ) → dotText (suc n) ≡ bytes "."
+pub root-dot : (n : ℕ) → dotText (suc n) ≡ bytes "."
 unfolding dotText
 root-dot n = rw (ne-eqb (suc n) 0 (λ e. omega arith))
 

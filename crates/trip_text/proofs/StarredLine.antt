@@ -6,7 +6,7 @@ use mathlib.Core.List.{List, [], _∷_, _++_, map, append-assoc, append-nil}
 use mathlib.Core.Bool.{true}
 use native.Mathlib.Omega.{arith}
 use lib.ListN.{length, take, drop}
-use borrow.Author.Tests.{ne-eqb, lt-leb, lt-ltb, le-ltb}
+use borrow.Author.Tests.{lt-leb, lt-ltb, le-ltb}
 use Rattle.feature.specs.Text.{byte, bytes}
 use Rattle.feature.specs.Kinds.{inRange}
 use Rattle.feature.specs.declared.atom_kind.AtomKind.{AtomKind}
@@ -22,6 +22,7 @@ use Rattle.trip_text.specs.Steps.{Sayable}
 use Rattle.trip_text.proofs.Stands.{Stands, whole, after}
 use Rattle.trip_text.proofs.Heads.{plain-long}
 use Rattle.trip_text.proofs.Bodies.{start-read}
+use Rattle.trip_text.proofs.Held.{root-dot}
 use Rattle.trip_text.proofs.Starred.{Sub, none, single, dot, ring, branch, close, Alike, alike, lost, miss, Follows, bodies-alike, start-steps, atoms-alike, left-follows, right-follows, star-survives, star-plain, ranged-plain}
 
 -- ---- events
@@ -134,17 +135,13 @@ pieces-pop e {ps} {qs} d c h g =
     rw (lt-leb (length ps) (suc e) (omega arith), lt-leb (length qs) (suc e) (omega arith))
     (pieces-onto _ _ (r .rest) (wrapped-piece _ _ (r .line)))
 
-root-dot : (n : ℕ) → 0 < n → dotText n ≡ bytes "."
-unfolding dotText
-root-dot n h = rw (ne-eqb n 0 (λ e. omega arith))
-
 pieces-root : (k : AtomKind) → inRange k ≡ true → {ps qs : List (List ℕ)} {d : ℕ} → Pieces ps qs d
     → Pieces ((dotText (length ps) ++ atomText Star) ∷ ps) ((dotText (length qs) ++ atomText k) ∷ qs) 1
-pieces-root k ok (begun a) = rw (root-dot 1 (omega arith)) (again (begun a) (record { to = λ t u x. dot k ok x }))
+pieces-root k ok (begun a) = rw (root-dot 0) (again (begun a) (record { to = λ t u x. dot k ok x }))
 pieces-root k ok (again {ps = ps} {qs = qs} h a) =
-    rw (root-dot (suc (suc (length ps))) (omega arith), root-dot (suc (suc (length qs))) (omega arith)) (again (again h a) (record { to = λ t u x. dot k ok x }))
+    rw (root-dot (suc (length ps)), root-dot (suc (length qs))) (again (again h a) (record { to = λ t u x. dot k ok x }))
 pieces-root k ok (more {ps = ps} {qs = qs} h a b) =
-    rw (root-dot (suc (length ps)) (omega arith), root-dot (suc (length qs)) (omega arith)) (again (more h a b) (record { to = λ t u x. dot k ok x }))
+    rw (root-dot (length ps), root-dot (length qs)) (again (more h a b) (record { to = λ t u x. dot k ok x }))
 
 record Some (ps qs : List (List ℕ)) : Type 0 where
   since : ℕ
