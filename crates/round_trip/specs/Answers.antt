@@ -12,7 +12,8 @@ use Rattle.read.specs.declared.Answer.{Answer}
 use Rattle.read.specs.declared.Answer.the-variants.{Done, EndOfLine, Character, Join, Rnum, Inversion, TextTooLong, AtomRoom, BondRoom, Nesting, NoAtom}
 
 -- A line of n atoms and m bond entries, read into la and lb words: all of them are read, or the line is too long (12), or there is
--- no room for so many atoms (13) or entries (14), or it has a branch too many (15). Each refusal comes with its condition.
+-- no room for so many atoms (13) or entries (14), or it has a branch too many (15). Each refusal comes with its condition; the
+-- place that 13, 14 and 15 carry is not said here.
 pub data Reread (line : List ℕ) (n m la lb : ℕ) : Answer → Type 0 where
   whole : Reread line n m la lb (Done n m)
   long : textLimit < length line → Reread line n m la lb (TextTooLong (length line))

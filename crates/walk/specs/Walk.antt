@@ -1,7 +1,7 @@
 -- The walk: roots in number order, bonds in table order, depth first.
 --
 -- At a bond of the current atom: 5 if the target is none of the atoms, 6 if it is the source itself. If the target is
--- new, `Ways` says whether it can be entered: 10, 8, 7 and 9. If it was met before, `Ways` says whether each of the two holds
+-- new, `Ways` says whether it can be entered: 10, 8, 7 and 9. If it was met before, `Ties` says whether each of the two holds
 -- one entry for the other, of reversed kind: 7, 8 and 9; then a ring number is asked for, 11 if there is none left. Atoms that
 -- were left since the last event are popped before the next one; those left at the end of a component never are.
 use Prim.Native.Nat.{ℕ, zero, suc, _+_, _-_, _*_}
