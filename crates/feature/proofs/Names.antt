@@ -1,18 +1,20 @@
--- The table of names is ordered, so a search from the first name with a letter on finds what a look at each would. Assumes nothing.
-use Prim.Native.Nat.{ℕ, zero, suc, suc-le-suc, _*_, _/_, _%_, _<_, _≤_}
+-- The table of names is ordered, so a search from the first name of a byte on finds what a look at each would. Assumes nothing.
+use Prim.Native.Nat.{ℕ, zero, suc, suc-le-suc, _/_, _%_, _<_, _≤_}
 use mathlib.Core.Path.{_≡_, refl, _∙_, ap, sym, subst}
 use mathlib.Core.Bool.{Bool, true, false}
 use mathlib.Core.List.{List, [], _∷_}
 use native.Mathlib.Omega.{arith}
 use native.Mathlib.Nat.{le-of-suc-le-suc, not-suc-le-zero, zero-lt-suc, le-of-lt}
 use lib.ListN.{length, getD, List·getD-eq-default}
-use lib.Dec.{T, ltb, leb, ltb→lt, leb→le, eqb}
-use borrow.Author.Tests.{eq-eqb, ne-eqb, ltb-true, ltb-false, leb-true, eqb-true, eqb-false}
+use lib.Dec.{T, ltb, ltb→lt, eqb}
+use borrow.Author.Tests.{eq-eqb, ne-eqb, lt-ltb, le-ltb, ltb-true, ltb-false, eqb-true, eqb-false}
 use Rattle.feature.specs.Pick.{both, either}
-use Rattle.feature.specs.Text.{letterStep}
-use Rattle.feature.specs.Names.{symbols, names, placeOf, begins}
-use Rattle.feature.specs.Steps.{Begun, Ranked}
-use Rattle.feature.proofs.Table.{at, both-left, both-right, rising, everyEntry}
+use Rattle.feature.specs.Text.{byte, letterStep, oneLetter, twoLetters}
+use Rattle.feature.specs.Names.{symbols, names, placeOf, begins, namedOf}
+use Rattle.feature.specs.declared.element.Named.the-variants.{Two, One, Begins, Nothing}
+use Rattle.feature.specs.Steps.{firstBytes, headOf}
+use Rattle.feature.proofs.Cases.{by-test}
+use Rattle.feature.proofs.Table.{at, both-left, both-right, rising, everyEntry, NoneAmong, among, apart}
 
 pub names-length : length names ≡ symbols
 unfolding names
@@ -45,6 +47,13 @@ pub ordered : (i j : ℕ) → i < j → j < symbols → getD names i 0 < getD na
 unfolding names
 ordered i j h l = rising-at names tt i j h l
 
+-- and the name of a single letter comes before all others that begin with it
+pub single-leads : (y j : ℕ) → y < symbols → j < symbols → getD names y 0 ≡ oneLetter (getD names j 0 / letterStep) → y ≤ j
+single-leads y j l h e = split (ltb j y) refl where
+  split : (b : Bool) → ltb j y ≡ b → y ≤ j
+  split true t = absurd (omega (arith, e, ordered j y (ltb-true j y t) l))
+  split false t = ltb-false j y t
+
 -- what is at most a place is at most its name
 pub ordered-le : (i j : ℕ) → i ≤ j → j < symbols → getD names i 0 ≤ getD names j 0
 ordered-le i j h l = split (ltb i j) refl where
@@ -70,6 +79,24 @@ place-none k (x ∷ xs) n =
     simp (ne-eqb x k (n zero (zero-lt-suc (length xs))))
     (ap suc (place-none k xs (λ j h. n (suc j) (suc-le-suc h))))
 
+-- the number is at its place, and at none before
+place-has : (k : ℕ) (xs : List ℕ) → placeOf k xs < length xs → getD xs (placeOf k xs) 0 ≡ k
+unfolding placeOf
+place-has k [] h = absurd (not-suc-le-zero h)
+place-has k (x ∷ xs) h =
+    by-test (λ (p : ℕ). p < suc (length xs) → getD (x ∷ xs) p 0 ≡ k) (eqb x k)
+    (λ e l. eqb-true x k e) (λ e l. place-has k xs (le-of-suc-le-suc l)) h
+
+place-first : (k : ℕ) (xs : List ℕ) (j : ℕ) → j < placeOf k xs → getD xs j 0 ≡ k → ⊥
+unfolding placeOf
+place-first k [] j h = absurd (not-suc-le-zero h)
+place-first k (x ∷ xs) zero h =
+    by-test (λ (p : ℕ). 0 < p → x ≡ k → ⊥) (eqb x k)
+    (λ e l. absurd (not-suc-le-zero l)) (λ e l. eqb-false x k e) h
+place-first k (x ∷ xs) (suc j) h =
+    by-test (λ (p : ℕ). suc j < p → getD xs j 0 ≡ k → ⊥) (eqb x k)
+    (λ e l. absurd (not-suc-le-zero l)) (λ e l. place-first k xs j (le-of-suc-le-suc l)) h
+
 begins-here : (a : ℕ) (xs : List ℕ) (i : ℕ) → i < length xs → getD xs i 0 / letterStep ≡ a → begins a xs ≡ true
 unfolding begins
 begins-here a [] i l e = absurd (not-suc-le-zero l)
@@ -86,70 +113,80 @@ begins-none a (x ∷ xs) n =
     simp (ne-eqb (x / letterStep) a (n zero (zero-lt-suc (length xs))))
     (begins-none a xs (λ j h. n (suc j) (suc-le-suc h)))
 
--- ---- and so by its rank
-module _ (key r : ℕ) (ranked : Ranked key r) where
-  pub found : r < symbols → getD names r 0 ≡ key → r ≡ placeOf key names
-  found l e =
-      sym (place-here key names r (omega (arith, names-length)) e (λ j h d. omega (arith, ranked .below j h)))
+-- ---- the names of one first byte
+first-at : (xs : List ℕ) (j : ℕ) → getD (firstBytes xs) j 0 ≡ getD xs j 0 / letterStep
+unfolding firstBytes
+first-at [] j = refl
+first-at (x ∷ xs) zero = refl
+first-at (x ∷ xs) (suc j) = first-at xs j
 
-  pub missed : r < symbols → (getD names r 0 ≡ key → ⊥) → symbols ≡ placeOf key names
-  missed l n = sym (place-none key names no ∙ names-length) where
-    no : (j : ℕ) → j < length names → getD names j 0 ≡ key → ⊥
-    no j h e = cases (ltb j r) refl where
-      cases : (b : Bool) → ltb j r ≡ b → ⊥
-      cases true p = omega (arith, ranked .below j (ltb-true j r p))
-      cases false p =
-          n (omega (arith, ranked .above r (omega arith) l, ordered-le r j (ltb-false j r p) (omega (arith, names-length))))
+first-length : (xs : List ℕ) → length (firstBytes xs) ≡ length xs
+unfolding firstBytes
+first-length [] = refl
+first-length (x ∷ xs) = ap suc (first-length xs)
 
-  pub passed : symbols ≤ r → symbols ≡ placeOf key names
-  passed l =
-      sym (place-none key names (λ j h e. omega (arith, ranked .below j (omega (arith, names-length)))) ∙ names-length)
+module _ (a : ℕ) where
+  head-small : headOf a < symbols
+  unfolding headOf
+  head-small =
+      by-test (λ (p : ℕ). p < symbols) (ltb (placeOf a (firstBytes names)) symbols)
+      (λ e. ltb-true (placeOf a (firstBytes names)) symbols e) (λ e. omega arith)
 
-module _ (a r : ℕ) (ranked : Ranked (a * letterStep) r) where
-  pub begun : r < symbols → eqb (getD names r 0 / letterStep) a ≡ begins a names
-  begun l = split (eqb (getD names r 0 / letterStep) a) refl where
-    split : (b : Bool) → eqb (getD names r 0 / letterStep) a ≡ b → b ≡ begins a names
-    split true e = sym (begins-here a names r (omega (arith, names-length)) (eqb-true (getD names r 0 / letterStep) a e))
-    split false e = sym (begins-none a names no) where
-      no : (j : ℕ) → j < length names → getD names j 0 / letterStep ≡ a → ⊥
-      no j h d = cases (ltb j r) refl where
+  head-before : (j : ℕ) → j < headOf a → getD names j 0 / letterStep ≡ a → ⊥
+  unfolding headOf
+  head-before j h e =
+      by-test (λ (p : ℕ). j < p → ⊥) (ltb (placeOf a (firstBytes names)) symbols)
+      (λ t l. place-first a (firstBytes names) j l (first-at names j ∙ e)) (λ t l. not-suc-le-zero l) h
+
+  -- where some name begins with the byte, the head does
+  head-leads : (j : ℕ) → j < symbols → getD names j 0 / letterStep ≡ a → getD names (headOf a) 0 / letterStep ≡ a
+  unfolding headOf
+  head-leads j l e =
+      by-test (λ (p : ℕ). getD names p 0 / letterStep ≡ a) (ltb (placeOf a (firstBytes names)) symbols)
+      (λ t. sym (first-at names (placeOf a (firstBytes names))) ∙ place-has a (firstBytes names) (omega (arith, ltb-true (placeOf a (firstBytes names)) symbols t, first-length names, names-length)))
+      (λ t. absurd (place-first a (firstBytes names) j (omega (arith, l, ltb-false (placeOf a (firstBytes names)) symbols t)) (first-at names j ∙ e)))
+
+  -- the name of the byte alone is the head
+  head-single : (y : ℕ) → y < symbols → getD names y 0 ≡ oneLetter a → headOf a ≡ y
+  unfolding headOf
+  head-single y l e = simp (here, lt-ltb y symbols l) where
+    here : placeOf a (firstBytes names) ≡ y
+    here =
+        place-here a (firstBytes names) y (omega (arith, first-length names, names-length))
+        (first-at names y ∙ omega (arith, e))
+        (λ j h same. omega (arith, h, single-leads y j l (omega arith) (e ∙ ap oneLetter (sym same ∙ first-at names j))))
+
+  -- a byte that is none of these, where each name begins with one of these
+  pub head-nowhere : (ks : List ℕ) → NoneAmong ks a → T (everyEntry (λ (k x : ℕ). among ks (x / letterStep)) 0 names) → 0 ≡ headOf a
+  unfolding headOf
+  head-nowhere ks none test =
+      simp (le-ltb (placeOf a (firstBytes names)) symbols (omega (arith, place-none a (firstBytes names) no, first-length names, names-length))) where
+        no : (j : ℕ) → j < length (firstBytes names) → getD (firstBytes names) j 0 ≡ a → ⊥
+        no j h e =
+            apart ks a (getD names j 0 / letterStep) none
+            (at (λ (k x : ℕ). among ks (x / letterStep)) names test j (omega (arith, first-length names)))
+            (sym (first-at names j) ∙ e)
+
+-- ---- a search from there on
+module _ (key : ℕ) where
+  -- no name before the head is the one that is searched for
+  pub before-head : (j : ℕ) → j < headOf (key / letterStep) → getD names j 0 ≡ key → ⊥
+  before-head j h e = head-before (key / letterStep) j h (ap (λ (x : ℕ). x / letterStep) e)
+
+  module _ (r : ℕ) (before : (j : ℕ) → j < r → getD names j 0 ≡ key → ⊥) where
+    pub found : r < symbols → getD names r 0 ≡ key → r ≡ placeOf key names
+    found l e = sym (place-here key names r (omega (arith, names-length)) e before)
+
+    pub missed : r < symbols → key < getD names r 0 → symbols ≡ placeOf key names
+    missed l n = sym (place-none key names no ∙ names-length) where
+      no : (j : ℕ) → j < length names → getD names j 0 ≡ key → ⊥
+      no j h e = cases (ltb j r) refl where
         cases : (b : Bool) → ltb j r ≡ b → ⊥
-        cases true p = omega (arith, ranked .below j (ltb-true j r p))
-        cases false p =
-            eqb-false (getD names r 0 / letterStep) a e
-            (omega (arith, ranked .above r (omega arith) l, ordered-le r j (ltb-false j r p) (omega (arith, names-length))))
+        cases true p = before j (ltb-true j r p) e
+        cases false p = omega (arith, n, e, ordered-le r j (ltb-false j r p) (omega (arith, names-length)))
 
-  pub unbegun : symbols ≤ r → false ≡ begins a names
-  unbegun l =
-      sym (begins-none a names (λ j h d. omega (arith, ranked .below j (omega (arith, names-length)))))
-
--- no name begins with what is no byte
-isByte : ℕ → ℕ → Bool
-isByte k x = ltb (x / letterStep) 256
-
-first-byte : (j : ℕ) → j < symbols → getD names j 0 / letterStep < 256
-unfolding names isByte
-first-byte j h = ltb→lt _ 256 (at isByte names tt j h)
-
-pub no-byte : (a : ℕ) → 255 < a → false ≡ begins a names
-no-byte a l = sym (begins-none a names (λ j h d. omega (arith, first-byte j (omega (arith, names-length)))))
-
--- ---- where the names with a first byte begin, shown by a look at each
-unfoldable pub isBefore : ℕ → ℕ → ℕ → ℕ → Bool
-isBefore byte r j x = either (leb r j) (ltb x (byte * letterStep))
-
-pub begun-at : (byte r : ℕ) → T (leb r symbols) → T (everyEntry (isBefore byte r) 0 names) → Begun byte r
-unfolding isBefore
-begun-at byte r small test = record {
-  small = leb→le r symbols small;
-  lower = λ j h. one j h (leb r j) refl (at (isBefore byte r) names test j (omega (arith, names-length, leb→le r symbols small)));
-} where
-  one : (j : ℕ) → j < r → (b : Bool) → leb r j ≡ b → T (either b (ltb (getD names j 0) (byte * letterStep))) → getD names j 0 < byte * letterStep
-  one j h true e t = absurd (omega (arith, leb-true r j e))
-  one j h false e t = ltb→lt (getD names j 0) (byte * letterStep) t
-
-pub begun-nowhere : (byte : ℕ) → Begun byte 0
-begun-nowhere byte = record { small = omega arith; lower = λ j h. absurd (not-suc-le-zero h) }
+    pub passed : symbols ≤ r → symbols ≡ placeOf key names
+    passed l = sym (place-none key names (λ j h. before j (omega (arith, names-length))) ∙ names-length)
 
 -- ---- the letters of a name are bytes
 letters : ℕ → ℕ → Bool
@@ -168,3 +205,66 @@ pub second-small : (y : ℕ) → y < symbols → getD names y 0 % letterStep < 1
 unfolding letters
 second-small y h =
     ltb→lt _ 128 (both-right (ltb (getD names y 0 / letterStep) 128) (ltb (getD names y 0 % letterStep) 128) (letters-at y h))
+
+-- a name has one letter, or two of which the second is "a" or above
+lettered : ℕ → ℕ → Bool
+lettered k x = either (eqb (x % letterStep) 0) (ltb (byte "a") (x % letterStep))
+
+lettered-at : (y : ℕ) → y < symbols → T (lettered y (getD names y 0))
+unfolding names lettered
+lettered-at y h = at lettered names tt y h
+
+pub no-second : (a d : ℕ) → d < byte "a" → symbols ≡ placeOf (twoLetters a d) names
+unfolding lettered
+no-second a d low = sym (place-none (twoLetters a d) names no ∙ names-length) where
+  no : (j : ℕ) → j < length names → getD names j 0 ≡ twoLetters a d → ⊥
+  no j h e = go (eqb (getD names j 0 % letterStep) 0) refl (lettered-at j (omega (arith, names-length))) where
+    go : (q : Bool) → eqb (getD names j 0 % letterStep) 0 ≡ q → T (either q (ltb (byte "a") (getD names j 0 % letterStep))) → ⊥
+    go true z t = omega (arith, e, eqb-true (getD names j 0 % letterStep) 0 z)
+    go false z t = omega (arith, e, ltb→lt (byte "a") (getD names j 0 % letterStep) t)
+
+-- ---- what the names say of two bytes
+pub two-named : (a d t : ℕ) → t ≡ placeOf (twoLetters a d) names → t < symbols → Two t ≡ namedOf a d
+unfolding namedOf
+two-named a d t e h = simp (← e, lt-ltb t symbols h)
+
+module _ (a head : ℕ) (is : head ≡ headOf a) where
+  in-table : head < symbols
+  in-table = omega (arith, is, head-small a)
+
+  pub head-byte : getD names head 0 / letterStep ≡ a → a ≤ 255
+  head-byte e = omega (arith, first-small head in-table, e)
+
+  -- a number that no name has
+  absent : (k : ℕ) → ((j : ℕ) → j < symbols → getD names j 0 ≡ k → ⊥) → ltb (placeOf k names) symbols ≡ false
+  absent k n =
+      le-ltb (placeOf k names) symbols
+      (omega (arith, names-length, place-none k names (λ j l. n j (omega (arith, names-length)))))
+
+  pub nothing-named : (d : ℕ) → d ≤ 256 → (getD names head 0 / letterStep ≡ a → ⊥) → Nothing ≡ namedOf a d
+  unfolding namedOf
+  nothing-named d small n =
+      simp (absent (twoLetters a d) (no-name (twoLetters a d) (omega arith)), absent (oneLetter a) (no-name (oneLetter a) (omega arith)), begins-none a names (λ j l. none j (omega (arith, names-length)))) where
+        none : (j : ℕ) → j < symbols → getD names j 0 / letterStep ≡ a → ⊥
+        none j l e = n (ap (λ (y : ℕ). getD names y 0 / letterStep) is ∙ head-leads a j l e)
+
+        no-name : (k : ℕ) → k / letterStep ≡ a → (j : ℕ) → j < symbols → getD names j 0 ≡ k → ⊥
+        no-name k first j l e = none j l (ap (λ (x : ℕ). x / letterStep) e ∙ first)
+
+  module _ (d : ℕ) (alone : symbols ≤ placeOf (twoLetters a d) names) where
+    two-none : ltb (placeOf (twoLetters a d) names) symbols ≡ false
+    two-none = le-ltb (placeOf (twoLetters a d) names) symbols alone
+
+    pub one-named : getD names head 0 ≡ oneLetter a → One head ≡ namedOf a d
+    unfolding namedOf
+    one-named e = simp (two-none, ← here, lt-ltb head symbols in-table) where
+      here : head ≡ placeOf (oneLetter a) names
+      here =
+          found (oneLetter a) head (λ j l same. omega (arith, same, e, ordered j head l in-table)) in-table e
+
+    pub begins-named : getD names head 0 / letterStep ≡ a → (getD names head 0 ≡ oneLetter a → ⊥) → Begins ≡ namedOf a d
+    unfolding namedOf
+    begins-named e n =
+        simp (two-none, absent (oneLetter a) none, begins-here a names head (omega (arith, in-table, names-length)) e) where
+          none : (j : ℕ) → j < symbols → getD names j 0 ≡ oneLetter a → ⊥
+          none j l same = n (ap (λ (y : ℕ). getD names y 0) (is ∙ head-single a j l same) ∙ same)

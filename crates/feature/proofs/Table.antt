@@ -5,10 +5,10 @@ use mathlib.Core.List.{List, [], _∷_}
 use Prim.Native.Nat.{ℕ, zero, suc, _+_, _<_, _≤_}
 use native.Mathlib.Nat.{add-zero, zero-add, add-suc, suc-add, le-of-suc-le-suc, not-suc-le-zero}
 use native.Mathlib.Omega.{arith}
-use lib.Dec.{T, ltb}
-use borrow.Author.Tests.{ltb-true, ltb-false}
+use lib.Dec.{T, eqb, ltb}
+use borrow.Author.Tests.{eqb-true, ltb-true, ltb-false}
 use lib.ListN.{length, getD}
-use Rattle.feature.specs.Pick.{both}
+use Rattle.feature.specs.Pick.{both, either}
 
 pub both-left : (a b : Bool) → T (both a b) → T a
 both-left true b t = tt
@@ -38,6 +38,23 @@ abbrev pub rising : List ℕ → Bool
 rising [] = true
 rising (x ∷ []) = true
 rising (x ∷ (y ∷ xs)) = both (ltb x y) (rising (y ∷ xs))
+
+-- a number that is none of some, as the last arm of a match over them knows it; the last of them stands first in the list
+abbrev pub NoneAmong : List ℕ → ℕ → Type 0
+NoneAmong [] x = Unit
+NoneAmong (k ∷ ks) x = NoneAmong ks x × (x ≡ k → ⊥)
+
+abbrev pub among : List ℕ → ℕ → Bool
+among [] y = false
+among (k ∷ ks) y = either (eqb y k) (among ks y)
+
+-- it is no number that is among them
+pub apart : (ks : List ℕ) (x y : ℕ) → NoneAmong ks x → T (among ks y) → y ≡ x → ⊥
+apart [] x y none t e = absurd t
+apart (k ∷ ks) x y none t e = go (eqb y k) refl (apart ks x y (none .0)) t where
+  go : (b : Bool) → eqb y k ≡ b → (T (among ks y) → y ≡ x → ⊥) → T (either b (among ks y)) → ⊥
+  go true same later t = none .1 (sym e ∙ eqb-true y k same)
+  go false same later t = later t e
 
 -- a number that is none of the first n, as the last arm of a match over them knows it, is past them
 abbrev pub NoneOf : ℕ → ℕ → Type 0

@@ -3,9 +3,11 @@
 use Prim.Native.Nat.{ℕ, suc, _*_, _/_}
 use mathlib.Core.List.{List, [], _∷_, _++_}
 use mathlib.Core.Bool.{Bool, false}
-use lib.Dec.{eqb}
+use lib.Dec.{eqb, ltb}
 use Rattle.feature.specs.Pick.{pick, either}
-use Rattle.feature.specs.Text.{letterStep, columns}
+use Rattle.feature.specs.Text.{letterStep, columns, oneLetter, twoLetters}
+use Rattle.feature.specs.declared.element.Named.{Named}
+use Rattle.feature.specs.declared.element.Named.the-variants.{Two, One, Begins, Nothing}
 
 -- how many there are
 abbrev pub symbols : ℕ
@@ -68,3 +70,11 @@ placeOf k (x ∷ xs) = pick (eqb x k) 0 (suc (placeOf k xs))
 unfoldable pub begins : ℕ → List ℕ → Bool
 begins a [] = false
 begins a (x ∷ xs) = either (eqb (x / letterStep) a) (begins a xs)
+
+-- what the names say of the byte b before the byte d: that both are a name, else that b is one, else whether some name
+-- begins with b
+unfoldable pub namedOf : ℕ → ℕ → Named
+namedOf b d =
+    pick (ltb (placeOf (twoLetters b d) names) symbols) (Two (placeOf (twoLetters b d) names))
+    (pick (ltb (placeOf (oneLetter b) names) symbols) (One (placeOf (oneLetter b) names))
+    (pick (begins b names) Begins Nothing))

@@ -1,12 +1,14 @@
 -- Steps of the proofs: no public claim rests on these definitions.
--- The ranges of a kind's numbers as facts, and how far a search among the names has come.
-use Prim.Native.Nat.{_≤_, _<_, ℕ, _*_}
-use Rattle.feature.specs.Names.{symbols, names}
+-- The ranges of a kind's numbers as facts, and where the names of one first byte begin.
+use Prim.Native.Nat.{ℕ, _/_, _≤_, _<_}
+use mathlib.Core.List.{List, [], _∷_}
+use lib.Dec.{ltb}
+use Rattle.feature.specs.Pick.{pick}
+use Rattle.feature.specs.Names.{symbols, names, placeOf}
 use Rattle.feature.specs.declared.atom_kind.BracketAtom.{BracketAtom}
 use Rattle.feature.specs.declared.atom_kind.AtomKind.{AtomKind}
 use Rattle.feature.specs.declared.atom_kind.AtomKind.the-variants.{Star, Aliphatic, Aromatic, Bracket}
 use Rattle.feature.specs.Kinds.{aliphaticCount, aromaticCount, noNumber, noHydrogens, noCharge, configurations}
-use lib.ListN.{getD}
 use Rattle.feature.specs.Text.{letterStep}
 
 -- a bracket atom whose numbers are in range, as `bracketInRange` tests
@@ -25,13 +27,11 @@ GoodKind (Aliphatic n) = n < aliphaticCount
 GoodKind (Aromatic n) = n < aromaticCount
 GoodKind (Bracket b) = Within b
 
--- a place before which each name begins with a lower byte
-pub record Begun (byte r : ℕ) : Type 0 where
-  pub small : r ≤ symbols
-  pub lower : (j : ℕ) → j < r → getD names j 0 < byte * letterStep
+-- the first bytes of names
+unfoldable pub firstBytes : List ℕ → List ℕ
+firstBytes [] = []
+firstBytes (x ∷ xs) = x / letterStep ∷ firstBytes xs
 
--- how many names come before a number
-pub record Ranked (key r : ℕ) : Type 0 where
-  pub small : r ≤ symbols
-  pub below : (j : ℕ) → j < r → getD names j 0 < key
-  pub above : (j : ℕ) → r ≤ j → j < symbols → key ≤ getD names j 0
+-- the place of the first of the names that begin with a byte, or the star's where none does
+unfoldable pub headOf : ℕ → ℕ
+headOf a = pick (ltb (placeOf a (firstBytes names)) symbols) (placeOf a (firstBytes names)) 0

@@ -1,9 +1,10 @@
 // The names that a bracket atom can have: the star, the 118 elements and the eight aromatic ones, in one ordered table.
 ghost use mathlib.Core.Path.{_≡_};
-ghost use Prim.Native.Nat.{_*_, _/_, _<_};
+ghost use Prim.Native.Nat.{_/_, _≤_};
 ghost use lib.ListN.{getD};
-ghost use Rattle.feature.specs.Names.{names, placeOf, begins};
-ghost use Rattle.feature.specs.Steps.{Begun, Ranked};
+ghost use Rattle.feature.specs.Names.{names, placeOf, namedOf};
+ghost use Rattle.feature.specs.Steps.{headOf};
+ghost use Rattle.feature.specs.Text.{letterStep, twoLetters};
 
 // How many names there are. A symbol is the place of its name, from 0.
 pub const SYMBOLS: u32 = 127;
@@ -23,6 +24,8 @@ pub const C: u32 = 16;
 
 pub const CS: u32 = 26;
 
+pub const F: u32 = 34;
+
 pub const N: u32 = 64;
 
 pub const O: u32 = 73;
@@ -34,6 +37,18 @@ pub const S: u32 = 93;
 pub const SE: u32 = 96;
 // The aromatic ones: as b c n o p s se, the last eight of the table.
 pub const AROMATIC: u32 = 119;
+
+// What the names say of two bytes that follow each other.
+pub enum Named {
+    // Both are the name of a symbol.
+    Two(u32),
+    // The first alone is one.
+    One(u32),
+    // The first is none, and some name begins with it.
+    Begins,
+    // No name begins with it.
+    Nothing,
+}
 
 // A symbol's name, or 0 where the number is no symbol. The arms of the match become a constant table; the words of an array
 // would be stored again at each call.
@@ -172,9 +187,9 @@ pub fn name(symbol: u32) -> u32
     }
 }
 
-// A place in the table before which each name begins with a lower byte, so that a search for a name may begin there.
+// The first of the names that begin with a byte, or the star where none does: an index into the table, for speed.
 fn first_of(byte: u32) -> u32
-    ensures { λ r. ⌜ Begun byte r ⌝ }
+    ensures { λ r. ⌜ r ≡ headOf byte ⌝ }
 {
     match byte {
         65 => 1, // A
@@ -212,44 +227,62 @@ fn first_of(byte: u32) -> u32
     }
 }
 
-// How many names come before a number: the table is ordered, and few names share a first byte.
-fn rank(key: u32) -> u32
-    ensures { λ r. ⌜ Ranked key r ⌝ }
+// The symbol that has a name's number, or SYMBOLS where none has it: a pass from the first name with its first byte on. The
+// names are in order, so it ends at one that is beyond the number.
+fn find_from(head: u32, key: u32) -> u32
+    requires { ⌜ head ≡ headOf (key / letterStep) ⌝ }
+    ensures { λ r. ⌜ r ≡ placeOf key names ⌝ }
 {
-    let mut place = first_of(key / LETTER);
+    let mut place = head;
     while place < SYMBOLS {
-        if key <= name(place) {
+        let here = name(place);
+        if here == key {
             return place;
+        }
+        if key < here {
+            return SYMBOLS;
         }
         place += 1;
     }
-    place
+    SYMBOLS
 }
 
 // The symbol that has a name's number, or SYMBOLS where none has it.
 pub fn find(key: u32) -> u32
     ensures { λ r. ⌜ r ≡ placeOf key names ⌝ }
 {
-    let place = rank(key);
-    if place < SYMBOLS {
-        if name(place) == key {
-            return place;
-        }
-        return SYMBOLS;
-    }
-    SYMBOLS
+    find_from(first_of(key / LETTER), key)
 }
 
-// Whether some name begins with a byte.
-pub fn is_first(byte: u32) -> bool
-    ensures { λ r. ⌜ r ≡ begins byte names ⌝ }
+// The symbol whose name is two letters, or SYMBOLS where none is. No name has a second letter below "a", so none is looked for
+// then.
+fn two_letters(head: u32, first: u32, second: u32) -> u32
+    requires { ⌜ (head ≡ headOf first) × (first ≤ 255) × (second ≤ 256) ⌝ }
+    ensures { λ r. ⌜ r ≡ placeOf (twoLetters first second) names ⌝ }
 {
-    if 255 < byte {
-        return false;
+    if second < b'a' as u32 {
+        return SYMBOLS;
     }
-    let place = rank(byte * LETTER);
-    if place < SYMBOLS {
-        return name(place) / LETTER == byte;
+    find_from(head, first * LETTER + second + 1)
+}
+
+// What the names say of a byte and the one after it, which is 256 at the end of a line: one pass over the names that begin
+// with the byte. Of these its own name, where it has one, is the first.
+pub fn look_up(first: u32, second: u32) -> Named
+    requires { ⌜ second ≤ 256 ⌝ }
+    ensures { λ r. ⌜ r ≡ namedOf first second ⌝ }
+{
+    let head = first_of(first);
+    let here = name(head);
+    if here / LETTER != first {
+        return Named::Nothing;
     }
-    false
+    let two = two_letters(head, first, second);
+    if two < SYMBOLS {
+        return Named::Two(two);
+    }
+    if here == first * LETTER {
+        return Named::One(head);
+    }
+    Named::Begins
 }

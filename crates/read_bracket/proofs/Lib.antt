@@ -1,2 +1,2 @@
 -- A law that the proof of a reader cites.
-pub mod Letters
+pub mod Symbols

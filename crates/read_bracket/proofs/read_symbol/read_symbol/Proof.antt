@@ -1,77 +1,97 @@
-use borrow.Author.Tests.{lt-ltb, le-ltb, eq-eqb, ne-eqb}
+use borrow.Author.Tests.{eq-eqb, ne-eqb}
+use Rattle.feature.specs.Names.{names, placeOf}
 use Rattle.read_token.specs.Scan.{symbolAt, symbolOf}
+use Rattle.read_bracket.proofs.Symbols.{symbol-by-names}
 use borrow.Author.Needs.{needs}
 use Rattle.read_bracket.proofs.read_symbol.read_symbol.Statement.{statement}
 use Rattle.read_bracket.proofs.read_symbol.read_symbol.Tie as tie
 
--- src/read_symbol.rt:37:9
+-- src/read_symbol.rt:15:9
 peek-requires : tie.Need-peek-requires
 peek-requires c κs = search needs
 
--- src/read_symbol.rt:39:9
+-- src/read_symbol.rt:17:9
 returns : tie.Need-returns
 unfolding symbolAt symbolOf
 returns c = simp (← c .before .peek .ensures .is, eq-eqb _ _ (c .if1 .taken))
 
--- src/read_symbol.rt:41:21
+-- src/read_symbol.rt:19:30
 add-peek : tie.Need-add-peek
 add-peek c = search needs
 
--- src/read_symbol.rt:41:9
+-- src/read_symbol.rt:19:22
 peek-requires-2 : tie.Need-peek-requires-2
 peek-requires-2 c κs = search needs
 
--- src/read_symbol.rt:42:9
-two-letters-requires : tie.Need-two-letters-requires
-two-letters-requires c κs = search needs
+-- src/read_symbol.rt:19:11
+look-up-requires : tie.Need-look-up-requires
+look-up-requires c κs = search needs
 
--- src/read_symbol.rt:44:31
-add-t9 : tie.Need-add-t9
-add-t9 c = search needs
+-- src/read_symbol.rt:20:20
+enum-known-symbol : tie.Need-enum-known-symbol
+enum-known-symbol c = search needs
 
--- src/read_symbol.rt:44:9
-returns-2 : tie.Need-returns-2
-unfolding symbolAt symbolOf
-returns-2 c = simp (← c .before .before .before .before .peek .ensures .is, ne-eqb _ _ (c .before .before .before .if1 .left), ← c .before .before .peek2 .ensures .is, ← c .before .two-letters .ensures, lt-ltb _ _ (c .if2 .taken))
+-- src/read_symbol.rt:20:49
+add-t11 : tie.Need-add-t11
+add-t11 c = search needs
 
--- src/read_symbol.rt:46:29
-slipped-requires : tie.Need-slipped-requires
-slipped-requires c κs = search needs
+-- src/read_symbol.rt:21:20
+enum-known-symbol-2 : tie.Need-enum-known-symbol-2
+enum-known-symbol-2 c = search needs
 
--- src/read_symbol.rt:46:29
-mul-find : tie.Need-mul-find
-mul-find c = search needs
-
--- src/read_symbol.rt:46:9
-find-requires : tie.Need-find-requires
-find-requires c κs = search needs
-
--- src/read_symbol.rt:48:31
+-- src/read_symbol.rt:21:49
 add-t12 : tie.Need-add-t12
 add-t12 c = search needs
 
--- src/read_symbol.rt:48:9
+-- src/read_symbol.rt:24:21
+enum-told : tie.Need-enum-told
+enum-told c = search needs
+
+-- src/read_symbol.rt:24:21
+cast-if2 : tie.Need-cast-if2
+cast-if2 c = search needs
+
+-- src/read_symbol.rt:25:37
+add-t15 : tie.Need-add-t15
+add-t15 c = search needs
+
+-- src/read_symbol.rt:25:17
+returns-2 : tie.Need-returns-2
+unfolding symbolAt names placeOf
+returns-2 c =
+    simp (← c .before .before .before .before .before .before .peek .ensures .is, ← c .before .before .before .before .peek2 .ensures .is, symbol-by-names _ _ (c .before .before .before .before .before .before .before .before .args .at) (c .before .before .before .before .before .if1 .left) (c .before .before .before .look-up .ensures), c .before .enum-told .given .1, eq-eqb _ _ (c .if2 .taken))
+
+-- src/read_symbol.rt:27:24
+add-t16 : tie.Need-add-t16
+add-t16 c = search needs
+
+-- src/read_symbol.rt:29:27
+enum-told-2 : tie.Need-enum-told-2
+enum-told-2 c = search needs
+
+-- src/read_symbol.rt:12:1
 returns-3 : tie.Need-returns-3
-unfolding symbolAt symbolOf
-returns-3 c = simp (← c .before .before .before .before .before .before .before .peek .ensures .is, ne-eqb _ _ (c .before .before .before .before .before .before .if1 .left), ← c .before .before .before .before .before .peek2 .ensures .is, ← c .before .before .before .before .two-letters .ensures, le-ltb _ _ (c .before .before .before .if2 .left), ← c .before .before .slipped .ensures .0, ← c .before .find .ensures, lt-ltb _ _ (c .if3 .taken))
+unfolding symbolAt
+returns-3 c =
+    simp (← c .before .before .before .before .before .before .peek .ensures .is, ← c .before .before .before .before .peek2 .ensures .is, symbol-by-names _ _ (c .before .before .before .before .before .before .before .before .args .at) (c .before .before .before .before .before .if1 .left) (c .before .before .before .look-up .ensures), c .before .symbol .given .1)
 
--- src/read_symbol.rt:50:8
-is-first-requires : tie.Need-is-first-requires
-is-first-requires c κs = search needs
-
--- src/read_symbol.rt:51:27
-add-t14 : tie.Need-add-t14
-add-t14 c = search needs
-
--- src/read_symbol.rt:51:9
+-- src/read_symbol.rt:12:1
 returns-4 : tie.Need-returns-4
-unfolding symbolAt symbolOf
-returns-4 c = simp (← c .before .before .before .before .before .before .before .before .before .peek .ensures .is, ne-eqb _ _ (c .before .before .before .before .before .before .before .before .if1 .left), ← c .before .before .before .before .before .before .before .peek2 .ensures .is, ← c .before .before .before .before .before .before .two-letters .ensures, le-ltb _ _ (c .before .before .before .before .before .if2 .left), ← c .before .before .before .before .slipped .ensures .0, ← c .before .before .before .find .ensures, le-ltb _ _ (c .before .before .if3 .left), ← c .before .is-first .ensures, c .if4 .taken)
+unfolding symbolAt
+returns-4 c =
+    simp (← c .before .before .before .before .before .before .peek .ensures .is, ← c .before .before .before .before .peek2 .ensures .is, symbol-by-names _ _ (c .before .before .before .before .before .before .before .before .args .at) (c .before .before .before .before .before .if1 .left) (c .before .before .before .look-up .ensures), c .before .symbol2 .given .1)
 
--- src/read_symbol.rt:34:1
+-- src/read_symbol.rt:12:1
 returns-5 : tie.Need-returns-5
-unfolding symbolAt symbolOf
-returns-5 c = simp (← c .before .before .before .before .before .before .before .before .before .peek .ensures .is, ne-eqb _ _ (c .before .before .before .before .before .before .before .before .if1 .left), ← c .before .before .before .before .before .before .before .peek2 .ensures .is, ← c .before .before .before .before .before .before .two-letters .ensures, le-ltb _ _ (c .before .before .before .before .before .if2 .left), ← c .before .before .before .before .slipped .ensures .0, ← c .before .before .before .find .ensures, le-ltb _ _ (c .before .before .if3 .left), ← c .before .is-first .ensures, c .if4 .left)
+unfolding symbolAt
+returns-5 c =
+    simp (← c .before .before .before .before .before .before .peek .ensures .is, ← c .before .before .before .before .peek2 .ensures .is, symbol-by-names _ _ (c .before .before .before .before .before .before .before .before .args .at) (c .before .before .before .before .before .if1 .left) (c .before .before .before .look-up .ensures), c .before .enum-told .given .1, ne-eqb _ _ (c .if2 .left))
+
+-- src/read_symbol.rt:12:1
+returns-6 : tie.Need-returns-6
+unfolding symbolAt
+returns-6 c =
+    simp (← c .before .before .before .before .before .peek .ensures .is, ← c .before .before .before .peek2 .ensures .is, symbol-by-names _ _ (c .before .before .before .before .before .before .before .args .at) (c .before .before .before .before .if1 .left) (c .before .before .look-up .ensures), c .enum-told2 .given .1)
 
 pub read-symbol-spec : {M : Type 1} → statement M
 read-symbol-spec =
@@ -81,15 +101,18 @@ read-symbol-spec =
     returns
     add-peek
     peek-requires-2
-    two-letters-requires
-    add-t9
-    returns-2
-    slipped-requires
-    mul-find
-    find-requires
+    look-up-requires
+    enum-known-symbol
+    add-t11
+    enum-known-symbol-2
     add-t12
+    enum-told
+    cast-if2
+    add-t15
+    returns-2
+    add-t16
+    enum-told-2
     returns-3
-    is-first-requires
-    add-t14
     returns-4
-    returns-5)
+    returns-5
+    returns-6)
