@@ -273,15 +273,14 @@ pub fn look_up(first: u32, second: u32) -> Named
     ensures { λ r. ⌜ r ≡ namedOf first second ⌝ }
 {
     let head = first_of(first);
-    let here = name(head);
-    if here / LETTER != first {
+    if name(head) / LETTER != first {
         return Named::Nothing;
     }
     let two = two_letters(head, first, second);
     if two < SYMBOLS {
         return Named::Two(two);
     }
-    if here == first * LETTER {
+    if name(head) == first * LETTER {
         return Named::One(head);
     }
     Named::Begins
