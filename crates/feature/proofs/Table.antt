@@ -39,7 +39,7 @@ rising [] = true
 rising (x ∷ []) = true
 rising (x ∷ (y ∷ xs)) = both (ltb x y) (rising (y ∷ xs))
 
--- a number that is none of some, as the last arm of a match over them knows it; the last of them stands first in the list
+-- a number that is none of some, as the last arm of a match over them knows it; the list has them backwards
 abbrev pub NoneAmong : List ℕ → ℕ → Type 0
 NoneAmong [] x = Unit
 NoneAmong (k ∷ ks) x = NoneAmong ks x × (x ≡ k → ⊥)
@@ -48,7 +48,7 @@ abbrev pub among : List ℕ → ℕ → Bool
 among [] y = false
 among (k ∷ ks) y = either (eqb y k) (among ks y)
 
--- it is no number that is among them
+-- so it is not any number among them
 pub apart : (ks : List ℕ) (x y : ℕ) → NoneAmong ks x → T (among ks y) → y ≡ x → ⊥
 apart [] x y none t e = absurd t
 apart (k ∷ ks) x y none t e = go (eqb y k) refl (apart ks x y (none .0)) t where

@@ -40,13 +40,13 @@ pub const AROMATIC: u32 = 119;
 
 // What the names say of two bytes that follow each other.
 pub enum Named {
-    // Both are the name of a symbol.
+    // Both together are the name of this symbol.
     Two(u32),
-    // The first alone is one.
+    // They are no name, and the first alone is that of this symbol.
     One(u32),
-    // The first is none, and some name begins with it.
+    // Neither is a name, and some name begins with the first.
     Begins,
-    // No name begins with it.
+    // No name begins with the first.
     Nothing,
 }
 
@@ -254,8 +254,8 @@ pub fn find(key: u32) -> u32
     find_from(first_of(key / LETTER), key)
 }
 
-// The symbol whose name is two letters, or SYMBOLS where none is. No name has a second letter below "a", so none is looked for
-// then.
+// The symbol whose name these two letters are, or SYMBOLS where there is none. No name has a second letter below "a", so
+// there is no pass then.
 fn two_letters(head: u32, first: u32, second: u32) -> u32
     requires { ⌜ (head ≡ headOf first) × (first ≤ 255) × (second ≤ 256) ⌝ }
     ensures { λ r. ⌜ r ≡ placeOf (twoLetters first second) names ⌝ }

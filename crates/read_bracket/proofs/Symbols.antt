@@ -19,19 +19,19 @@ use Rattle.read_token.specs.Scan.{noByte, slip, symbolOf}
 abbrev fluorine : ℕ
 fluorine = placeOf (oneLetter (byte "F")) names
 
--- what is read where the names say so of the byte b at a place; at "G" it is the slip
+-- what is read at the byte b of what the names say; where one begins with "G", it is the slip
 abbrev pub readBy : ℕ → ℕ → Named → Step
 readBy b at (Two y) = Got y (at + 2)
 readBy b at (One y) = Got y (at + 1)
 readBy b at Begins = pick (eqb b (byte "G")) (Got fluorine (at + 1)) (Stop (at + 1))
 readBy b at Nothing = Stop at
 
--- "G" begins names and is none, so what follows it makes a name or not
+-- "G" is no name and begins some, so the names say of it that two letters are one, or that some begin so
 slip-named : (d : ℕ) → namedOf (byte "G") d ≡ pick (ltb (placeOf (twoLetters (byte "G") d) names) symbols) (Two (placeOf (twoLetters (byte "G") d) names)) Begins
 unfolding namedOf names placeOf begins
 slip-named d = refl
 
--- and it is read as fluorine where not
+-- and it is read as that name, or as fluorine
 slip-symbol : (d at : ℕ) → symbolOf (byte "G") d at ≡ pick (ltb (placeOf (twoLetters (byte "G") d) names) symbols) (Got (placeOf (twoLetters (byte "G") d) names) (at + 2)) (Got fluorine (at + 1))
 unfolding symbolOf slip names placeOf
 slip-symbol d at = refl

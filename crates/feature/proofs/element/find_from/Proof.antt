@@ -1,5 +1,5 @@
--- `feature::element::find_from` meets its contract: no name passed is the one searched for, and one beyond it has none of it after
--- it. Assumes nothing.
+-- `feature::element::find_from` meets its contract: no name that was passed is the one searched for, and none after a name beyond
+-- it is. Assumes nothing.
 use Prim.Native.Nat.{ℕ, _-_, _<_}
 use mathlib.Core.Path.{_≡_, sym, _∙_}
 use native.Mathlib.Omega.{arith}

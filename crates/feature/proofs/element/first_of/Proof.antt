@@ -1,5 +1,5 @@
--- `feature::element::first_of` meets its contract: each arm by a look at the names, and the last since each name begins with the
--- byte of another, or is the star. Assumes nothing.
+-- `feature::element::first_of` meets its contract: each arm by a look at the names, and the last since every name begins with the
+-- byte of another arm, or is the star. Assumes nothing.
 use mathlib.Core.Path.{_≡_, refl, sym, subst}
 use Rattle.feature.specs.Text.{byte, bytes}
 use Rattle.feature.specs.Names.{names, placeOf}
