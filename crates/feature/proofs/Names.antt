@@ -5,7 +5,7 @@ use mathlib.Core.Bool.{Bool, true, false}
 use mathlib.Core.List.{List, [], _∷_}
 use native.Mathlib.Omega.{arith}
 use native.Mathlib.Nat.{le-of-suc-le-suc, not-suc-le-zero, zero-lt-suc, le-of-lt}
-use lib.ListN.{length, getD, List·getD-eq-default}
+use lib.ListN.{length, getD, length-map, List·getD-map, List·getD-eq-default}
 use lib.Dec.{T, ltb, ltb→lt, eqb}
 use borrow.Author.Tests.{eq-eqb, ne-eqb, lt-ltb, le-ltb, ltb-true, ltb-false, eqb-true, eqb-false}
 use Rattle.feature.specs.Pick.{both, either}
@@ -114,58 +114,55 @@ begins-none a (x ∷ xs) n =
     (begins-none a xs (λ j h. n (suc j) (suc-le-suc h)))
 
 -- ---- the names of one first byte
-first-at : (xs : List ℕ) (j : ℕ) → getD (firstBytes xs) j 0 ≡ getD xs j 0 / letterStep
+first-at : (j : ℕ) → getD firstBytes j 0 ≡ getD names j 0 / letterStep
 unfolding firstBytes
-first-at [] j = refl
-first-at (x ∷ xs) zero = refl
-first-at (x ∷ xs) (suc j) = first-at xs j
+first-at j = List·getD-map (λ (x : ℕ). x / letterStep) names j 0
 
-first-length : (xs : List ℕ) → length (firstBytes xs) ≡ length xs
+first-length : length firstBytes ≡ symbols
 unfolding firstBytes
-first-length [] = refl
-first-length (x ∷ xs) = ap suc (first-length xs)
+first-length = length-map names (λ (x : ℕ). x / letterStep) ∙ names-length
 
 module _ (a : ℕ) where
   head-small : headOf a < symbols
   unfolding headOf
   head-small =
-      by-test (λ (p : ℕ). p < symbols) (ltb (placeOf a (firstBytes names)) symbols)
-      (λ e. ltb-true (placeOf a (firstBytes names)) symbols e) (λ e. omega arith)
+      by-test (λ (p : ℕ). p < symbols) (ltb (placeOf a firstBytes) symbols)
+      (λ e. ltb-true (placeOf a firstBytes) symbols e) (λ e. omega arith)
 
   head-before : (j : ℕ) → j < headOf a → getD names j 0 / letterStep ≡ a → ⊥
   unfolding headOf
   head-before j h e =
-      by-test (λ (p : ℕ). j < p → ⊥) (ltb (placeOf a (firstBytes names)) symbols)
-      (λ t l. place-first a (firstBytes names) j l (first-at names j ∙ e)) (λ t l. not-suc-le-zero l) h
+      by-test (λ (p : ℕ). j < p → ⊥) (ltb (placeOf a firstBytes) symbols)
+      (λ t l. place-first a firstBytes j l (first-at j ∙ e)) (λ t l. not-suc-le-zero l) h
 
   -- where some name begins with the byte, the head does
   head-leads : (j : ℕ) → j < symbols → getD names j 0 / letterStep ≡ a → getD names (headOf a) 0 / letterStep ≡ a
   unfolding headOf
   head-leads j l e =
-      by-test (λ (p : ℕ). getD names p 0 / letterStep ≡ a) (ltb (placeOf a (firstBytes names)) symbols)
-      (λ t. sym (first-at names (placeOf a (firstBytes names))) ∙ place-has a (firstBytes names) (omega (arith, ltb-true (placeOf a (firstBytes names)) symbols t, first-length names, names-length)))
-      (λ t. absurd (place-first a (firstBytes names) j (omega (arith, l, ltb-false (placeOf a (firstBytes names)) symbols t)) (first-at names j ∙ e)))
+      by-test (λ (p : ℕ). getD names p 0 / letterStep ≡ a) (ltb (placeOf a firstBytes) symbols)
+      (λ t. sym (first-at (placeOf a firstBytes)) ∙ place-has a firstBytes (omega (arith, ltb-true (placeOf a firstBytes) symbols t, first-length)))
+      (λ t. absurd (place-first a firstBytes j (omega (arith, l, ltb-false (placeOf a firstBytes) symbols t)) (first-at j ∙ e)))
 
   -- the name of the byte alone is the head
   head-single : (y : ℕ) → y < symbols → getD names y 0 ≡ oneLetter a → headOf a ≡ y
   unfolding headOf
   head-single y l e = simp (here, lt-ltb y symbols l) where
-    here : placeOf a (firstBytes names) ≡ y
+    here : placeOf a firstBytes ≡ y
     here =
-        place-here a (firstBytes names) y (omega (arith, first-length names, names-length))
-        (first-at names y ∙ omega (arith, e))
-        (λ j h same. omega (arith, h, single-leads y j l (omega arith) (e ∙ ap oneLetter (sym same ∙ first-at names j))))
+        place-here a firstBytes y (omega (arith, first-length))
+        (first-at y ∙ omega (arith, e))
+        (λ j h same. omega (arith, h, single-leads y j l (omega arith) (e ∙ ap oneLetter (sym same ∙ first-at j))))
 
   -- a byte that is none of these, where each name begins with one of these
   pub head-nowhere : (ks : List ℕ) → NoneAmong ks a → T (everyEntry (λ (k x : ℕ). among ks (x / letterStep)) 0 names) → 0 ≡ headOf a
   unfolding headOf
   head-nowhere ks none test =
-      simp (le-ltb (placeOf a (firstBytes names)) symbols (omega (arith, place-none a (firstBytes names) no, first-length names, names-length))) where
-        no : (j : ℕ) → j < length (firstBytes names) → getD (firstBytes names) j 0 ≡ a → ⊥
+      simp (le-ltb (placeOf a firstBytes) symbols (omega (arith, place-none a firstBytes no, first-length))) where
+        no : (j : ℕ) → j < length firstBytes → getD firstBytes j 0 ≡ a → ⊥
         no j h e =
             apart ks a (getD names j 0 / letterStep) none
-            (at (λ (k x : ℕ). among ks (x / letterStep)) names test j (omega (arith, first-length names)))
-            (sym (first-at names j) ∙ e)
+            (at (λ (k x : ℕ). among ks (x / letterStep)) names test j (omega (arith, first-length, names-length)))
+            (sym (first-at j) ∙ e)
 
 -- ---- a search from there on
 module _ (key : ℕ) where

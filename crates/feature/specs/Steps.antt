@@ -1,7 +1,7 @@
 -- Steps of the proofs: no public claim rests on these definitions.
 -- The ranges of a kind's numbers as facts, and where the names of one first byte begin.
 use Prim.Native.Nat.{ℕ, _/_, _≤_, _<_}
-use mathlib.Core.List.{List, [], _∷_}
+use mathlib.Core.List.{List, map}
 use lib.Dec.{ltb}
 use Rattle.feature.specs.Pick.{pick}
 use Rattle.feature.specs.Names.{symbols, names, placeOf}
@@ -27,11 +27,10 @@ GoodKind (Aliphatic n) = n < aliphaticCount
 GoodKind (Aromatic n) = n < aromaticCount
 GoodKind (Bracket b) = Within b
 
--- the first bytes of names
-unfoldable pub firstBytes : List ℕ → List ℕ
-firstBytes [] = []
-firstBytes (x ∷ xs) = x / letterStep ∷ firstBytes xs
+-- the first bytes of the names
+unfoldable pub firstBytes : List ℕ
+firstBytes = map (λ (x : ℕ). x / letterStep) names
 
 -- the place of the first of the names that begin with a byte, or the star's where none does
 unfoldable pub headOf : ℕ → ℕ
-headOf a = pick (ltb (placeOf a (firstBytes names)) symbols) (placeOf a (firstBytes names)) 0
+headOf a = pick (ltb (placeOf a firstBytes) symbols) (placeOf a firstBytes) 0
