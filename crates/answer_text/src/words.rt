@@ -30,7 +30,7 @@ const PHRASES: [u8; 556] = *b";the text ends where more has to follow;\
 const NUMBER: u8 = b'#';
 
 // The numbers that are said, the first before the second.
-#[derive(Drop)]
+#[derive(Clone, Copy)]
 struct Numbers {
     first: usize,
     second: usize,

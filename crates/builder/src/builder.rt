@@ -22,7 +22,7 @@ pub const ENTRY_WORDS: usize = 3;
 pub const OPEN: u32 = 0x8000_0000;
 
 // What a builder knows beside its tables. A refusal is its number and what it carries; 0 is none.
-#[derive(Drop)]
+#[derive(Clone, Copy)]
 pub struct Builder {
     pub refusal: u32,
     pub carried: usize,

@@ -3,6 +3,7 @@
 // opens: the open ring numbers.
 // builder: the events.
 // build: the end of a build, the entries gathered atom after atom.
+#![tactic(auto)]
 pub mod build;
 pub mod builder;
 pub mod opens;

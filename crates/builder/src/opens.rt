@@ -6,7 +6,7 @@ ghost use Rattle.builder.specs.Rings.{opens_of, joined_at};
 
 use table::limits::RING_NUMBER_COUNT;
 
-#[derive(Drop)]
+#[derive(Clone, Copy)]
 pub struct Opens {
     pub at: [u32; RING_NUMBER_COUNT],
 }

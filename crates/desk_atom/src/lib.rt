@@ -1,5 +1,6 @@
 // One atom as text, both ways, and the text of a bond and of a ring number, as single calls: any text and any numbers may be
 // handed in. A text that is refused leaves zeros in the output.
+#![tactic(auto)]
 ghost use Rattle.std.specs.Prelude.{◌≡◌, length};
 ghost use Rattle.spell.specs.Spell.{bond_text};
 ghost use Rattle.desk_atom.specs.Texts.{lacked_of, tells_atom, first_atom, spelt, texted, atom_d, rnum_d};
@@ -11,7 +12,7 @@ use read_token::scanner::{Found, Missing, missing_character};
 use table::clear_bytes;
 use table::limits::RING_NUMBER_COUNT;
 
-#[derive(Drop)]
+#[derive(Clone, Copy)]
 pub enum Begins {
     // The kind, and the place after it.
     Atom(AtomKind, usize),
@@ -19,7 +20,7 @@ pub enum Begins {
     Character(usize),
 }
 
-#[derive(Drop)]
+#[derive(Clone, Copy)]
 pub enum Spelt {
     // How many bytes were written.
     Written(usize),

@@ -15,7 +15,7 @@ use table::limits::{ATOMS, BONDS, RING_NUMBER_COUNT, atom_room, lesser};
 use table::{ATOM_WORDS, BOND_WORDS, clear};
 
 // What the desk says of a build. Its numbers, in order: 0, 3, 4, 17.
-#[derive(Drop)]
+#[derive(Clone, Copy)]
 pub enum Answer {
     // Atoms and bond entries.
     Done(usize, usize),

@@ -1,5 +1,7 @@
 // The desk's numbers and their names, once for all calls, and an answer as code holds it. specs/Numbers.antt has the same
 // numbers for the promises.
+#![tactic(auto)]
+
 pub const DONE: u32 = 0;
 
 pub const END_OF_LINE: u32 = 1;
@@ -41,7 +43,7 @@ pub const NO_ATOM: u32 = 18;
 pub const OVERPOP: u32 = 19;
 
 // A number of the desk's and what it carries.
-#[derive(Drop)]
+#[derive(Clone, Copy)]
 pub struct Said {
     pub no: u32,
     // How many values are carried; those that are not are 0.

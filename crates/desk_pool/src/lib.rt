@@ -1,5 +1,6 @@
 // A ring number from the pool as a single call: any table and any numbers may be handed in. Those that stand for no pool are
 // answered 17 before the pair is looked for; a refused call changes nothing.
+#![tactic(auto)]
 ghost use Rattle.std.specs.Prelude.{◌≡◌, ◌+◌};
 ghost use Rattle.feature.specs.Every.{every};
 ghost use Rattle.desk_pool.specs.Slots.{top, is_free, is_open, kept_free, is_slot, is_found, is_pool, handed_of, gives, hit_d};
@@ -13,7 +14,7 @@ const TOP: u32 = 100;
 // The mark of a number that is open.
 const OPEN: u32 = 1;
 
-#[derive(Drop)]
+#[derive(Clone, Copy)]
 pub enum Handed {
     Number(Pool, u32),
     // The number would exceed 99: said of the pair that was asked for.

@@ -13,7 +13,7 @@ use desk_pool::Handed;
 use read::Answer;
 use write::answer::Written;
 
-#[derive(Drop)]
+#[derive(Clone, Copy)]
 pub struct Report {
     pub number: u64,
     pub first: u64,

@@ -21,19 +21,19 @@ const POOL_WORDS: usize = 2;
 const NARROW: u64 = 0x1_0000_0000;
 
 // What words stand for: a builder's state, or none; and the like for a writer and for a pool.
-#[derive(Drop)]
+#[derive(Clone, Copy)]
 pub enum AsBuilder {
     Is(Builder),
     Bad,
 }
 
-#[derive(Drop)]
+#[derive(Clone, Copy)]
 pub enum AsWriter {
     Is(Writer),
     Bad,
 }
 
-#[derive(Drop)]
+#[derive(Clone, Copy)]
 pub enum AsPool {
     Is(Pool),
     Bad,

@@ -3,6 +3,7 @@
 // state: the tables and the counts beside them.
 // pairs: whether each bond is held at both ends; chains: the entries by atom.
 // joins: whether the joins agree with the entries and the ring numbers.
+#![tactic(auto)]
 mod chains;
 mod joins;
 mod pairs;

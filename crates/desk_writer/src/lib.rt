@@ -1,5 +1,6 @@
 // The events of a writer as single calls: any tables and any numbers may be handed in. Numbers that stand for no writer's
 // state, no atom or no ring number are answered 17 before the event is looked at; a refused call changes nothing.
+#![tactic(auto)]
 ghost use Rattle.std.specs.Prelude.{◌≡◌, true, ◌<◌, eqb, ltb};
 ghost use Rattle.feature.specs.Pick.{pick};
 ghost use Rattle.desk_writer.specs.declared.Said.TheVariants.{Held};
@@ -21,7 +22,7 @@ use writer::{Writer, Wrote, event};
 // No writer's line is so long: the start of a piece has to fit a word of a table.
 const FAR: usize = 2_147_483_648;
 
-#[derive(Drop)]
+#[derive(Clone, Copy)]
 pub enum Said {
     Held(Writer),
     // A piece more than there is room for: those held.

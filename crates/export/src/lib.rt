@@ -4,6 +4,7 @@
 // events: the builder's events and its build.
 // lines: the writer's events.
 // rings: a ring number from the pool.
+#![tactic(auto)]
 pub mod atom;
 pub mod events;
 pub mod lines;

@@ -32,7 +32,7 @@ pub const OH: u32 = 27;
 
 pub const CONFIGURATIONS: u32 = 58;
 
-#[derive(Drop)]
+#[derive(Clone, Copy)]
 pub struct BracketAtom {
     pub isotope: u32,
     pub symbol: u32,
@@ -42,7 +42,7 @@ pub struct BracketAtom {
     pub map: u32,
 }
 
-#[derive(Drop)]
+#[derive(Clone, Copy)]
 pub enum AtomKind {
     Star,
     Aliphatic(u32),
@@ -87,7 +87,7 @@ pub fn in_range(k: AtomKind) -> bool
 }
 
 // A kind whose mark was turned, or the refusal of a mark that cannot be: 10 of the desk's numbers.
-#[derive(Drop)]
+#[derive(Clone, Copy)]
 pub enum Inverted {
     Turned(AtomKind),
     Refused,

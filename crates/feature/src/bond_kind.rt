@@ -2,7 +2,7 @@
 ghost use Rattle.std.specs.Prelude.{◌≡◌};
 ghost use Rattle.feature.specs.Bonds.{reverse_of, is_directional, NumberOf, kind_of, reconcile_of, sure_kind};
 
-#[derive(Drop)]
+#[derive(Clone, Copy)]
 pub enum BondKind {
     Elided,
     Single,
@@ -15,14 +15,14 @@ pub enum BondKind {
 }
 
 // What a number stands for.
-#[derive(Drop)]
+#[derive(Clone, Copy)]
 pub enum Coded {
     Kind(BondKind),
     Bad,
 }
 
 // The kinds that a ring bond has at its opening and at its closing atom, or none where the two do not agree.
-#[derive(Drop)]
+#[derive(Clone, Copy)]
 pub enum Reconciled {
     Both(BondKind, BondKind),
     Fails,

@@ -37,7 +37,7 @@ pub const SE: u32 = 96;
 pub const AROMATIC: u32 = 119;
 
 // What the names say of two bytes that follow each other.
-#[derive(Drop)]
+#[derive(Clone, Copy)]
 pub enum Named {
     // Both together are the name of this symbol.
     Two(u32),

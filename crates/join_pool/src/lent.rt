@@ -7,13 +7,13 @@ ghost use Rattle.join_pool.specs.Apart.{with_answer, answer_apart};
 use crate::{Given, Pool};
 
 // An answer apart from the pool.
-#[derive(Drop)]
+#[derive(Clone, Copy)]
 pub enum Told {
     Number(u32),
     Full,
 }
 
-#[derive(Drop)]
+#[derive(Clone, Copy)]
 pub struct PoolAnswer {
     pub pool: Pool,
     pub told: Told,

@@ -5,6 +5,7 @@
 // a pair is found among the numbers that were handed out, of which there are at most 99, however many rings there were.
 //
 // lent: the same of a pool that is lent.
+#![tactic(auto)]
 ghost use Rattle.std.specs.Prelude.{◌≡◌};
 ghost use Rattle.join_pool.specs.Pairs.{empty_of, opens, open_number, slot, counter_of, next_of, hits, open_of, close_of, hit_pair, hit_of};
 
@@ -25,7 +26,7 @@ const FREE: u32 = 0;
 
 const OPEN: u32 = 1;
 
-#[derive(Drop)]
+#[derive(Clone, Copy)]
 pub struct Pool {
     // The next number that was never handed out.
     pub counter: u32,
@@ -33,7 +34,7 @@ pub struct Pool {
     pub spare: u32,
 }
 
-#[derive(Drop)]
+#[derive(Clone, Copy)]
 pub enum Given {
     Number(Pool, u32),
     // The number would exceed the highest.

@@ -48,7 +48,7 @@ const LINE: usize = ATOM_LINE * ATOMS + ENTRY_LINE * BONDS;
 
 // What was told: the output's place after it; whether it is a refusal, and what the text looks like then; whether the text was
 // passed on as it is; the places in the text to be marked; the atoms that are not kept.
-#[derive(Drop)]
+#[derive(Clone, Copy)]
 pub struct Told {
     pub at: usize,
     pub is_refusal: bool,

@@ -10,7 +10,7 @@ pub const SOME_REFUSED: i32 = 1;
 
 pub const NOT_DONE: i32 = 2;
 
-#[derive(Drop)]
+#[derive(Clone, Copy)]
 pub enum Command {
     Rewrite,
     Order,
@@ -20,7 +20,7 @@ pub enum Command {
 }
 
 // What the arguments ask for.
-#[derive(Drop)]
+#[derive(Clone, Copy)]
 pub struct Asked {
     pub command: Command,
     // Whether a word named it.

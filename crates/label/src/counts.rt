@@ -9,7 +9,7 @@ use oracle_form::byte::{after, put_word};
 use oracle_form::list::put_nth;
 use oracle_form::number;
 
-#[derive(Drop)]
+#[derive(Clone, Copy)]
 pub struct Counts {
     pub lines: usize,
     refused: usize,

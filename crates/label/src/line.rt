@@ -39,7 +39,7 @@ const MESSAGE: usize = 256;
 const PROGRESS: usize = 100000;
 
 // How far a line has come, and what came of those before it.
-#[derive(Drop)]
+#[derive(Clone, Copy)]
 pub struct Line {
     command: Command,
     has_progress: bool,

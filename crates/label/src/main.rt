@@ -20,6 +20,7 @@
 // output: what is written, gathered in a buffer.
 // line: a line, piece by piece.
 // tray: all lines of all inputs.
+#![tactic(auto)]
 mod answer;
 mod command;
 mod counts;

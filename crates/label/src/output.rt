@@ -7,7 +7,7 @@ use label_text::run::put_run;
 use libc::{STDERR_FILENO, STDOUT_FILENO};
 
 // The buffer's first free place, and whether a write has failed. After that nothing more is written.
-#[derive(Drop)]
+#[derive(Clone, Copy)]
 pub struct Gathered {
     pub at: usize,
     pub has_failed: bool,

@@ -10,6 +10,7 @@
 // rings: where the ring numbers of a text are.
 // lost: the atoms that are not written as they were read.
 // why: a refusal in words, and behind a `#`.
+#![tactic(auto)]
 pub mod counted;
 pub mod looks;
 pub mod lost;

@@ -2,7 +2,7 @@
 use desk_numbers::CHARACTER;
 use oracle_form::byte::{after, peek};
 
-#[derive(Drop)]
+#[derive(Clone, Copy)]
 pub enum Looks {
     // Like nothing that is known.
     Text,
@@ -45,7 +45,7 @@ fn has_word(text: &[u8], word: &[u8]) -> bool {
 }
 
 // What of an identifier was found: letters, then digits, and marks between them.
-#[derive(Drop)]
+#[derive(Clone, Copy)]
 struct Found {
     digits: usize,
     is_other: bool,

@@ -12,7 +12,7 @@ use survive::{AL1, AL2, FIVE, OH3, OH14, TB20, survives};
 use table::ATOM_WORDS;
 
 // Which atoms of a graph are not kept: how many, and the first, or NOWHERE.
-#[derive(Drop)]
+#[derive(Clone, Copy)]
 pub struct Lost {
     pub count: usize,
     pub first: usize,

@@ -15,7 +15,7 @@ const OPEN_WORDS: usize = 2;
 const OPENS: usize = NONE * OPEN_WORDS;
 
 // Two places of a text, or NOWHERE.
-#[derive(Drop)]
+#[derive(Clone, Copy)]
 pub struct Places {
     pub first: usize,
     pub second: usize,
@@ -36,7 +36,7 @@ pub fn only(first: usize) -> Places {
 }
 
 // What is looked for: the use of this number, or the ring bond of these atoms, the closing one first.
-#[derive(Drop)]
+#[derive(Clone, Copy)]
 pub struct Wanted {
     pub is_bond: bool,
     pub first: usize,
@@ -44,7 +44,7 @@ pub struct Wanted {
 }
 
 // How far the text was followed.
-#[derive(Drop)]
+#[derive(Clone, Copy)]
 struct Seen {
     is_inside: bool,
     last: u8,

@@ -7,7 +7,7 @@ use feature::bond_kind::{BondKind, Coded, code, decode};
 // The marks, each at its kind's number in a table. No kind has the number 0, and no text that is parsed has the byte.
 const MARKS: [u8; 9] = *b"\0e-=#$:/\\";
 
-#[derive(Drop)]
+#[derive(Clone, Copy)]
 pub struct Bond {
     pub kind: BondKind,
     pub next: usize,

@@ -16,7 +16,7 @@ pub const JOIN: u8 = b'j';
 pub const POP: u8 = b'p';
 
 // An event by its letter, with the place after it. What it has not is an elided bond, a star or 0.
-#[derive(Drop)]
+#[derive(Clone, Copy)]
 pub struct Event {
     pub letter: u8,
     pub bond: BondKind,

@@ -9,7 +9,7 @@ use crate::number;
 // More words than a list has.
 const WORDS: usize = 100;
 
-#[derive(Drop)]
+#[derive(Clone, Copy)]
 pub struct Field {
     pub value: u32,
     pub next: usize,

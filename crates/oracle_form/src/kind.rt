@@ -14,7 +14,7 @@ const FIRST_AROMATIC: usize = ALIPHATICS as usize;
 const ORGANICS: usize = FIRST_AROMATIC + AROMATICS as usize;
 
 // A kind and the place after it.
-#[derive(Drop)]
+#[derive(Clone, Copy)]
 pub struct Kind {
     pub kind: AtomKind,
     pub next: usize,

@@ -59,7 +59,7 @@ fn hex_worth(b: u8) -> u8
 }
 
 // A byte and the place after what stands for it.
-#[derive(Drop)]
+#[derive(Clone, Copy)]
 struct Byte {
     value: u8,
     next: usize,

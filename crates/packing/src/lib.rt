@@ -2,6 +2,7 @@
 //
 // A record is a fixed number of words. Reading past a table finds zeros, and a zero stands for no atom and no bond; a
 // store past a table changes nothing. So no call here asks what a table holds.
+#![tactic(auto)]
 ghost use Rattle.std.specs.Prelude.{◌≡◌, ◌^◌, ◌<◌};
 ghost use Rattle.std.proofs.lemmas.List.Edits.{sets};
 ghost use Rattle.feature.specs.Steps.{GoodKind, Within};
@@ -27,21 +28,21 @@ const NUMBERS: u32 = 1001;
 const CHARGES: u32 = 32;
 
 // The two words of a kind.
-#[derive(Drop)]
+#[derive(Clone, Copy)]
 pub struct Pair {
     pub first: u32,
     pub second: u32,
 }
 
 // A kind, or numbers that stand for none.
-#[derive(Drop)]
+#[derive(Clone, Copy)]
 pub enum Loaded {
     Held(AtomKind),
     Bad,
 }
 
 // A bond entry, or numbers that stand for none.
-#[derive(Drop)]
+#[derive(Clone, Copy)]
 pub enum Entry {
     Bond(BondKind, u32),
     Bad,

@@ -1,4 +1,5 @@
 // The read call: a line's text into an atom table and a bond table.
+#![tactic(auto)]
 ghost use Rattle.std.specs.Prelude.{◌≡◌, ◌≤◌, ◌<◌, true, length, replicate};
 ghost use Rattle.table.specs.Limits.{text_limit};
 ghost use Rattle.read.specs.Read.{said, read_refusal, built_answer};
@@ -19,7 +20,7 @@ use table::limits::{
 use table::{ATOM_WORDS, BOND_WORDS, clear};
 
 // What the desk says of a line. Its numbers, in order: 0, 1, 2, 3, 4, 10, 12, 13, 14, 15, 18.
-#[derive(Drop)]
+#[derive(Clone, Copy)]
 pub enum Answer {
     // Atoms and bond entries.
     Done(usize, usize),

@@ -8,7 +8,7 @@ use crate::read_atom;
 use read_token::scanner;
 use read_token::scanner::{Found, Missing};
 
-#[derive(Drop)]
+#[derive(Clone, Copy)]
 pub struct Scanner<'a> {
     pub text: &'a [u8],
     pub cursor: usize,

@@ -6,14 +6,14 @@ use feature::bond_kind::BondKind;
 use read_token::read_bond::read_bond;
 use read_token::scanner::peek;
 
-#[derive(Drop)]
+#[derive(Clone, Copy)]
 pub enum Lead {
     // No bond: the atom is a root.
     Dot,
     Bond(BondKind),
 }
 
-#[derive(Drop)]
+#[derive(Clone, Copy)]
 pub struct Led {
     pub lead: Lead,
     pub next: usize,
@@ -38,7 +38,7 @@ pub fn read_lead(s: &[u8], at: usize) -> Led
 }
 
 // What a byte begins.
-#[derive(Drop)]
+#[derive(Clone, Copy)]
 pub enum Body {
     // Nothing: the line ends before it.
     Ends,

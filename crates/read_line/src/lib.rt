@@ -6,6 +6,7 @@
 // lead: what leads an atom in, and what a byte begins.
 // event: what the reader says to the builder.
 // line: the grammar.
+#![tactic(auto)]
 pub mod event;
 pub mod lead;
 pub mod line;

@@ -16,7 +16,7 @@ use read_token::read_rnum::{Ring, read_rnum};
 use read_token::scanner::Found;
 
 // Where a reading ended, how many atoms its line then has, and the builder.
-#[derive(Drop)]
+#[derive(Clone, Copy)]
 pub struct Reached {
     pub at: usize,
     pub n: usize,

@@ -7,6 +7,7 @@
 // scanner: a byte, a digit, a number, and what is missing.
 // read_bond: a bond's mark.
 // read_rnum: a ring number.
+#![tactic(auto)]
 pub mod read_bond;
 pub mod read_rnum;
 pub mod scanner;

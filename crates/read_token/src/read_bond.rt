@@ -5,7 +5,7 @@ ghost use Rattle.read_token.specs.Scan.{sign_kind, mark_width, bond_at};
 use crate::scanner::{NO_BYTE, peek};
 use feature::bond_kind::BondKind;
 
-#[derive(Drop)]
+#[derive(Clone, Copy)]
 pub struct Bond {
     pub kind: BondKind,
     pub next: usize,

@@ -4,7 +4,7 @@ ghost use Rattle.read_token.specs.Scan.{percent_at, rnum_at};
 
 use crate::scanner::{Missing, NO_DIGIT, digit, missing_character, peek};
 
-#[derive(Drop)]
+#[derive(Clone, Copy)]
 pub enum Ring {
     Number(u32, usize),
     // No ring number begins here.

@@ -5,28 +5,28 @@ ghost use Rattle.read_token.specs.Scan.{Peeked, DigitRead, Sized, digit_step, nu
 use feature::atom_kind::AtomKind;
 
 // What a reader that cannot fail found, and the place after it.
-#[derive(Drop)]
+#[derive(Clone, Copy)]
 pub struct Part {
     pub value: u32,
     pub next: usize,
 }
 
 // What a reader found and the place after it, or the place at which something is missing.
-#[derive(Drop)]
+#[derive(Clone, Copy)]
 pub enum Step {
     Got(u32, usize),
     Stop(usize),
 }
 
 // What is missing: 1 and 2 of the desk's numbers.
-#[derive(Drop)]
+#[derive(Clone, Copy)]
 pub enum Missing {
     EndOfLine,
     Character(usize),
 }
 
 // An atom and the place after it, no atom, or what is missing of one.
-#[derive(Drop)]
+#[derive(Clone, Copy)]
 pub enum Found {
     Atom(AtomKind, usize),
     Nothing,

@@ -63,7 +63,7 @@ fn take(
 }
 
 // How many events were taken, the refused one among them, and the builder then.
-#[derive(Drop)]
+#[derive(Clone, Copy)]
 struct Ran {
     events: usize,
     builder: Builder,

@@ -10,7 +10,7 @@ use libc::STDOUT_FILENO;
 use oracle_form::byte::find;
 
 // How far the reading has come.
-#[derive(Drop)]
+#[derive(Clone, Copy)]
 struct Progress {
     // How many bytes of a line that has not ended are at the block's front.
     held: usize,
@@ -20,14 +20,14 @@ struct Progress {
 }
 
 // A block's lines judged: where the line begins that it does not end.
-#[derive(Drop)]
+#[derive(Clone, Copy)]
 struct Taken {
     rest: usize,
     too_long: bool,
     tally: Tally,
 }
 
-#[derive(Drop)]
+#[derive(Clone, Copy)]
 enum Step {
     More(Progress),
     Ended(Tally),

@@ -14,6 +14,7 @@
 // say: the words of answers.
 // sizes: sizes and numbers that several of them share.
 // slices: bytes moved within a slice.
+#![tactic(auto)]
 mod answer;
 mod blank;
 mod bonds;

@@ -10,7 +10,7 @@ use oracle_form::byte::{NOWHERE, pass, pass_or_end, put};
 use oracle_form::number;
 
 // A pair and the place after it and its `,`.
-#[derive(Drop)]
+#[derive(Clone, Copy)]
 struct Pair {
     left: u32,
     right: u32,

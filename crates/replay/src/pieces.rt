@@ -18,7 +18,7 @@ use writer::Writer;
 const PIECES: usize = ATOMS + 1;
 
 // The writer after an event, and what the event was answered with.
-#[derive(Drop)]
+#[derive(Clone, Copy)]
 struct Told {
     w: Writer,
     said: Said,
@@ -60,7 +60,7 @@ fn take(line: &mut [u8], starts: &mut [u32], w: Writer, e: Event) -> Told {
 }
 
 // How many events were taken, the refused one among them, and what the last one came to.
-#[derive(Drop)]
+#[derive(Clone, Copy)]
 struct Ran {
     events: usize,
     told: Told,

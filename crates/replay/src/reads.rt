@@ -29,7 +29,7 @@ pub fn print_answer(out: &mut [u8], a: Answer, atoms: &[u32], bonds: &[u32]) -> 
 }
 
 // What a reading leaves in the tables, of words: those of a graph, or none.
-#[derive(Drop)]
+#[derive(Clone, Copy)]
 struct Counts {
     atoms: usize,
     bonds: usize,

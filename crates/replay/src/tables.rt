@@ -11,7 +11,7 @@ use table::{ATOM_WORDS, BOND_WORDS, DEGREE, poke};
 const UNKNOWN: u8 = b'?';
 
 // How many atoms and bond entries were parsed, and the place after them.
-#[derive(Drop)]
+#[derive(Clone, Copy)]
 pub struct Parsed {
     pub atoms: usize,
     pub entries: usize,

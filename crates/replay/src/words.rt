@@ -5,7 +5,7 @@ use oracle_form::number;
 use table::poke;
 
 // How many words were parsed, and the place after them.
-#[derive(Drop)]
+#[derive(Clone, Copy)]
 pub struct Parsed {
     pub words: usize,
     pub next: usize,

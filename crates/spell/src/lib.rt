@@ -2,6 +2,8 @@
 //
 // Each call lays its bytes into the output that it is lent, from the first byte on. A byte that finds no room is not laid
 // and is still counted, so the answer is the text's length whatever was lent.
+#![tactic(auto)]
+
 ghost use Rattle.std.specs.Prelude.{◌≡◌, [], ◌∷◌, ◌+◌, ◌-◌, ◌<◌, ◌≤◌, ◌/◌, ◌%◌, get_or};
 ghost use Rattle.feature.specs.Kinds.{no_number, no_hydrogens, no_charge, configurations, sp};
 ghost use Rattle.feature.specs.Steps.{GoodKind, Within};

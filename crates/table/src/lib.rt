@@ -4,6 +4,8 @@
 //
 // limits: how large a job may be, and for how much of it a table has room.
 // starts: where each atom's bond entries start.
+#![tactic(auto)]
+
 ghost use Rattle.std.specs.Prelude.{◌≡◌, length, replicate, slice_index, slice_set};
 ghost use Rattle.table.specs.Zeros.{cleared_from};
 

@@ -1,4 +1,5 @@
 // Whether tables hold a graph: the first record whose numbers stand for no atom or bond.
+#![tactic(auto)]
 ghost use Rattle.std.specs.Prelude.{◌≡◌, ◌+◌, ◌^◌, ◌≤◌, ◌<◌};
 ghost use Rattle.table_check.specs.Judge.{bond_stands, atoms_from, first_bad_bond, bad_record};
 
@@ -6,7 +7,7 @@ use packing::{Entry, is_atom, load_bond};
 use table::{ATOM_WORDS, BOND_WORDS, DEGREE, look};
 
 // The first bad atom, or how many entries the atoms hold.
-#[derive(Drop)]
+#[derive(Clone, Copy)]
 pub enum Judged {
     Bad(usize),
     Holds(usize),

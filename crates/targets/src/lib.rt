@@ -1,4 +1,6 @@
 // Valence targets: how many bonds, with its hydrogens, an atom of a kind can have. Two choices are in ascending order.
+#![tactic(auto)]
+
 ghost use Rattle.std.specs.Prelude.{◌≡◌, ◌<◌, get_or};
 ghost use Rattle.feature.specs.Names.{aromatic_elements};
 ghost use Rattle.targets.specs.Targets.{boron, carbon, nitrogen, oxygen, phosphorus, sulfur, element_of, element_targets, aliphatic_targets, aromatic_targets, targets_of};
@@ -6,7 +8,7 @@ ghost use Rattle.targets.specs.Targets.{boron, carbon, nitrogen, oxygen, phospho
 use feature::atom_kind::{ALIPHATICS, AtomKind, NEUTRAL, NO_CHARGE};
 use feature::element;
 
-#[derive(Drop)]
+#[derive(Clone, Copy)]
 pub enum Valences {
     None,
     One(u32),

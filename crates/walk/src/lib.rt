@@ -4,6 +4,7 @@
 // turn: one turn: a root tried, an entry taken, or an atom left.
 // turns: all of them, over a pool by value.
 // lent: the pool lent to them.
+#![tactic(auto)]
 pub mod lent;
 pub mod turn;
 pub mod turns;

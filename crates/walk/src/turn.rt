@@ -19,7 +19,7 @@ use writer::Writer;
 use writer::say::{say_extend, say_join, say_pop, say_root};
 
 // Where a turn leaves the walk and the writer.
-#[derive(Drop)]
+#[derive(Clone, Copy)]
 pub struct Turned {
     pub walker: Walker,
     pub line: Writer,

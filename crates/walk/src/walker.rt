@@ -8,7 +8,7 @@ ghost use Rattle.writer.specs.Tables.{far};
 use join_pool::lent::Told;
 use join_pool::{Pool, lent};
 
-#[derive(Drop)]
+#[derive(Clone, Copy)]
 pub struct Walker {
     // The next root to try.
     pub next: u32,
@@ -27,7 +27,7 @@ pub struct Walker {
 }
 
 // A walker, and what its pool answered.
-#[derive(Drop)]
+#[derive(Clone, Copy)]
 pub struct Numbered {
     pub walker: Walker,
     pub told: Told,

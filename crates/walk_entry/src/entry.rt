@@ -10,7 +10,7 @@ use desk_numbers::{DUPLICATE_BOND, HALF_BOND, INCOMPATIBLE_BOND, INVERSION};
 use feature::atom_kind::{AtomKind, Inverted, invert};
 use feature::bond_kind::{BondKind, reverse};
 
-#[derive(Drop)]
+#[derive(Clone, Copy)]
 pub enum Back {
     // The place of the one entry back, from 1, or 0 for none.
     Found(u32),
@@ -21,7 +21,7 @@ pub enum Back {
 }
 
 // Whether a new atom can be entered.
-#[derive(Drop)]
+#[derive(Clone, Copy)]
 pub enum Way {
     // Its entry back is at this place, from 1.
     Enters(u32),

@@ -5,7 +5,7 @@ ghost use Rattle.write.specs.Write.{write_refusal};
 use desk_numbers::{DUPLICATE_BOND, HALF_BOND, INCOMPATIBLE_BOND, INVERSION, LOOP, UNKNOWN_TARGET};
 use walk::walker::Walker;
 
-#[derive(Drop)]
+#[derive(Clone, Copy)]
 pub enum Written {
     // Bytes written; of the walk order, atoms walked.
     Done(usize),

@@ -3,12 +3,13 @@
 // lay: texts from a place of the output on.
 // say: the events with nothing judged, for a walk, which compares the length with the output once at its end.
 // event: the single events with their refusals.
+#![tactic(auto)]
 pub mod event;
 mod lay;
 pub mod say;
 
 // What a writer knows beside its tables.
-#[derive(Drop)]
+#[derive(Clone, Copy)]
 pub struct Writer {
     // How many pieces are held.
     pub pieces: usize,
@@ -17,7 +18,7 @@ pub struct Writer {
 }
 
 // What a single event answers.
-#[derive(Drop)]
+#[derive(Clone, Copy)]
 pub enum Wrote {
     Held(Writer),
     // A piece more than there is room for: those held.

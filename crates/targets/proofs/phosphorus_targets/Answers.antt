@@ -1,0 +1,19 @@
+use borrow.Author.Tests.{eq-eqb, ne_eqb}
+use Rattle.targets.specs.Targets.{phosphorus}
+use Rattle.targets.proofs.phosphorus_targets.Goals as goal
+
+pub returns-then-charge : goal.returns-then-charge
+unfolding phosphorus
+returns-then-charge c = simp (eq-eqb _ _ c.if-charge.true)
+
+pub returns-then-charge-eq-NEUTRAL : goal.returns-then-charge-eq-NEUTRAL
+unfolding phosphorus
+returns-then-charge-eq-NEUTRAL c = simp (ne_eqb _ _ c.if-charge.false, eq-eqb _ _ c.if-charge-eq-NEUTRAL.true)
+
+pub returns-then-charge-eq-NO_CHARGE : goal.returns-then-charge-eq-NO_CHARGE
+unfolding phosphorus
+returns-then-charge-eq-NO_CHARGE c = simp (ne_eqb _ _ c.if-charge.false, ne_eqb _ _ c.if-charge-eq-NEUTRAL.false, eq-eqb _ _ c.if-charge-eq-NO_CHARGE.true)
+
+pub returns : goal.returns
+unfolding phosphorus
+returns c = simp (ne_eqb _ _ c.if-charge.false, ne_eqb _ _ c.if-charge-eq-NEUTRAL.false, ne_eqb _ _ c.if-charge-eq-NO_CHARGE.false)
