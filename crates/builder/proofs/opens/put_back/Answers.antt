@@ -19,5 +19,5 @@ shape_of-rings c = ap length c.loop-i.invariant.1 ∙ simp length-sets
 
 pub returns : goal.returns
 returns c =
-    let whole : length c.args.t2.at ≤ c.loop-i.i = omega (arith, c.requires, c.loop-i-test.false) in
-    c.loop-i.invariant.1 ∙ ap (λ (m : List ℕ). sets c.args.rings.now 0 m) (take_all c.loop-i.i c.args.t2.at whole)
+    let whole : length c.args.o.at ≤ c.loop-i.i = omega (arith, c.requires, c.loop-i-test.false) in
+    c.loop-i.invariant.1 ∙ ap (λ (m : List ℕ). sets c.args.rings.now 0 m) (take_all c.loop-i.i c.args.o.at whole)
