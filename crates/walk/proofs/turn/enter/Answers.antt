@@ -11,7 +11,7 @@ pub returns-in-Refuses : goal.returns-in-Refuses
 returns-in-Refuses c = record { by_index = λ n taken pairs. enter_refused _ _ _ _ _ _ _ _ _ _ _ _ (c.find_way.ensures n) _ _ _ _ c.in-Refuses.is c.refused.ensures; turn_grows = grows_quiet _ (onward_as c.refused.ensures (onward_refused _ _ _ _)) }
 
 pub shape_of-starts : goal.shape_of-starts
-shape_of-starts c = c.say_extend-said.auto.starts.0 ∙ c.say_pops-popped.auto.starts.0
+shape_of-starts c = c.say_extend-said.auto.starts ∙ c.say_pops-popped.auto.starts
 
 pub shape_of-out : goal.shape_of-out
 shape_of-out c = c.say_extend-said.auto.out ∙ c.say_pops-popped.auto.out
