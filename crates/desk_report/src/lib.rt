@@ -4,6 +4,7 @@
 // state: a state as words.
 // keep: what a call leaves of both.
 #![tactic(auto)]
+
 pub mod answer;
 pub mod keep;
 pub mod state;

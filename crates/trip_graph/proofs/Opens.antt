@@ -52,18 +52,19 @@ num_find (y ∷ P) r h =
     by_bool (eqb r y.num) (λ q. (y, here, sym (eqb-true r y.num q)))
     (λ q. let f = num_find P r (rw q at h) in (f.0, there f.1, f.2))
 
-look_none_in : (P : List Pair) (a b : ℕ) (x : Pair) → look P a b ≡ none → In x P → pair_is a b x ≡ false
+look_none_in : (x : Pair) (P : List Pair) (a b : ℕ) → look P a b ≡ none → In x P → pair_is a b x ≡ false
 unfolding look
-look_none_in P a b x h (here {P = Q}) = by_bool (pair_is a b x) (λ q. absurd (none≢some (sym (rw q at h)))) (λ q. q)
-look_none_in P a b x h (there {y = y} {P = Q} i) =
-    by_bool (pair_is a b y) (λ q. absurd (none≢some (sym (rw q at h)))) (λ q. look_none_in Q a b x (rw q at h) i)
+look_none_in x P a b h (here {P = Q}) = by_bool (pair_is a b x) (λ q. absurd (none≢some (sym (rw q at h)))) (λ q. q)
+look_none_in x P a b h (there {y = y} {P = Q} i) =
+    by_bool (pair_is a b y) (λ q. absurd (none≢some (sym (rw q at h)))) (λ q. look_none_in x Q a b (rw q at h) i)
 
 pub no_member : (P : List Pair) (a b : ℕ) (x : Pair) → look P a b ≡ none → In x P → a ≡ x.from → b ≡ x.onto → ⊥
-no_member P a b x h i p q = clash (pair_this a b x p q) (look_none_in P a b x h i)
+no_member P a b x h i p q = clash (pair_this a b x p q) (look_none_in x P a b h i)
 
 -- a member is found at its pair
 pub in_look : (P : List Pair) (x : Pair) (a b : ℕ) → Distinct P → In x P → a ≡ x.from → b ≡ x.onto → look P a b ≡ some x
 unfolding look
+in_look _ x a b dnil i p q = elim i [ ]
 in_look P x a b (dcons {P = Q} n u j g) here p q = rw (pair_this a b x p q)
 in_look P x a b (dcons {x = y} {P = Q} n u j g) (there i) p q =
     by_bool (pair_is a b y)
@@ -193,10 +194,13 @@ in_case here f h = f refl
 in_case (there k) f h = h k
 
 -- a member that is another pair stays
-pub in_kept : (P : List Pair) (a b : ℕ) (x : Pair) → In x P → pair_is a b x ≡ false → In x (del a b P)
+kept_in : (x : Pair) (P : List Pair) (a b : ℕ) → In x P → pair_is a b x ≡ false → In x (del a b P)
 unfolding del
-in_kept P a b x (here {P = Q}) h = rw h here
-in_kept P a b x (there {y = y} {P = Q} i) h = by_bool (pair_is a b y) (λ q. rw q (in_kept Q a b x i h)) (λ q. rw q (there (in_kept Q a b x i h)))
+kept_in x P a b (here {P = Q}) h = rw h here
+kept_in x P a b (there {y = y} {P = Q} i) h = by_bool (pair_is a b y) (λ q. rw q (kept_in x Q a b i h)) (λ q. rw q (there (kept_in x Q a b i h)))
+
+pub in_kept : (P : List Pair) (a b : ℕ) (x : Pair) → In x P → pair_is a b x ≡ false → In x (del a b P)
+in_kept P a b x = kept_in x P a b
 
 -- every opener was met
 pub data Froms (o : List ℕ) : List Pair → Type 0 where

@@ -357,8 +357,8 @@ module _ {g : Graph} {w : Walk} {o fr : List ℕ} (S : Sta g w o fr) where
     unfolding first_atoms
     order_next =
         let rw' : length o < length w.walked = omega (arith, S.wide) in
-        rw (length_next, S.count)
-        (ap₂ (λ (l : List ℕ) (x : ℕ). l ++ (x ∷ [])) (order_kept w.walked (length o) t (length o) (omega arith) ∙ S.order) (get_or-set_same w.walked (length o) t 0 rw'))
+        subst (λ (m : ℕ). order_of (set w.walked m t) (length (o ++ (t ∷ []))) ≡ o ++ (t ∷ [])) (sym S.count)
+        (rw length_next (ap₂ (λ (l : List ℕ) (x : ℕ). l ++ (x ∷ [])) (order_kept w.walked (length o) t (length o) (omega arith) ∙ S.order) (get_or-set_same w.walked (length o) t 0 rw')))
 
     count_next : w.at.count + 1 ≡ length (o ++ (t ∷ []))
     count_next = omega (arith, length_next, S.count)
