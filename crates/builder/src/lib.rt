@@ -4,6 +4,7 @@
 // builder: the events.
 // build: the end of a build, the entries gathered atom after atom.
 #![tactic(auto)]
+
 pub mod build;
 pub mod builder;
 pub mod opens;

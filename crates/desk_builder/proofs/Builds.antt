@@ -24,7 +24,7 @@ use Rattle.desk_builder.proofs.Ways.{state_counts}
 pub end_within : (b : Bld) {q : Bool} → q ≡ is_state b → not q ≡ false → (b.st.atoms * atom_words ≤ length b.atoms) × (b.st.atoms ≤ atom_limit)
 end_within b e holds =
     let h = state_counts b e holds in
-    (omega (arith, h.atoms, h.atom_room_lem), omega (arith, h.atoms, h.places))
+    (omega (arith, h.atoms, h.atom_room), omega (arith, h.atoms, h.places))
 
 -- zeros put from a place within on
 pub trimmed_is : (t d : List ℕ) (n : ℕ) → n ≤ length t → d ≡ zeroed (mid_of n (length t - n) t) → put_mid n (length t - n) t d ≡ trimmed n t

@@ -145,7 +145,7 @@ module _ (b : Bld) (bonds : List ℕ) where
   ready : Facts b → b.st.entries * bond_words ≤ length bonds → BuildReady (start_of b bonds) b.entries b.st
   ready f room =
       let c = f.counts in
-      let within : b.st.atoms * atom_words ≤ length b.atoms = omega (arith, c.atoms, c.atom_room_lem) in
+      let within : b.st.atoms * atom_words ≤ length b.atoms = omega (arith, c.atoms, c.atom_room) in
       let listed : b.st.entries * entry_words ≤ length b.entries = omega (arith, c.entries, c.entry_room) in
       record {
         atoms = omega (arith, within, trimmed_length (b.st.atoms * atom_words) b.atoms within);

@@ -1,6 +1,7 @@
 // A ring number from the pool as a single call: any table and any numbers may be handed in. Those that stand for no pool are
 // answered 17 before the pair is looked for; a refused call changes nothing.
 #![tactic(auto)]
+
 ghost use Rattle.std.specs.Prelude.{◌≡◌, ◌+◌};
 ghost use Rattle.feature.specs.Every.{every};
 ghost use Rattle.desk_pool.specs.Slots.{top, is_free, is_open, kept_free, is_slot, is_found, is_pool, handed_of, gives, hit_d};

@@ -19,7 +19,7 @@ pub record Counts (s : Builder) (la le : ℕ) : Type 0 where
   pub slots_is : s.slots ≡ entry_slots_in le
   pub places : s.places ≤ atom_limit
   pub slots : s.slots ≤ bond_limit
-  pub atom_room_lem : s.places * atom_words ≤ la
+  pub atom_room : s.places * atom_words ≤ la
   pub entry_room : s.slots * entry_words ≤ le
   pub atoms : s.atoms ≤ s.places
   pub entries : s.entries ≤ s.slots
@@ -41,7 +41,7 @@ counts s la le lp lr h1 =
       slots_is = l;
       places = omega (arith, p, lesser_most atom_limit (la / atom_words));
       slots = omega (arith, l, lesser_most bond_limit (le / entry_words));
-      atom_room_lem = omega (arith, p, lesser_held atom_limit (la / atom_words));
+      atom_room = omega (arith, p, lesser_held atom_limit (la / atom_words));
       entry_room = omega (arith, l, lesser_held bond_limit (le / entry_words));
       atoms = leb-true _ _ (both_first (leb s.atoms s.places) _ h5);
       entries = leb-true _ _ (both_first (leb s.entries s.slots) _ h6);

@@ -65,7 +65,7 @@ pub record Keeps (places slots n m top j : ℕ) (a e p r : List ℕ) : Type 0 wh
   pub slots_is : slots ≡ entry_slots_in (length e)
   pub most_places : places ≤ atom_limit
   pub most_slots : slots ≤ bond_limit
-  pub atom_room_lem : places * atom_words ≤ length a
+  pub atom_room : places * atom_words ≤ length a
   pub entry_room : slots * entry_words ≤ length e
   pub path_room : places ≤ length p
   pub ring_room : ring_number_count ≤ length r
@@ -90,7 +90,7 @@ module _ (places slots n m top j : ℕ) (a e p r : List ℕ) (h : Keeps places s
         slots_is = h.slots_is ∙ ap (λ (x : ℕ). entry_slots_in x) (sym size);
         most_places = h.most_places;
         most_slots = h.most_slots;
-        atom_room_lem = omega (arith, h.atom_room_lem, length-sets a (n * atom_words) (list_of k));
+        atom_room = omega (arith, h.atom_room, length-sets a (n * atom_words) (list_of k));
         entry_room = omega (arith, h.entry_room, size);
         path_room = omega (arith, h.path_room, length-set p top n);
         ring_room = h.ring_room;
@@ -98,7 +98,7 @@ module _ (places slots n m top j : ℕ) (a e p r : List ℕ) (h : Keeps places s
         listed = fits;
         short = omega (arith, h.short);
         atoms = λ i l. by_eq i n
-            (λ q. ap (λ (x : ℕ). is_held (load_at (sets a (n * atom_words) (list_of k)) (x * atom_words))) q ∙ ap is_held (load_stored a (n * atom_words) k ok (omega (arith, h.atom_room_lem))))
+            (λ q. ap (λ (x : ℕ). is_held (load_at (sets a (n * atom_words) (list_of k)) (x * atom_words))) q ∙ ap is_held (load_stored a (n * atom_words) k ok (omega (arith, h.atom_room))))
             (λ q. ap is_held (load_beside a (list_of k) (n * atom_words) (i * atom_words) (inl (omega (arith, q, l)))) ∙ h.atoms i (omega (arith, q, l)));
         plain = plain;
         pairs = pairs;
@@ -165,7 +165,7 @@ module _ (places slots n m top j : ℕ) (a e p r : List ℕ) (h : Keeps places s
           slots_is = h.slots_is ∙ ap (λ (x : ℕ). entry_slots_in x) (sym size);
           most_places = h.most_places;
           most_slots = h.most_slots;
-          atom_room_lem = h.atom_room_lem;
+          atom_room = h.atom_room;
           entry_room = omega (arith, h.entry_room, size);
           path_room = h.path_room;
           ring_room = omega (arith, h.ring_room, length-set r q v);
@@ -263,7 +263,7 @@ module _ (places slots n m top j : ℕ) (a e p r : List ℕ) (h : Keeps places s
         slots_is = h.slots_is;
         most_places = h.most_places;
         most_slots = h.most_slots;
-        atom_room_lem = h.atom_room_lem;
+        atom_room = h.atom_room;
         entry_room = h.entry_room;
         path_room = h.path_room;
         ring_room = h.ring_room;

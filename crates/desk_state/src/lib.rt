@@ -4,6 +4,7 @@
 // pairs: whether each bond is held at both ends; chains: the entries by atom.
 // joins: whether the joins agree with the entries and the ring numbers.
 #![tactic(auto)]
+
 mod chains;
 mod joins;
 mod pairs;

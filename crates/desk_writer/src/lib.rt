@@ -1,6 +1,7 @@
 // The events of a writer as single calls: any tables and any numbers may be handed in. Numbers that stand for no writer's
 // state, no atom or no ring number are answered 17 before the event is looked at; a refused call changes nothing.
 #![tactic(auto)]
+
 ghost use Rattle.std.specs.Prelude.{◌≡◌, true, ◌<◌, eqb, ltb};
 ghost use Rattle.feature.specs.Pick.{pick};
 ghost use Rattle.desk_writer.specs.declared.Said.TheVariants.{Held};

@@ -6,6 +6,7 @@
 //
 // lent: the same of a pool that is lent.
 #![tactic(auto)]
+
 ghost use Rattle.std.specs.Prelude.{◌≡◌};
 ghost use Rattle.join_pool.specs.Pairs.{empty_of, opens, open_number, slot, counter_of, next_of, hits, open_of, close_of, hit_pair, hit_of};
 

@@ -3,6 +3,7 @@
 // A record is a fixed number of words. Reading past a table finds zeros, and a zero stands for no atom and no bond; a
 // store past a table changes nothing. So no call here asks what a table holds.
 #![tactic(auto)]
+
 ghost use Rattle.std.specs.Prelude.{◌≡◌, ◌^◌, ◌<◌};
 ghost use Rattle.std.proofs.lemmas.List.Edits.{sets};
 ghost use Rattle.feature.specs.Steps.{GoodKind, Within};

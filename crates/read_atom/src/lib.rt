@@ -4,6 +4,7 @@
 // read_atom: an atom: organic, bracket or star.
 // scanner: what holds the line and its place in it, for those who read one from its start.
 #![tactic(auto)]
+
 pub mod read_atom;
 pub mod read_organic;
 pub mod scanner;

@@ -7,6 +7,7 @@
 // read_charge: a sign with its number.
 // read_bracket: the whole from "[" to "]".
 #![tactic(auto)]
+
 pub mod read_bracket;
 pub mod read_charge;
 pub mod read_configuration;

@@ -8,6 +8,7 @@
 // read_bond: a bond's mark.
 // read_rnum: a ring number.
 #![tactic(auto)]
+
 pub mod read_bond;
 pub mod read_rnum;
 pub mod scanner;

@@ -26,7 +26,7 @@ use Rattle.trip_graph.proofs.Lists.{by_bool}
 use Rattle.trip_graph.proofs.Written.{done_simple}
 use Rattle.trip_graph.proofs.ComesBack.{events_come_back}
 use Rattle.round_trip.specs.RoundTrip.{Plain}
-use Rattle.round_trip.specs.Answers.{Reread, whole, long, few_atoms_lem, few_bonds_lem, deep}
+use Rattle.round_trip.specs.Answers.{Reread, whole, long, few_atoms, few_bonds, deep}
 use Rattle.round_trip.proofs.Wider.{Kept, kept, few_places, few_slots, run_wide}
 use Rattle.round_trip.proofs.Law.{line_is, line_says}
 use Rattle.round_trip.proofs.Deep.{deep_refused}
@@ -71,9 +71,9 @@ module _ (room : ℕ) (atoms : List ℕ) (n : ℕ) (bonds : List ℕ) (m len : �
       (sym (done_is d n m la lb (sym (ap (λ (x : Sketch). x.refusal) w) ∙ c.built.refusal) (sym (ap finish_s w) ∙ c.built.says) (sym (ap next_number w) ∙ c.atoms) (sym (ap (λ (x : Sketch). count_of x.nodes) w) ∙ c.entries)))
       whole)
   kept_answers d (few_places r h) =
-      subst (Reread line n m la lb) (sym (refused_is d atom_room la lb r (λ y. omega arith))) (few_atoms_lem d.carried (omega arith))
+      subst (Reread line n m la lb) (sym (refused_is d atom_room la lb r (λ y. omega arith))) (few_atoms d.carried (omega arith))
   kept_answers d (few_slots r h) =
-      subst (Reread line n m la lb) (sym (refused_is d bond_room la lb r (λ y. omega arith))) (few_bonds_lem d.carried (omega arith))
+      subst (Reread line n m la lb) (sym (refused_is d bond_room la lb r (λ y. omega arith))) (few_bonds d.carried (omega arith))
 
   pub turns_reread : Reread line n m la lb (read.read_text line la lb).answer
   unfolding read.read_text sketch_of

@@ -13,8 +13,8 @@ use Rattle.read.specs.declared.Answer.TheVariants.{Done, EndOfLine, Character, J
 pub data Reread (line : List ℕ) (n m la lb : ℕ) : Answer → Type 0 where
   whole : Reread line n m la lb (Done n m)
   long : text_limit < length line → Reread line n m la lb (TextTooLong (length line))
-  few_atoms_lem : (place : ℕ) → lesser_of atom_limit (la / atom_words) < n → Reread line n m la lb (AtomRoom place)
-  few_bonds_lem : (place : ℕ) → lesser_of bond_limit (lb / bond_words) < m → Reread line n m la lb (BondRoom place)
+  few_atoms : (place : ℕ) → lesser_of atom_limit (la / atom_words) < n → Reread line n m la lb (AtomRoom place)
+  few_bonds : (place : ℕ) → lesser_of bond_limit (lb / bond_words) < m → Reread line n m la lb (BondRoom place)
   deep : (place : ℕ) → has_nest (parse line) ≡ true → Reread line n m la lb (Nesting place)
 
 -- whether an answer is about ring numbers: the two ends of a ring bond disagree (3), or a number is not closed (4)

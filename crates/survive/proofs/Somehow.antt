@@ -22,7 +22,7 @@ use Rattle.read_token.specs.declared.scanner.Part.{Part}
 use Rattle.read_token.specs.declared.scanner.Step.{Step}
 use Rattle.read_token.specs.declared.scanner.Step.TheVariants.{Got, Stop}
 use Rattle.read_token.specs.declared.scanner.Found.{Found}
-use Rattle.read_token.specs.declared.scanner.Found.TheVariants.{Atom, Lacks}
+use Rattle.read_token.specs.declared.scanner.Found.TheVariants.{Atom, Nothing, Lacks}
 use Rattle.read_token.specs.Scan.{part, peek_at, digit_of, digit_at, slip, isotope_at, symbol_at, symbol_of, short_at, late_at, long_at, allene_at, octahedral_at, square_at, trigonal_at, configuration_at, hydrogens_at, fifteen_at, signed_at, charge_at, map_at, close_at, after_map, after_charge, after_hydrogens, after_configuration, configured, after_symbol, after_isotope, inside_at, bracket_at, aromatic_of, aliphatic_of, organic_at, star_at, or_else, other_at, atom_at}
 use Rattle.spell.specs.Spell.{digits, name_text, symbol_text, template_text, marked_text, configuration_text, hydrogens_text, charge_text, bracket_text, kind_text, atom_text}
 use Rattle.survive.specs.Survive.{survives, can_follow}
@@ -178,6 +178,7 @@ else_somehow : (f g : Found) (m : ℕ) → Somehow f m → Somehow (or_else f g)
 unfolding or_else
 else_somehow (Atom k n) g m (atom j i) = atom k m
 else_somehow (Lacks x) g m (lacks y i) = lacks x m
+else_somehow Nothing g m x = elim x [ ]
 
 module _ (s : List ℕ) (n : ℕ) (rest : List ℕ) where
   bracket_somehow : (b : BracketAtom) → in_range (Bracket b) ≡ true → drop n s ≡ kind_text (Bracket b) ++ rest → Somehow (atom_at s n) (n + length (kind_text (Bracket b)))

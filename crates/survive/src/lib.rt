@@ -1,6 +1,7 @@
 // Which atoms survive being written and read again: the test itself, for programs that say which do not. The crate's proofs
 // hold the readers of `read_token` against the texts of `spell`, and show that the test names exactly those that do.
 #![tactic(auto)]
+
 ghost use Rattle.std.specs.Prelude.{◌≡◌};
 ghost use Rattle.feature.specs.Pick.{both};
 ghost use Rattle.feature.specs.Kinds.{bracket_in_range};

@@ -1,5 +1,6 @@
 // Whether tables hold a graph: the first record whose numbers stand for no atom or bond.
 #![tactic(auto)]
+
 ghost use Rattle.std.specs.Prelude.{◌≡◌, ◌+◌, ◌^◌, ◌≤◌, ◌<◌};
 ghost use Rattle.table_check.specs.Judge.{bond_stands, atoms_from, first_bad_bond, bad_record};
 

@@ -2,4 +2,3 @@
 pub mod Moves
 pub mod Onto
 pub mod Going
-pub mod Whole

@@ -5,6 +5,7 @@
 // turns: all of them, over a pool by value.
 // lent: the pool lent to them.
 #![tactic(auto)]
+
 pub mod lent;
 pub mod turn;
 pub mod turns;

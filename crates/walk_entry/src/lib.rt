@@ -5,6 +5,7 @@
 // entry: a new atom's entries back to the atom that it is reached from, and what they make of its mark.
 // tie: the entries for each other of two atoms that were met.
 #![tactic(auto)]
+
 pub mod entry;
 pub mod graph;
 pub mod tie;

@@ -270,10 +270,10 @@ say_all_room s (e ∷ es) = say_all_room (say_t s e) es ∙ say_room s e
 pub holds_all : {o : List ℕ} {ps : List (List ℕ)} {s : Spoken} (es : List Event) → Holds o ps s
     → Holds o (write_events (piece_room s.starts) es ps) (say_all s es)
 unfolding write_events say_all
-holds_all [] h = h
+holds_all {ps = ps} [] h = h
 holds_all {o} {ps} {s} (e ∷ es) h =
     subst (λ (n : ℕ). Holds o (write_events n es (write_event (piece_room s.starts) e ps)) (say_all (say_t s e) es)) (say_room s e)
-    (holds_all es (holds_step e h))
+    (holds_all {ps = write_event (piece_room s.starts) e ps} es (holds_step e h))
 
 -- nothing said holds no pieces
 pub holds_none : (o starts : List ℕ) → Holds o [] (spoken (writer 0 0) o starts)

@@ -4,6 +4,7 @@
 // say: the events with nothing judged, for a walk, which compares the length with the output once at its end.
 // event: the single events with their refusals.
 #![tactic(auto)]
+
 pub mod event;
 mod lay;
 pub mod say;

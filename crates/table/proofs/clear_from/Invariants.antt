@@ -5,7 +5,7 @@ use Rattle.table.proofs.clear_from.Given as goal
 
 abbrev pub invariant-loop-at : goal.invariant-loop-at
 invariant-loop-at l =
-    (l.from ≤ l.at) × (l.at ≤ length l.initial.l.out + (l.from - length l.initial.l.out)) × (length l.out ≡ length l.initial.l.out) × (l.out ≡ cleared_to l.from l.at l.initial.l.out)
+    (l.from ≤ l.at) × (l.at ≤ length l.initial.out + (l.from - length l.initial.out)) × (length l.out ≡ length l.initial.out) × (l.out ≡ cleared_to l.from l.at l.initial.out)
 
 abbrev pub decreases-loop-at : goal.decreases-loop-at
-decreases-loop-at l = length l.initial.l.out - l.at
+decreases-loop-at l = length l.initial.out - l.at

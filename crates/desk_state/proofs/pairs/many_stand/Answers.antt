@@ -1,0 +1,17 @@
+-- The work room is blank, so both chains are linked and all atoms are judged.
+use Prim.Native.Nat.{◌+◌, ◌*◌}
+use native.Mathlib.Omega.{arith}
+use Rattle.table.specs.Limits.{atom_limit, bond_limit}
+use Rattle.desk_state.specs.Steps.{bond_kind_count}
+use Rattle.desk_state.proofs.Ways.{loose_from, loose_to, ready}
+use Rattle.desk_state.proofs.pairs.many_stand.Goals as goal
+
+pub link-requires : goal.link-requires
+link-requires c = (omega arith, loose_from c.requires atom_limit bond_limit c.requires.most c.requires.few)
+
+pub link-requires-2 : goal.link-requires-2
+link-requires-2 c = (omega arith, loose_to c.requires atom_limit bond_limit c.requires.most c.requires.few)
+
+pub are_level-requires : goal.are_level-requires
+are_level-requires c =
+    ready c.requires atom_limit bond_limit c.requires.most c.requires.few (atom_limit * bond_kind_count + 1) c.link.auto.next.1.1.0 c.link-2.auto.next.1.1.0 c.link.ensures c.link-2.ensures (omega (arith, c.requires.most))

@@ -1,0 +1,13 @@
+-- The loop of `atoms_stand`: what holds at each turn, and so what it ends with.
+use Prim.Native.Nat.{◌-◌, ◌≤◌}
+use mathlib.Core.Path.{◌≡◌}
+use mathlib.Core.Bool.{true}
+use Rattle.feature.specs.Every.{every}
+use Rattle.packing.specs.Words.{is_atom}
+use Rattle.desk_state.proofs.state.atoms_stand.Given as goal
+
+abbrev pub invariant-loop-i : goal.invariant-loop-i
+invariant-loop-i l = (l.i ≤ l.n) × (every (is_atom l.atoms) l.i ≡ true)
+
+abbrev pub decreases-loop-i : goal.decreases-loop-i
+decreases-loop-i l = l.n - l.i

@@ -1,0 +1,14 @@
+use Rattle.read_token.specs.Scan.{other_at, or_else}
+use Rattle.read_atom.proofs.read_atom.other.Goals as goal
+
+pub returns-in-Atom : goal.returns-in-Atom
+unfolding other_at or_else
+returns-in-Atom c = simp (← c.read_bracket.ensures, c.in-Atom.is)
+
+pub returns-in-Lacks : goal.returns-in-Lacks
+unfolding other_at or_else
+returns-in-Lacks c = simp (← c.read_bracket.ensures, c.in-Lacks.is)
+
+pub returns-in-Nothing : goal.returns-in-Nothing
+unfolding other_at or_else
+returns-in-Nothing c = simp (← c.read_bracket.ensures, c.in-Nothing.is, ← c.star.ensures)

@@ -1,0 +1,11 @@
+use borrow.Author.Tests.{eq-eqb, ne_eqb}
+use Rattle.read_token.specs.Scan.{allene_at}
+use Rattle.read_bracket.proofs.read_configuration.allene.Goals as goal
+
+pub returns-then-b : goal.returns-then-b
+unfolding allene_at
+returns-then-b c = simp (← c.peek-b.ensures.is, eq-eqb _ _ c.if-b.true, ← c.short.ensures)
+
+pub returns : goal.returns
+unfolding allene_at
+returns c = simp (← c.peek-b.ensures.is, ne_eqb _ _ c.if-b.false)

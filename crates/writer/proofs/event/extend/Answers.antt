@@ -1,0 +1,14 @@
+-- An extend's answer: each refusal in its order, and what is held where none applies.
+use Rattle.writer.proofs.Laws.{extend_long, extend_held, piece_refused}
+use Rattle.writer.specs.Tables.{spoken, event_of}
+use Rattle.writer.proofs.event.extend.Goals as goal
+
+pub returns-then-piece_room-pieces : goal.returns-then-piece_room-pieces
+unfolding event_of
+returns-then-piece_room-pieces c = piece_refused (spoken c.args.w c.args.out.now c.args.starts.now) _ c.piece_room.ensures _ c.if-piece_room-pieces.true
+
+pub returns-then-out-need : goal.returns-then-out-need
+returns-then-out-need c = extend_long _ _ _ _ _ _ c.piece_room.ensures c.if-piece_room-pieces.false _ _ c.bond_len.ensures.0 c.atom_len.ensures.0 c.if-out-need.true
+
+pub returns : goal.returns
+returns c = extend_held _ _ _ _ _ _ c.piece_room.ensures c.if-piece_room-pieces.false _ _ c.bond_len.ensures.0 c.atom_len.ensures.0 _ _ _ c.if-out-need.false c.say_extend.ensures.starts_after
