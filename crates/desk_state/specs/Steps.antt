@@ -63,8 +63,8 @@ pub record Sound (e : List ℕ) (n size : ℕ) : Type 0 where
   pub kind : (i : ℕ) → i < n → (k : BondKind) × (entry_kind_at e i ≡ code_of k)
   pub ends : (i : ℕ) → i < n → target_at e i < unclosed → HasCount size (source_at e i) × HasCount size (target_at e i)
 
-abbrev pub field_own : List ℕ → ℕ → Bool
-field_own e i = is_own (source_at e i) (entry_kind_at e i) (target_at e i)
+abbrev pub own_at : List ℕ → ℕ → Bool
+own_at e i = is_own (source_at e i) (entry_kind_at e i) (target_at e i)
 
 abbrev pub out_cell : List ℕ → ℕ → ℕ
 out_cell e i = cell_of (target_at e i) (entry_kind_at e i)
@@ -78,14 +78,14 @@ more_of own v = pick own (pick (eqb v 0) 1 0) (v + 1)
 
 -- an entry from an atom counted, and one to it taken off, if it can be
 unfoldable pub put_of : List ℕ → ℕ → List ℕ → List ℕ
-put_of e i d = set d (out_cell e i) (more_of (field_own e i) (get_or d (out_cell e i) 0))
+put_of e i d = set d (out_cell e i) (more_of (own_at e i) (get_or d (out_cell e i) 0))
 
 unfoldable pub can_take : List ℕ → ℕ → List ℕ → Bool
-can_take e i d = pick (field_own e i) true (neither (eqb (get_or d (back_cell e i) 0) 0))
+can_take e i d = pick (own_at e i) true (neither (eqb (get_or d (back_cell e i) 0) 0))
 
 unfoldable pub take_of : List ℕ → ℕ → List ℕ → List ℕ
 take_of e i d =
-    pick (field_own e i) d
+    pick (own_at e i) d
     (pick (eqb (get_or d (back_cell e i) 0) 0) d (set d (back_cell e i) (get_or d (back_cell e i) 0 - 1)))
 
 -- the count of bonds to or from t of a kind

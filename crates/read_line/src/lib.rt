@@ -7,6 +7,7 @@
 // event: what the reader says to the builder.
 // line: the grammar.
 #![tactic(auto)]
+
 pub mod event;
 pub mod lead;
 pub mod line;

@@ -8,8 +8,8 @@ returns-then-is_free c = simp (← c.is_free.ensures, c.if-is_free.true)
 
 pub returns-then-kept_free : goal.returns-then-kept_free
 unfolding is_slot
-returns-then-kept_free c = simp (← c.is_free.ensures, c.if-is_free.false, ← c.Kept-free.ensures, c.if-kept_free.true)
+returns-then-kept_free c = simp (← c.is_free.ensures, c.if-is_free.false, ← c.kept_free.ensures, c.if-kept_free.true)
 
 pub returns : goal.returns
 unfolding is_slot
-returns c = simp (← c.is_free.ensures, c.if-is_free.false, ← c.Kept-free.ensures, c.if-kept_free.false, ← c.is_open.ensures)
+returns c = simp (← c.is_free.ensures, c.if-is_free.false, ← c.kept_free.ensures, c.if-kept_free.false, ← c.is_open.ensures)

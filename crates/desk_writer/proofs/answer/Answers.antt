@@ -5,7 +5,7 @@ use Rattle.desk_writer.proofs.Stands.{answer_held}
 use Rattle.desk_writer.proofs.answer.Goals as goal
 
 pub returns-in-Held : goal.returns-in-Held
-returns-in-Held c = answer_held c.args c.args.out.now c.args.r _ _ _ c.in-Held.is c.held.ensures
+returns-in-Held c = answer_held c.args.before c.args.out.now c.args.r _ _ _ c.in-Held.is c.held.ensures
 
 pub returns-in-AtomRoom : goal.returns-in-AtomRoom
 unfolding wrote_said tail_of

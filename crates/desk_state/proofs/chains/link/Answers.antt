@@ -17,8 +17,8 @@ loop-i-preserved c =
     let l = c.loop-i in
     let h = c.requires.1 in (
       search rules,
-      c.link_one.auto.next.1.1.0 ∙ l.invariant.1,
-      c.link_one.auto.next.1.1.1.0 ∙ l.invariant.2,
+      c.link_one.auto.head ∙ l.invariant.1,
+      c.link_one.auto.next ∙ l.invariant.2,
       linked_next _ _ _ (omega (arith, c.loop-i-test.true, h.room, l.invariant.2)) (λ u. omega (arith, h.keys l.i c.loop-i-test.true u, l.invariant.1)) l.invariant.3 c.link_one.ensures.head_after c.link_one.ensures.next_after,
     )
 

@@ -21,7 +21,7 @@ pub loop-a-preserved : goal.loop-a-preserved
 loop-a-preserved c =
     let l = c.loop-a in
     let g = c.is_level_at.ensures.good (c.if-not-is_level_at.false) in
-    let s = c.is_level_at.auto.1.1.1.1.1.1.1.1.0 ∙ l.invariant.1 in (
+    let s = c.is_level_at.auto.counts ∙ l.invariant.1 in (
       search rules,
       s,
       g.0,

@@ -14,4 +14,4 @@ link-requires-2 c = (omega arith, loose_to c.requires.0 few_atoms few_bonds c.re
 
 pub are_level-requires : goal.are_level-requires
 are_level-requires c =
-    ready c.requires.0 few_atoms few_bonds c.requires.2 c.requires.1 (few_atoms * bond_kind_count + 1) c.link.auto.next.1.1.0 c.link-2.auto.next.1.1.0 c.link.ensures c.link-2.ensures (omega (arith, c.requires.2))
+    ready c.requires.0 few_atoms few_bonds c.requires.2 c.requires.1 (few_atoms * bond_kind_count + 1) c.link.auto.head c.link-2.auto.head c.link.ensures c.link-2.ensures (omega (arith, c.requires.2))

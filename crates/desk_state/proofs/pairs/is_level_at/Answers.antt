@@ -12,7 +12,7 @@ put-requires c =
 pub take-requires : goal.take-requires
 take-requires c =
     let h = c.requires.0 in
-    (sized _ _ c.put.auto.1.1.1.1.1.0 (ready_sound h), h.to, omega (arith, c.requires.1, h.lasts), omega (arith, c.requires.1, h.between.most), c.put.ensures)
+    (sized _ _ c.put.auto.counts (ready_sound h), h.to, omega (arith, c.requires.1, h.lasts), omega (arith, c.requires.1, h.between.most), c.put.ensures)
 
 pub returns-then-not-take : goal.returns-then-not-take
 returns-then-not-take c = says_no (c.take.ensures.bad (c.if-not-take.true))
@@ -20,8 +20,8 @@ returns-then-not-take c = says_no (c.take.ensures.bad (c.if-not-take.true))
 pub is_level-requires : goal.is_level-requires
 is_level-requires c =
     let h = c.requires.0 in
-    (sized _ _ (c.take.auto.1.1.1.1.1.0 ∙ c.put.auto.1.1.1.1.1.0) (ready_sound h), h.from, omega (arith, c.requires.1, h.firsts), c.take.ensures.good (c.if-not-take.false))
+    (sized _ _ (c.take.auto.counts ∙ c.put.auto.counts) (ready_sound h), h.from, omega (arith, c.requires.1, h.firsts), c.take.ensures.good (c.if-not-take.false))
 
 pub returns : goal.returns
 returns c =
-    level_all (sized _ _ (c.take.auto.1.1.1.1.1.0 ∙ c.put.auto.1.1.1.1.1.0) (ready_sound c.requires.0)) (c.take.ensures.good (c.if-not-take.false)) c.is_level.ensures
+    level_all (sized _ _ (c.take.auto.counts ∙ c.put.auto.counts) (ready_sound c.requires.0)) (c.take.ensures.good (c.if-not-take.false)) c.is_level.ensures

@@ -22,7 +22,7 @@ pub loop-p-preserved : goal.loop-p-preserved
 loop-p-preserved c =
     let l = c.loop-p in
     let h = c.requires in (
-      c.put_one.auto.1.1.0 ∙ l.invariant.0,
+      c.put_one.auto.counts ∙ l.invariant.0,
       (goes_on _ _ _ _ _ c.loop-p-test.true 0 h.1 l.invariant.1 c.look-p-in-loop-p.ensures).0,
       put_turn _ _ _ _ _ c.loop-p-test.true _ _ (sized _ _ l.invariant.0 h.0) h.1 l.invariant.1 l.invariant.2 c.put_one.ensures c.look-p-in-loop-p.ensures,
     )

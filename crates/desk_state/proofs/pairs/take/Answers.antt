@@ -25,7 +25,7 @@ pub loop-p-preserved : goal.loop-p-preserved
 loop-p-preserved c =
     let l = c.loop-p in
     let h = c.requires in (
-      c.take_one.auto.1.1.0 ∙ l.invariant.0,
+      c.take_one.auto.counts ∙ l.invariant.0,
       (goes_on _ _ _ _ _ c.loop-p-test.true 2 h.1 l.invariant.1 c.look-p-in-loop-p.ensures).0,
       take_turn _ _ _ _ _ c.loop-p-test.true _ _ (sized _ _ l.invariant.0 h.0) h.3 h.1 l.invariant.1 l.invariant.2 (sym c.take_one.ensures.value ∙ c.if-not-take_one.false) c.take_one.ensures.counts_after c.look-p-in-loop-p.ensures,
     )

@@ -1,0 +1,4 @@
+use Rattle.read_line.proofs.line.reach.Goals as goal
+
+pub returns : goal.returns
+returns c = simp c.copied.ensures
