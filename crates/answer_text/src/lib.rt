@@ -9,6 +9,7 @@
 // desk: what the desk says, by number, and a refusal by its name.
 // words: the same for people, with the place in the line.
 #![tactic(auto)]
+
 pub mod desk;
 pub mod order;
 pub mod tables;

@@ -1,6 +1,7 @@
 // The answers of the calls as the desk's numbers with the values that they carry: once, for the report of the exported calls
 // and for what programs print.
 #![tactic(auto)]
+
 ghost use Rattle.std.specs.Prelude.{◌≡◌};
 ghost use Rattle.read.specs.Numbers.{read_told};
 ghost use Rattle.write.specs.Numbers.{written_told};

@@ -1,6 +1,7 @@
 // One atom as text, both ways, and the text of a bond and of a ring number, as single calls: any text and any numbers may be
 // handed in. A text that is refused leaves zeros in the output.
 #![tactic(auto)]
+
 ghost use Rattle.std.specs.Prelude.{◌≡◌, length};
 ghost use Rattle.spell.specs.Spell.{bond_text};
 ghost use Rattle.desk_atom.specs.Texts.{lacked_of, tells_atom, first_atom, spelt, texted, atom_d, rnum_d};

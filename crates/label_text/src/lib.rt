@@ -11,6 +11,7 @@
 // lost: the atoms that are not written as they were read.
 // why: a refusal in words, and behind a `#`.
 #![tactic(auto)]
+
 pub mod counted;
 pub mod looks;
 pub mod lost;

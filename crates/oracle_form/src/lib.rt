@@ -16,6 +16,7 @@
 // event: an event of a builder or a writer.
 // kind: an atom's kind. symbol and field: the fields of a bracket atom.
 #![tactic(auto)]
+
 pub mod bond;
 pub mod byte;
 pub mod event;

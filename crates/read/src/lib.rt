@@ -1,5 +1,6 @@
 // The read call: a line's text into an atom table and a bond table.
 #![tactic(auto)]
+
 ghost use Rattle.std.specs.Prelude.{◌≡◌, ◌≤◌, ◌<◌, true, length, replicate};
 ghost use Rattle.table.specs.Limits.{text_limit};
 ghost use Rattle.read.specs.Read.{said, read_refusal, built_answer};

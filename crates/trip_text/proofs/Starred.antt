@@ -20,7 +20,7 @@ use Rattle.survive.proofs.Shift.{front}
 use Rattle.survive.proofs.Somehow.{Somehow, atom, lacks, atom_somehow}
 use Rattle.read_token.specs.declared.scanner.Missing.{Missing}
 use Rattle.read_token.specs.declared.scanner.Found.{Found}
-use Rattle.read_token.specs.declared.scanner.Found.TheVariants.{Atom, Lacks}
+use Rattle.read_token.specs.declared.scanner.Found.TheVariants.{Atom, Nothing, Lacks}
 use Rattle.read_token.specs.Scan.{peek_at, atom_at, sign_kind, mark_width}
 use Rattle.read_line.specs.declared.lead.Lead.{Lead}
 use Rattle.read_line.specs.declared.lead.Lead.TheVariants.{Dot, Bond}
@@ -109,11 +109,13 @@ found_steps : (s : List ℕ) (at : ℕ) (l : Lead) (n : ℕ) (K : Rest) (f : Fou
 unfolding found_p
 found_steps s at l n K (Atom k m) to (atom j i) = entered k at refl
 found_steps s at l n K (Lacks m) to (lacks j i) = missed m refl
+found_steps s at l n K Nothing to x = elim x [ ]
 
 union_steps : (s : List ℕ) (at : ℕ) (b : BondKind) (n : ℕ) (K : Rest) (f : Found) (to : ℕ) → Somehow f to → Steps (union_by s at b n K f) (Bond b) (K to (n + 1))
 unfolding union_by
 union_steps s at b n K (Atom k m) to (atom j i) = entered k at refl
 union_steps s at b n K (Lacks m) to (lacks j i) = missed m refl
+union_steps s at b n K Nothing to x = elim x [ ]
 
 module _ (f : ℕ) (s : List ℕ) (room at n : ℕ) (K : Rest) (q : List ℕ) (k : AtomKind) (ok : in_range k ≡ true) (c : can_follow q ≡ true) where
   extend_steps : (b : BondKind) → Stands s at ((bond_text b ++ atom_text k) ++ q)

@@ -3,6 +3,7 @@
 // answer: what the calls answer.
 // order: the walk order.
 #![tactic(auto)]
+
 ghost use Rattle.std.specs.Prelude.{◌≡◌, ◌≤◌, length};
 ghost use Rattle.table.specs.Steps.{few_atoms};
 ghost use Rattle.write.specs.Write.{write_leaves, output_ended, graph_written};
