@@ -1,9 +1,12 @@
-# What tools/archive and ./label have in common: the kit is found, a crate's module is taken out of it, compiled for this
-# machine and put in its place. To be sourced, by a POSIX shell too, once `me` is the name for messages and `root` the
-# project's folder. What is made is in target/native.
+# What tools/archive and ./label have in common: the kit is found, has a crate proved, compiled for this machine and put in its
+# place. To be sourced, by a POSIX shell too, once `me` is the name for messages and `root` the project's folder. What is made is
+# in target/native.
 #
-# A module is what the kit's compiler makes of a crate and all that it reaches, before it makes code for a processor. The kit
-# compiles modules for x86-64 alone, and inlines few calls; native_object compiles them for the machine that it runs on.
+# The kit compiles nothing that it has not proved. Where `rt check` or `rt ci` has proved the sources on this machine, what they
+# kept is taken; else the proof is made first, which can take as long as the gate does. A module is what the kit's compiler makes
+# of a crate and all that it reaches, before it makes code for a processor. Its own compile inlines few calls; native_build has it
+# inline more. The kit's programs are for x86-64. On ARM they run only where the system starts such programs under an emulator by
+# itself (qemu's, by binfmt_misc); what is compiled there is for ARM.
 
 native_out=$root/target/native
 
@@ -22,13 +25,18 @@ native_kit_path() {
     fi
 }
 
-# Sets kit, the kit's folder, machine, and own, what the kit has for this machine.
+# Sets kit, the kit's folder, machine, this machine's processor, and clang, the kit's compiler of modules.
 native_kit() {
     kit=$(native_kit_path)
     [ -n "$kit" ] || native_fail "rt, the Rattle kit's command, is not on the PATH: README.md, \"The kit\", says where it is to be had"
     machine=$(uname -m)
-    own=$kit/on/$machine
-    [ -x "$own/bin/rattle-cases" ] || native_fail "the kit in $kit has nothing for $machine: it is for Linux on x86-64 or ARM"
+    clang=$kit/toolchain/bin/clang
+    [ -x "$kit/bin/rattle" ] && [ -x "$clang" ] || native_fail "$kit is not the folder of a kit that this project can use: README.md, \"The kit\", names it"
+    case $machine in
+    x86_64 | aarch64) ;;
+    *) native_fail "nothing can be compiled for $machine: the kit is for Linux on x86-64, and compiles for ARM too" ;;
+    esac
+    "$clang" --version >/dev/null 2>&1 || native_fail "the kit in $kit is for x86-64, and its programs do not start on this $machine: they need an emulator"
 }
 
 # The version, which is in the C header alone.
@@ -38,11 +46,10 @@ native_version() {
 
 # The crates that a crate names, of the project or of the kit.
 native_uses() {
-    sed -n "s/^$1: *//p" "$root/crates.txt"
-    [ -z "${kit:-}" ] || sed -n "s/^$1: *//p" "$kit/libs/libs.txt"
+    sed -n "s/#.*//; s/^$1\( [^:]*\)\{0,1\}: *//p" "$root/crates.txt"
 }
 
-# Every crate that a crate reaches, each once.
+# Every crate of the project that a crate reaches, each once.
 native_reached() (
     todo=$(native_uses "$1")
     found=
@@ -50,6 +57,7 @@ native_reached() (
         next=
         for crate in $todo; do
             case " $found " in *" $crate "*) continue ;; esac
+            [ -d "$root/crates/$crate" ] || continue
             found="$found $crate"
             next="$next$(native_uses "$crate") "
         done
@@ -108,84 +116,64 @@ native_place() {
     ) || native_fail "what was made cannot be moved to $native_out"
 }
 
-# A folder of tools whose compiler keeps the module that it is handed, and then stops, or goes on if real/clang is there.
-native_keeper() {
-    mkdir -p "$work/tools/bin" "$work/tools/real"
-    ln -s "$own/toolchain/lib" "$work/tools/lib"
-    for tool in ld.lld llvm-ar qemu-x86_64; do
-        [ ! -e "$own/toolchain/bin/$tool" ] || ln -s "$own/toolchain/bin/$tool" "$work/tools/bin/$tool"
+# A folder of tools whose compiler, handed a module, keeps its text, work/module.ll, turns it as the sed script work/turns says,
+# if there is one, and compiles it as the kit asks but for one thing: how large a function may be that is inlined where it is
+# called, and how much stack one may take that is inlined into a function which calls itself, is as much as any here needs, so
+# that no state goes through memory from call to call. All else that the kit asks is kept, its guards against faults of the
+# compiler and the words by which a call with too little stack stops at the guard page among it.
+native_tools() {
+    mkdir -p "$work/tools/bin"
+    ln -s "$kit/toolchain/lib" "$work/tools/lib"
+    for tool in "$kit"/toolchain/bin/*; do
+        [ "$tool" = "$clang" ] || ln -s "$tool" "$work/tools/bin/${tool##*/}"
     done
-    cat >"$work/tools/bin/clang" <<'END'
+    cat >"$work/tools/bin/clang" <<END
 #!/bin/sh
-tools=$(dirname "$(dirname "$0")")
-for word in "$@"; do
-    case $word in *.bc) cp "$word" "$tools/../module.bc" ;; esac
+set -eu
+for word in "\$@"; do
+    shift
+    case \$word in
+    *.bc)
+        "$clang" --target=$machine-unknown-linux-gnu -x ir "\$word" -S -emit-llvm -O0 -Xclang -disable-llvm-passes -o "$work/module.ll"
+        [ ! -f "$work/turns" ] || sed -i -f "$work/turns" "$work/module.ll"
+        word="$work/module.ll"
+        set -- "\$@" -mllvm -inline-threshold=30000 -mllvm -recursive-inline-max-stacksize=100000
+        ;;
+    esac
+    set -- "\$@" "\$word"
 done
-[ ! -e "$tools/real/clang" ] || exec "$tools/real/clang" "$@"
-exit 1
+exec "$clang" "\$@"
 END
     chmod +x "$work/tools/bin/clang"
 }
 
-# The root file of a crate: of a program, or of a library.
-native_root() {
-    if [ -f "$root/crates/$1/src/main.rt" ]; then echo "$root/crates/$1/src/main.rt"
-    else echo "$root/crates/$1/src/lib.rt"; fi
-}
-
-# The module of a crate, in work/module.bc, by rattle-cases, which `rt try` runs: in two seconds, without a proof.
-native_module() {
-    native_keeper
+# native_build CRATE FILE: has rt prove the crate and those that it uses, over what it kept of them, and compiles the crate for
+# this machine: FILE is a program's object file, or of a library an archive. rt's lines are shown as they come.
+native_build() {
+    native_tools
     crate=$1
-    set -- "$(native_root "$crate")" --crate-name "$crate" --lib "std=$kit/libs/std/src/lib.rt"
-    for used in $(native_reached "$crate"); do
-        if [ -d "$root/crates/$used" ]; then set -- "$@" --lib "$used=$root/crates/$used/src/lib.rt"
-        else set -- "$@" --lib "$used=$kit/libs/$used/src/lib.rt"; fi
-    done
-    if [ -f "$root/crates/$crate/src/main.rt" ]; then set -- --link "$kit/lib/libos_c.a" "$@"
-    else set -- --staticlib "$work/x86.a" "$@"; fi
-    "$own/bin/rattle-cases" --toolchain "$work/tools" "$@" </dev/null >"$work/log" 2>&1 || :
-    [ -f "$work/module.bc" ] || {
-        cat "$work/log" >&2
-        native_fail "crates/$crate, or a crate that it reaches, cannot be compiled: \`rt dev\` of it says why"
-    }
-}
-
-# The same module, once rt has proved the crate and those that it uses; rt's lines are shown as they come.
-native_proved_module() {
-    native_keeper
-    crate=$1
-    (cd "$root" && RATTLE_HOME=$kit "$kit/bin/rt" check "$crate" </dev/null >&2) || native_fail "rt check $crate failed"
-    ln -s "$own/toolchain/bin/clang" "$work/tools/real/clang"
-    set -- "$(native_root "$crate")" --crate-name "$crate" --extern "std=$own/rlib/std.rlib"
+    made=$2
+    at=$root/crates/$crate
+    (cd "$at" && "$kit/bin/rt" check </dev/null >&2) ||
+        native_fail "crates/$crate, or a crate that it reaches, is not proved: \`rt check\` in its folder says why"
+    if [ -f "$at/src/main.rt" ]; then set -- src/main.rt
+    else set -- src/lib.rt --crate-type staticlib; fi
+    set -- "$@" --crate-name "$crate" --links "$crate=" --extern "std=$kit/rlibs/std.rlib" -L "dependency=$kit/rlibs"
     for used in $(native_uses "$crate"); do
-        if [ -d "$root/crates/$used" ]; then set -- "$@" --extern "$used=$root/target/rlib/$used.rlib"
-        else set -- "$@" --extern "$used=$own/rlib/$used.rlib"; fi
+        if [ -d "$root/crates/$used" ]; then set -- "$@" --extern "$used=$root/crates/$used/out/rlib/$used.rlib"
+        else set -- "$@" --extern "$used=$kit/rlibs/$used.rlib"; fi
     done
-    [ -f "$root/crates/$crate/src/main.rt" ] || set -- "$@" --crate-type staticlib
-    "$own/bin/rattle" build "$@" -L "dependency=$root/target/rlib" -L "dependency=$own/rlib" \
-        --antt-project "$kit/logic/antt-project.json" --logic-built "$own/logic-built" \
-        --toolchain "$work/tools" -o "$work/x86" >"$work/log" 2>&1 || {
+    for used in $(native_reached "$crate"); do
+        set -- "$@" -L "dependency=$root/crates/$used/out/rlib"
+    done
+    case $machine in
+    x86_64) set -- "$@" --target x86_64-unknown-linux-gnu --cpu x86-64 ;;
+    aarch64) set -- "$@" --target aarch64-unknown-linux-gnu --cpu generic ;;
+    esac
+    (cd "$at" && "$kit/bin/rattle" build "$@" --antt-project "$kit/rattle/logic/antt-project.json" --logic-built "$kit/logic_built" \
+        --incremental out/incremental --jobs 1 --toolchain "$work/tools" --backend llvm -o "$made") >"$work/log" 2>&1 || {
         cat "$work/log" >&2
         native_fail "rattle build of $crate failed"
     }
-}
-
-# The module as text, in work/module.ll. Nothing of the code is changed but, on another processor than x86-64, the words that
-# name the target.
-native_text() {
-    "$own/toolchain/bin/clang" --target=x86_64-unknown-linux-gnu -x ir "$work/module.bc" -S -emit-llvm -O0 \
-        -Xclang -disable-llvm-passes -o "$work/module.ll"
-    [ "$machine" = x86_64 ] ||
-        sed -i -e '/^target triple/d' -e '/^target datalayout/d' -e 's/ "target-cpu"="x86-64"//' "$work/module.ll"
-}
-
-# native_object FILE: that text compiled for this machine. How large a function may be that is inlined where it is called,
-# and how much stack one may take that is inlined into a function which calls itself: as much as any here needs, so that no
-# state goes through memory from call to call. The words that ask for each page of a large frame to be touched are kept, so
-# that a call with too little stack stops at the guard page and writes nowhere else.
-native_object() {
-    "$own/toolchain/bin/clang" --target="$machine-unknown-linux-gnu" -Wno-override-module -mllvm -trap-unreachable \
-        -mllvm -no-trap-after-noreturn -mllvm -inline-threshold=30000 -mllvm -recursive-inline-max-stacksize=100000 \
-        -ffunction-sections -fdata-sections -fPIC -O3 -c -x ir "$work/module.ll" -o "$1"
+    [ -f "$work/module.ll" ] || native_fail "the kit's compiler did not hand on the module of $crate"
 }

@@ -21,8 +21,12 @@ fn main() {
 
 /// The project's own folder of the library, which tools/archive brings up to date.
 fn made() -> String {
-    for source in ["crates", "crates.txt", "tools/archive", "tools/native.sh", "bindings/c/mavisdrok.h"] {
+    for source in ["crates.txt", "tools/archive", "tools/native.sh", "bindings/c/mavisdrok.h"] {
         println!("cargo:rerun-if-changed={ROOT}/{source}");
+    }
+    // Of a crate its sources alone: beside them is what the toolchain keeps, which changes with each check.
+    for folder in std::fs::read_dir(format!("{ROOT}/crates")).into_iter().flatten().flatten() {
+        println!("cargo:rerun-if-changed={}/src", folder.path().display());
     }
     let header = std::fs::read_to_string(format!("{ROOT}/bindings/c/mavisdrok.h")).unwrap_or_default();
     if !header.contains(concat!("#define MAVISDROK_VERSION \"", env!("CARGO_PKG_VERSION"), "\"\n")) {
