@@ -1,6 +1,6 @@
 -- Steps of the proofs: no public claim rests on these definitions.
 -- What the loops of the judge of pairs keep: the closed entries in chains, by the atom that each is from and by the one that
--- it is to, and counts along them. What pairs are, `isPaired` says.
+-- it is to, and counts along them. What pairs are, `is_paired` says.
 use Rattle.std.specs.Prelude.{ℕ, zero, suc, ◌+◌, ◌*◌, ◌-◌, ◌%◌, ◌<◌, ◌≤◌, ◌≡◌, List, Bool, true, false, length, get_or, set, ltb, eqb}
 use Rattle.feature.specs.Every.{every}
 use Rattle.feature.specs.Pick.{pick, neither, both}

@@ -270,7 +270,7 @@ module _ (s : Spoken) (e : Event) (h : Holds s.out (pieces_in s) s) where
   onward t over z = absurd (omega (arith, z))
   onward t (held l) z = held_onward l
 
--- so what a run of accepted calls holds is what `writeEvents` makes, and with a first event on no piece the rest of the output
+-- so what a run of accepted calls holds is what `write_events` makes, and with a first event on no piece the rest of the output
 -- is zeros after each of them
 pub accepted_onward : (s : Spoken) (e : Event) → is_writer s ≡ true → (event_d true s e).told.number ≡ desk.done → EventOnward s e (event_d true s e)
 unfolding event_d told_leaves

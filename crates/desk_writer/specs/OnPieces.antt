@@ -1,5 +1,5 @@
 -- An event of a writer as a single call, in the words of pieces. What stands for a state holds pieces, the parts of its line
--- between their starts; an event answers 18, 19, 13 or 16 by them and changes nothing, or makes of them what `writeEvent`
+-- between their starts; an event answers 18, 19, 13 or 16 by them and changes nothing, or makes of them what `write_event`
 -- says, and the output and the starts hold those.
 use Rattle.std.specs.Prelude.{ℕ, zero, suc, ◌-◌, ◌≡◌, List, [], ◌∷◌, length, get_or, drop, replicate, ltb, leb, eqb}
 use Rattle.feature.specs.Pick.{pick}

@@ -5,6 +5,7 @@
 // lines: the writer's events.
 // rings: a ring number from the pool.
 #![tactic(auto)]
+
 pub mod atom;
 pub mod events;
 pub mod lines;

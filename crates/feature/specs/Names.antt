@@ -1,6 +1,6 @@
 -- The names that a bracket atom can have: the star, the 118 elements, and the aromatic as b c n o p s se. They are in
 -- the order of a dictionary; a symbol is the place of its name.
-use Rattle.std.specs.Prelude.{ℕ, suc, ◌*◌, ◌/◌, List, [], ◌∷◌, ◌++◌, Bool, false, eqb, ltb}
+use Rattle.std.specs.Prelude.{ℕ, suc, ◌/◌, List, [], ◌∷◌, ◌++◌, Bool, false, eqb, ltb}
 use Rattle.feature.specs.Pick.{pick, either}
 use Rattle.feature.specs.Text.{letter_step, columns, one_letter, two_letters}
 use Rattle.feature.specs.declared.element.Named.{Named}

@@ -9,7 +9,7 @@ use Rattle.feature.specs.declared.atom_kind.AtomKind.TheVariants.{Star, Aliphati
 use Rattle.feature.specs.Kinds.{aliphatic_count, aromatic_count, no_number, no_hydrogens, no_charge, configurations}
 use Rattle.feature.specs.Text.{letter_step}
 
--- a bracket atom whose numbers are in range, as `bracketInRange` tests
+-- a bracket atom whose numbers are in range, as `bracket_in_range` tests
 pub record Within (b : BracketAtom) : Type 0 where
   pub isotope : b.isotope ≤ no_number
   pub symbol : b.symbol < symbols
@@ -18,7 +18,7 @@ pub record Within (b : BracketAtom) : Type 0 where
   pub charge : b.charge ≤ no_charge
   pub map : b.map ≤ no_number
 
--- and a kind, as `inRange` tests
+-- and a kind, as `in_range` tests
 abbrev pub GoodKind : AtomKind → Type 0
 GoodKind Star = Unit {0}
 GoodKind (Aliphatic n) = n < aliphatic_count

@@ -7,7 +7,7 @@ use Prim.Native.Nat.{ℕ}
 use Rattle.feature.specs.Text.{byte}
 use Rattle.feature.proofs.Cases.{clash, impossible}
 use Rattle.grammar.specs.Names.{has1, has2}
-use Rattle.grammar.specs.Grammar.{known, organics, symbol_names, Symbol, Isotope, at, Class, Th, AL, SP, TB, OH, class1, class2, plus, minus, sign_s, Atom, elided, bond, dot, symbol_s, isotope_s, chiral_s, hcount_s}
+use Rattle.grammar.specs.Grammar.{known, organics, symbol_names, Symbol, Isotope, Class, Th, AL, SP, TB, OH, class1, class2, plus, minus, sign_s, Atom, elided, bond, dot, symbol_s, isotope_s, chiral_s, hcount_s}
 use Rattle.grammar.proofs.Machine.{leads, digit_of, bond_of, Part, bare, whole, isotope, lead, symbol, chiral1, chiral2, family, class, coded1, coded2, fam_of, class_of, hcount, hcount_n, signed, doubled, charge1, charge2, colon, map1, map2, map3, sign_of, to_map, to_charge, closed, begins, to_close, to_hcount, to_chiral, to_symbol, part_step, part_end, top, inside, Where, begin, after, State, want, in_atom, body, percent, percent1, from_part, body_step, want_step, atom_step, step}
 use Rattle.grammar.proofs.Sound.{guard_t, sofar, where_s, part_s, opened}
 use Rattle.grammar.proofs.Table.{test_not, no_second, at_second, free_at}

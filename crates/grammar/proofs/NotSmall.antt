@@ -10,7 +10,7 @@ use lib.ListN.{length}
 use native.Mathlib.Omega.{arith}
 use Rattle.feature.specs.Text.{byte}
 use Rattle.feature.proofs.Cases.{impossible}
-use Rattle.grammar.specs.Grammar.{Digit, d0, d1, d2, d3, d4, d5, d6, d7, d8, d9, iso0, iso3, at, Isotope, Symbol, class1, class2, valid1, valid2, code1, Head, head, head_s, sign_s, okay1, okay2, Charge, Atom, Link, Line, start, link, digit_s, symbol_s, chiral_s, hcount_s, atom_s, link_s, spell}
+use Rattle.grammar.specs.Grammar.{Digit, d0, d1, d2, d3, d4, d5, d6, d7, d8, d9, iso0, iso3, Isotope, Symbol, class1, class2, valid1, valid2, code1, Head, head, head_s, sign_s, okay1, okay2, Charge, Atom, Link, Line, start, link, digit_s, symbol_s, chiral_s, hcount_s, atom_s, link_s, spell}
 use Rattle.grammar.proofs.Machine.{Part, isotope, signed, charge1, charge2, map3, class, coded1, coded2, to_chiral, grow, to_close, part_step, part_end, Around, top, inside, Where, begin, after, State, want, in_atom, atom_step, step, done, character, read}
 use Rattle.grammar.proofs.Table.{test_yes, test_not, at_second}
 use Rattle.grammar.proofs.Complete.{chain, steps, steps_then, parts, parts_then, now, read_line, digit_of_lem, after_symbol, after_chiral, read_isotope, read_symbol, past_symbol, read_class, read_chiral, after_head, after_charge, read_head, read_sign, read_charge, read_colon, atom_steps, read_open, open_link, open_first}

@@ -1,5 +1,5 @@
 -- WHAT THE READ CALL ANSWERS to a text of bytes and to tables of la and lb words: each answer by when it is given, in the words
--- of the grammar and of OpenSMILES' molecule. The read call is proved to be what `readText` says (crates/read), and `readText` is held to
+-- of the grammar and of OpenSMILES' molecule. The read call is proved to be what `read_text` says (crates/read), and `read_text` is held to
 -- `When` and `SaidAs` here: exactly, so no answer is given at another time, and none is missing. `Bytes` is all that is asked of a
 -- text, and a slice of bytes is one; a name of two letters is looked up by one number, which other words than bytes could make.
 use Rattle.std.specs.Prelude.{ℕ, ◌<◌, ◌≤◌, ◌≡◌, List, length}

@@ -1,5 +1,5 @@
 -- The round trip over what the public calls promise: the write call's line, the walk order's numbers and the read call's tables.
--- Each law is that of the walk by turns, carried over by `write-plain` and `order-plain`. Assumes nothing.
+-- Each law is that of the walk by turns, carried over by `write_plain_lem` and `order_plain_lem`. Assumes nothing.
 use Prim.Native.Nat.{ℕ, ◌*◌, ◌/◌, ◌≤◌}
 use mathlib.Core.Path.{◌≡◌, sym, ap, ◌∙◌, subst}
 use mathlib.Core.List.{List}

@@ -6,7 +6,7 @@
 -- Nothing else differs.
 --
 -- The graph that comes back is a defined one (`renumbered`), and what the reading leaves is an equation: 0 with the counts, and both
--- tables whole. Writing, the walk order and reading are what the public calls promise: `writePlain`, `orderPlain` and `readText`.
+-- tables whole. Writing, the walk order and reading are what the public calls promise: `write_plain`, `order_plain` and `read_text`.
 use Rattle.std.specs.Prelude.{ℕ, ◌/◌, ◌≤◌, ◌<◌, ◌≡◌, List, false, length, get_or, take}
 use Rattle.table.specs.Records.{atom_words, bond_words}
 use Rattle.table.specs.Limits.{text_limit, atom_limit, bond_limit, lesser_of}

@@ -1,6 +1,6 @@
 -- The text of an atom, a bond and a ring number, as purr's Display has them: element.rs, configuration.rs, charge.rs,
 -- virtual_hydrogen.rs, number.rs, atom_kind.rs, bond_kind.rs, rnum.rs. Ring number 73 is written as itself.
-use Rattle.std.specs.Prelude.{ℕ, ◌+◌, ◌-◌, ◌*◌, ◌/◌, ◌%◌, ◌≤◌, ◌≡◌, List, [], ◌∷◌, ◌++◌, length, get_or, ltb, leb, eqb}
+use Rattle.std.specs.Prelude.{ℕ, ◌+◌, ◌-◌, ◌/◌, ◌%◌, ◌≤◌, ◌≡◌, List, [], ◌∷◌, ◌++◌, length, get_or, ltb, leb, eqb}
 use Rattle.std.proofs.lemmas.List.Edits.{sets}
 use Rattle.feature.specs.Pick.{pick}
 use Rattle.feature.specs.Text.{byte, bytes, letter_step}

@@ -1,6 +1,6 @@
 -- THE STARRED LINES OF THE BENCH: what is asked, the answer that the scope gives, and what is left in what was lent, to its last cell.
 -- The words of atoms and bonds are those of docs/PACKING.md, written out: B is 2, C 3, N 4, O 5, F 8; an elided bond is 1 and its
--- target. The claim that covers this table is `rows-said`.
+-- target. The claim that covers this table is `rows_said`.
 use Rattle.std.specs.Prelude.{ℕ, ◌+◌, ◌*◌, List, [], ◌∷◌}
 use Rattle.feature.specs.Text.{bytes}
 use Rattle.builder_meaning.specs.Sketch.{padded}

@@ -1,5 +1,5 @@
 -- Kinds with no configuration but TH1 or TH2, what comes back of an atom's kind once it is written and read, and what is asked of
--- the rule by which a walk says kinds. Another rule for marks is another `backKind`, and a proof of `MarksServe` for it.
+-- the rule by which a walk says kinds. Another rule for marks is another `back_kind`, and a proof of `MarksServe` for it.
 use Rattle.std.specs.Prelude.{ℕ, ◌-◌, ◌≤◌, ◌≡◌, ◌≢◌, Bool, true, false, eqb}
 use Rattle.feature.specs.Pick.{pick, both, neither}
 use Rattle.feature.specs.Kinds.{no_hydrogens, th1, th2, with_configuration, in_range, invert_of}

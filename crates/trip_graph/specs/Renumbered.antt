@@ -1,6 +1,6 @@
 -- A graph renumbered in walk order. Its atoms come in the order in which a walk met them, and each entry leads to its target's
 -- number in that order. Each atom but a root has its parent's entry moved to the front and the other entries in order; a TH mark is
--- toggled exactly if the atom bears hydrogen and its parent's entry was at an odd index (`backKind`). Nothing else differs.
+-- toggled exactly if the atom bears hydrogen and its parent's entry was at an odd index (`back_kind`). Nothing else differs.
 use Rattle.std.specs.Prelude.{ℕ, zero, suc, ◌-◌, List, [], ◌∷◌, ◌++◌, map, get_or, eqb}
 use Rattle.feature.specs.Pick.{pick}
 use Rattle.builder_meaning.specs.Sketch.{To, Edge, Node, edge, node}

@@ -1,4 +1,4 @@
--- A walk of as many turns as `turnsOf` says is done, unless it was refused: every turn of one that is not done tries a root,
+-- A walk of as many turns as `turns_of` says is done, unless it was refused: every turn of one that is not done tries a root,
 -- takes an entry or leaves an atom. Assumes nothing.
 use Prim.Native.Nat.{ℕ, zero, suc, ◌+◌, ◌-◌, ◌≤◌, ◌<◌}
 use mathlib.Core.Path.{◌≡◌, refl, sym, ap, ◌∙◌}

@@ -1,5 +1,5 @@
 -- The walk, plainly: roots in number order, bonds in table order, depth first, as a recursion over atoms and their entries. To be
--- read beside the scope document. `Walk` in crates/walk has the same walk as turns, close to the code; the law `one-walk` in
+-- read beside the scope document. `Walk` in crates/walk has the same walk as turns, close to the code; the law `one_walk` in
 -- proofs/Plain says that the two are one, for every graph.
 use Rattle.std.specs.Prelude.{ℕ, zero, suc, ◌+◌, List, [], ◌∷◌, ◌++◌, set, replicate, leb, eqb}
 use Rattle.feature.specs.Pick.{pick}

@@ -1,4 +1,4 @@
--- The write call and the walk order by the plain walk of crates/walk_laws. proofs/Plain says that they are `writeOf` and `order_of`.
+-- The write call and the walk order by the plain walk of crates/walk_laws. proofs/Plain says that they are `write_of` and `order_of`.
 use Rattle.std.specs.Prelude.{ℕ, zero, suc, ◌+◌, ◌-◌, List, [], ◌∷◌, ◌++◌}
 use Rattle.walk.specs.Walk.{start_walker, refused_as}
 use Rattle.walk_laws.specs.Plain.{Outcome, Goes, Refused, number_in, plain_walk}

@@ -1,9 +1,8 @@
 use borrow.Author.Rules.{rules}
 use Rattle.feature.specs.Every.{every}
 use Rattle.desk_pool.specs.Slots.{top, is_slot}
-use Prim.Native.Nat.{◌+◌, ◌-◌}
+use Prim.Native.Nat.{◌+◌}
 use mathlib.Core.Path.{refl, sym, ◌∙◌}
-use mathlib.Core.Bool.{true}
 use Rattle.feature.proofs.Every.{every_step, every_fails, every_end}
 use Rattle.desk_pool.proofs.slots_stand.Goals as goal
 

@@ -1,9 +1,7 @@
 use borrow.Author.Rules.{rules}
 use Rattle.feature.specs.Every.{every}
 use Rattle.desk_writer.specs.Pieces.{is_piece}
-use Prim.Native.Nat.{◌-◌}
 use mathlib.Core.Path.{refl, sym, ◌∙◌}
-use mathlib.Core.Bool.{true}
 use Rattle.feature.proofs.Every.{every_step, every_fails, every_end}
 use Rattle.desk_writer.proofs.pieces_rise.Goals as goal
 

@@ -1,4 +1,4 @@
-use Rattle.std.proofs.Common.{◌≡◌, ℕ, ◌-◌, ◌≤◌, List, length, refl, ap, ◌∙◌, arith, take_all, rules}
+use Rattle.std.proofs.Common.{◌≡◌, ℕ, ◌≤◌, List, length, refl, ap, ◌∙◌, arith, take_all, rules}
 use lib.Seq.{sets, length-sets}
 use Rattle.builder.proofs.Rings.{put_more}
 use Rattle.builder.proofs.opens.put_back.Goals as goal

@@ -1,4 +1,4 @@
-use Rattle.std.proofs.Common.{ℕ, ◌-◌, List, refl, ap, not-suc-le-zero, arith, length-set, rules}
+use Rattle.std.proofs.Common.{ℕ, List, refl, ap, not-suc-le-zero, arith, length-set, rules}
 use Rattle.builder.specs.declared.opens.Opens.{Opens}
 use Rattle.builder.proofs.Rings.{is_front, taken_more}
 use Rattle.builder.proofs.opens.taken.Goals as goal

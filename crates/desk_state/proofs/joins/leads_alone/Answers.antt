@@ -5,7 +5,7 @@ use Rattle.feature.specs.Every.{every}
 use native.Mathlib.Omega.{arith}
 use mathlib.Core.Bool.{true}
 use mathlib.Core.Path.{◌≡◌, refl, sym, subst, ◌∙◌}
-use Prim.Native.Nat.{ℕ, ◌-◌}
+use Prim.Native.Nat.{ℕ}
 use Rattle.desk_state.proofs.joins.leads_alone.Goals as goal
 
 pub loop-i-init : goal.loop-i-init

@@ -4,7 +4,7 @@ use Rattle.desk_state.specs.Standing.{open_rings}
 use borrow.Author.Rules.{rules}
 use native.Mathlib.Omega.{arith}
 use mathlib.Core.Path.{◌≡◌, refl, sym, ap, ◌∙◌}
-use Prim.Native.Nat.{ℕ, ◌+◌, ◌-◌}
+use Prim.Native.Nat.{ℕ, ◌+◌}
 use Rattle.desk_state.proofs.joins.open_rings.Goals as goal
 
 pub loop-n-init : goal.loop-n-init
