@@ -14,6 +14,9 @@ pub const SOME_REFUSED: u8 = 1;
 
 pub const NOT_DONE: u8 = 2;
 
+// What shells have for a program that a closed pipe ended: 128 and the signal's number.
+pub const UNHEARD: u8 = 141;
+
 #[derive(Clone, Copy)]
 pub enum Command {
     Rewrite,

@@ -32,7 +32,7 @@ mod output;
 mod tray;
 
 // Answers what is asked, and with which status the program is to end: 0 if all lines were done, 1 if some were refused, 2 if
-// something was not read, not written or not understood.
+// something was not read, not written or not understood, 141 if nobody reads the answers any more.
 fn run(rt: &HostRuntime) -> u8 {
     let asked = command::read_arguments(rt);
     if asked.is_understood {
