@@ -1,5 +1,6 @@
 // What failed, in the system's words.
-ghost use Rattle.std.specs.Prelude.{◌≤◌, length};
+ghost use Rattle.std.specs.Prelude.{◌≤◌, ◌<◌, length, drop, codes};
+ghost use Rattle.std.specs.Io.{StartsWith};
 
 use oracle_form::byte::{put_word, within};
 use std::fmt::Write;
@@ -27,7 +28,8 @@ const NUMBER: &[u8] = b" (os error ";
 
 // Where the number begins that the library adds to the system's words, or the end where there is none.
 fn words_end(text: &[u8]) -> usize
-    ensures { result ≤ length text.now }
+    ensures bound { result ≤ length text.now }
+    ensures number { result < length text.now → StartsWith (drop result text.now) (codes " (os error ") }
 {
     for i in 0..text.len() {
         if text[i..].starts_with(NUMBER) {
@@ -54,4 +56,13 @@ pub fn fail<P: Print>(to: &P, what: &[u8], error: io::Error) {
     say(to, b": ");
     say(to, &text[..words_end(text)]);
     say(to, b"\n");
+}
+
+#[test]
+fn words_without_number(rt: HostRuntime) {
+    assert!(rt;
+        words_end(b"No such file or directory (os error 2)") == 25,
+        "numbered"
+    );
+    assert!(rt; words_end(b"Is a directory (now)") == 20, "plain");
 }
