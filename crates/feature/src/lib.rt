@@ -4,6 +4,7 @@
 // atom_kind: an atom's kind, and its mark turned.
 // bond_kind: a bond's kind, its reverse, and what two ends of a ring bond agree on.
 #![tactic(auto)]
+
 pub mod atom_kind;
 pub mod bond_kind;
 pub mod element;
