@@ -1,14 +1,21 @@
 // What may be asked of the lines, and what the arguments ask for.
-use libc::STDERR_FILENO;
 use oracle_form::byte::after;
 use oracle_form::list::number_of;
+use program_io::arguments;
+use program_io::arguments::{WORD, word};
+use program_io::failure::say;
+use std::env::Env;
+use std::io::Stderr;
 
 // The statuses.
-pub const ALL_DONE: i32 = 0;
+pub const ALL_DONE: u8 = 0;
 
-pub const SOME_REFUSED: i32 = 1;
+pub const SOME_REFUSED: u8 = 1;
 
-pub const NOT_DONE: i32 = 2;
+pub const NOT_DONE: u8 = 2;
+
+// What shells have for a program that a closed pipe ended: 128 and the signal's number.
+pub const UNHEARD: u8 = 141;
 
 #[derive(Clone, Copy)]
 pub enum Command {
@@ -95,12 +102,12 @@ fn is_option(word: &[u8]) -> bool {
 }
 
 // The argument numbered i, if it comes before the first file.
-fn take_argument(a: Asked, i: usize) -> Asked {
+fn take_argument(rt: &impl Env, a: Asked, i: usize) -> Asked {
     if a.is_over {
         return a;
     }
-    let mut room = io::buffer();
-    let n = os::arg(i, &mut room);
+    let mut room = [0u8; WORD];
+    let n = word(rt, i, &mut room);
     let word = &room[..n];
     if is_option(word) {
         return take_option(a, i, word);
@@ -109,7 +116,7 @@ fn take_argument(a: Asked, i: usize) -> Asked {
 }
 
 // What all arguments before the first file ask for.
-pub fn read_arguments() -> Asked {
+pub fn read_arguments(rt: &impl Env) -> Asked {
     let mut a = Asked {
         command: Command::Rewrite,
         is_named: false,
@@ -119,19 +126,16 @@ pub fn read_arguments() -> Asked {
         is_over: false,
         is_understood: true,
     };
-    let count = os::arg_count();
-    let mut i = 1;
-    while i < count {
-        a = take_argument(a, i);
-        i += 1;
+    for i in 1..arguments::count(rt) {
+        a = take_argument(rt, a, i);
     }
     a
 }
 
 // How to ask, for one who did not.
-pub fn print_usage() {
-    io::write_all(
-        STDERR_FILENO,
+pub fn print_usage(errors: Stderr) {
+    say(
+        &errors,
         b"usage: label [--proved] [--progress] [rewrite|order|graph|check|smi|help] [--] [FILE ..]\n",
     );
 }

@@ -8,6 +8,7 @@ use label_text::looks::Looks;
 use oracle_form::byte::{after, put_word};
 use oracle_form::list::put_nth;
 use oracle_form::number;
+use std::io::Stderr;
 
 #[derive(Clone, Copy)]
 pub struct Counts {
@@ -102,16 +103,16 @@ fn put_more(out: &mut [u8], at: usize, n: usize, words: usize) -> usize
 }
 
 // So many lines, for one who waits.
-pub fn say_progress(lines: usize) {
+pub fn say_progress(errors: Stderr, lines: usize) {
     let mut message = [0u8; 64];
     let n = put_word(&mut message, 0, b"label: ");
     let n = put_counted(&mut message, n, lines, b" line");
     let n = put_word(&mut message, n, b"\n");
-    say(&message, n);
+    say(errors, &message, n);
 }
 
 // The counts of all.
-pub fn say_counts(c: Counts) {
+pub fn say_counts(errors: Stderr, c: Counts) {
     let mut message = [0u8; 512];
     let n = put_word(&mut message, 0, b"label: ");
     let n = put_counted(&mut message, n, c.lines, b" line");
@@ -125,11 +126,11 @@ pub fn say_counts(c: Counts) {
     let n = put_more(&mut message, n, c.passed, 4);
     let n = put_more(&mut message, n, c.lost, 5);
     let n = put_word(&mut message, n, b"\n");
-    say(&message, n);
+    say(errors, &message, n);
 }
 
 // The status that they come to.
-pub fn status(c: Counts) -> i32 {
+pub fn status(c: Counts) -> u8 {
     if c.has_unread {
         return NOT_DONE;
     }

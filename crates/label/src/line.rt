@@ -10,7 +10,7 @@ ghost use Rattle.std.specs.Prelude.{◌≡◌, ◌≤◌, ◌<◌, length};
 use crate::answer::{Told, print_answer, refused, room_for};
 use crate::command::Command;
 use crate::counts::{Counts, count, no_counts, say_progress};
-use crate::output::{Gathered, gathered_to, make_room, pass_on, say};
+use crate::output::{Gathered, gathered_to, make_room, nothing_gathered, pass_on, say};
 use answer_text::tables::least;
 use desk_answer::alone;
 use desk_numbers::TEXT_TOO_LONG;
@@ -21,6 +21,7 @@ use label_text::run::put_run;
 use label_text::why::{SHOWN_BYTES, put_comment, put_marked};
 use oracle_form::byte::{NOWHERE, after, peek, put, put_word};
 use oracle_form::number;
+use std::io::{Stderr, Stdout};
 
 const TAB: u8 = b'\t';
 
@@ -62,7 +63,7 @@ pub struct Line {
 }
 
 // The first line of the first input, of which no byte has come.
-pub fn start(command: Command, has_progress: bool) -> Line
+pub fn start(command: Command, has_progress: bool, answers: Stdout, errors: Stderr) -> Line
     ensures { result.gathered.at ≡ 0 }
 {
     Line {
@@ -74,10 +75,7 @@ pub fn start(command: Command, has_progress: bool) -> Line
         after_return: false,
         places: nowhere(),
         lost: nothing_lost(),
-        gathered: Gathered {
-            at: 0,
-            has_failed: false,
-        },
+        gathered: nothing_gathered(answers, errors),
         number: 0,
         counts: no_counts(),
     }
@@ -152,10 +150,10 @@ fn print_between(out: &mut [u8], at: usize, command: Command, between: u8) -> us
 }
 
 // Says how many lines there were, from time to time.
-fn report(has_progress: bool, lines: usize) {
+fn report(errors: Stderr, has_progress: bool, lines: usize) {
     if has_progress {
         if lines % PROGRESS == 0 {
-            say_progress(lines);
+            say_progress(errors, lines);
         }
     }
 }
@@ -228,7 +226,7 @@ fn answered(line: Line, g: Gathered, told: Told) -> Line
     let lost = told.lost;
     let looks = told.looks;
     let c = count(c, told.is_refusal, looks, told.is_passed, lost.count > 0);
-    report(line.has_progress, c.lines);
+    report(g.errors, line.has_progress, c.lines);
     line.in_name = true;
     line.number = after(line.number);
     line.places = places;
@@ -282,14 +280,14 @@ fn show_places(line: Line, text: &[u8], out: &mut [u8]) -> Line
 }
 
 // Says which atoms are not kept, for those who do not ask to be told below the answer.
-fn say_lost(lines: usize, lost: Lost, atoms: &[u32]) {
+fn say_lost(errors: Stderr, lines: usize, lost: Lost, atoms: &[u32]) {
     let mut message = [0u8; MESSAGE];
     let n = put_word(&mut message, 0, b"label: line ");
     let n = number::print(&mut message, n, lines);
     let n = put_word(&mut message, n, b", ");
     let n = put_lost(&mut message, n, lost, atoms);
     let n = put(&mut message, n, LINE_END);
-    say(&message, n);
+    say(errors, &message, n);
 }
 
 // Which atoms are not kept.
@@ -306,7 +304,8 @@ fn show_lost(line: Line, out: &mut [u8], atoms: &[u32]) -> Line
         Command::Check => lay_lost(line, out, atoms),
         _ => {
             let c = line.counts;
-            say_lost(c.lines, lost, atoms);
+            let g = line.gathered;
+            say_lost(g.errors, c.lines, lost, atoms);
             line
         }
     }

@@ -21,6 +21,9 @@
 // line: a line, piece by piece.
 // tray: all lines of all inputs.
 #![tactic(auto)]
+
+use std::process::ExitCode;
+
 mod answer;
 mod command;
 mod counts;
@@ -29,17 +32,16 @@ mod output;
 mod tray;
 
 // Answers what is asked, and with which status the program is to end: 0 if all lines were done, 1 if some were refused, 2 if
-// something was not read, not written or not understood. A main answers nothing, so it drops the status; where `./label`
-// compiles the program, its start ends with it.
-fn run() -> i32 {
-    let asked = command::read_arguments();
+// something was not read, not written or not understood, 141 if nobody reads the answers any more.
+fn run(rt: &HostRuntime) -> u8 {
+    let asked = command::read_arguments(rt);
     if asked.is_understood {
-        return tray::answer_all(asked);
+        return tray::answer_all(rt, asked);
     }
-    command::print_usage();
+    command::print_usage(rt.stderr());
     command::NOT_DONE
 }
 
-fn main() {
-    run();
+fn main(rt: HostRuntime) -> ExitCode {
+    ExitCode::from(run(&rt))
 }

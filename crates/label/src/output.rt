@@ -4,45 +4,63 @@ ghost use Rattle.std.specs.Prelude.{◌≡◌, ◌≤◌, length};
 
 use answer_text::tables::least;
 use label_text::run::put_run;
-use libc::{STDERR_FILENO, STDOUT_FILENO};
+use program_io::failure;
+use program_io::failure::fail;
+use std::io::{ErrorKind, Stderr, Stdout};
 
-// The buffer's first free place, and whether a write has failed. After that nothing more is written.
+// The buffer's first free place, and whether a write has failed, or failed because nobody reads any more. After that nothing
+// more is written.
 #[derive(Clone, Copy)]
 pub struct Gathered {
     pub at: usize,
     pub has_failed: bool,
+    pub is_unheard: bool,
+    // Where what has gathered goes, and where messages do.
+    pub answers: Stdout,
+    pub errors: Stderr,
+}
+
+// Nothing has gathered.
+pub fn nothing_gathered(answers: Stdout, errors: Stderr) -> Gathered
+    ensures { result.at ≡ 0 }
+{
+    Gathered {
+        at: 0,
+        has_failed: false,
+        is_unheard: false,
+        answers,
+        errors,
+    }
 }
 
 // The same with another place.
 pub fn gathered_to(at: usize, g: Gathered) -> Gathered
     ensures { result.at ≡ at }
 {
-    Gathered {
-        at,
-        has_failed: g.has_failed,
-    }
+    let mut g = g;
+    g.at = at;
+    g
 }
 
-// Writes what has gathered up to a place. The first write that fails is told.
+// Writes what has gathered up to a place. The first write that fails is told, but not that nobody reads.
 pub fn flush(out: &[u8], g: Gathered) -> Gathered
     requires { g.at ≤ length out.now }
     ensures { result.at ≡ 0 }
 {
+    let mut g = g;
     let at = g.at;
+    g.at = 0;
     if g.has_failed {
-        return Gathered {
-            at: 0,
-            has_failed: true,
-        };
+        return g;
     }
-    let is_written = io::write_all(STDOUT_FILENO, &out[0..at]);
-    if !is_written {
-        os::fail(b"label: standard output");
+    if let Err(error) = g.answers.write_all(&out[0..at]) {
+        g.has_failed = true;
+        g.is_unheard = error.kind() == ErrorKind::BrokenPipe;
+        if !g.is_unheard {
+            fail(&g.errors, b"label: standard output", error);
+        }
     }
-    Gathered {
-        at: 0,
-        has_failed: !is_written,
-    }
+    g
 }
 
 // A place from which so many bytes can gather: the same one, where they fit after what is there.
@@ -67,7 +85,7 @@ pub fn pass_on(out: &mut [u8], g: Gathered, run: &[u8]) -> Gathered
 }
 
 // Says what a message's first n bytes are.
-pub fn say(message: &[u8], n: usize) {
+pub fn say(errors: Stderr, message: &[u8], n: usize) {
     let end = least(n, message.len());
-    io::write_all(STDERR_FILENO, &message[0..end]);
+    failure::say(&errors, &message[0..end]);
 }

@@ -1,13 +1,16 @@
 // All lines of the inputs, read block by block.
 ghost use Rattle.std.specs.Prelude.{◌≤◌, length};
 
-use crate::command::{Asked, NOT_DONE, print_usage};
+use crate::command::{Asked, NOT_DONE, UNHEARD, print_usage};
 use crate::counts::{say_counts, status, unread};
 use crate::line::{Line, ORDER_MARK, cut, finish, open, piece_end, start, take_piece};
 use crate::output::flush;
-use check::same;
-use libc::{F_OK, PATH_MAX, STDERR_FILENO, STDIN_FILENO};
 use oracle_form::byte::put_word;
+use program_io::arguments::{WORD, word};
+use program_io::failure::{fail, say};
+use program_io::{arguments, file};
+use std::io;
+use std::io::Read;
 use table::limits::{ATOMS, BONDS, TEXT};
 use table::{ATOM_WORDS, BOND_WORDS};
 
@@ -19,10 +22,14 @@ const ATOM_TABLE: usize = ATOMS * ATOM_WORDS;
 
 const BOND_TABLE: usize = BONDS * BOND_WORDS;
 
-// A path's last byte.
-const LAST: usize = PATH_MAX - 1;
-// A message's first word, and a path.
-const NAMED: usize = 7 + PATH_MAX;
+// A message's first word, and a name.
+const NAMED: usize = 7 + WORD;
+
+// The bytes that are read at once, and that are gathered before they are written.
+const BLOCK: usize = 65536;
+
+// The name for the standard input.
+const STANDARD_INPUT: &[u8] = b"-";
 
 // The bytes of a block. What they came to is written at its end, so that no line waits for the next block.
 fn take_block(
@@ -51,14 +58,15 @@ fn take_block(
 }
 
 // Says that an input cannot be read, or not to its end. A line that was cut short is not answered, or ends.
-fn give_up(line: Line, name: &[u8], out: &mut [u8]) -> Line
+fn give_up(line: Line, name: &[u8], error: io::Error, out: &mut [u8]) -> Line
     requires { line.gathered.at ≤ length out.old }
     ensures { result.gathered.at ≤ length out.new }
 {
     let mut message = [0u8; NAMED];
     let n = put_word(&mut message, 0, b"label: ");
     let n = put_word(&mut message, n, name);
-    os::fail(&message[0..n]);
+    let g = line.gathered;
+    fail(&g.errors, &message[0..n], error);
     let mut line = cut(line, out);
     let c = line.counts;
     let c = unread(c);
@@ -69,8 +77,8 @@ fn give_up(line: Line, name: &[u8], out: &mut [u8]) -> Line
 
 // One more block of an input, unless it is over: at its end, where it cannot be read, or where what was answered cannot be
 // written.
-fn take_next(
-    fd: i32,
+fn take_next<R: Read>(
+    input: &mut R,
     name: &[u8],
     line: Line,
     block: &mut [u8],
@@ -82,21 +90,16 @@ fn take_next(
     requires { line.gathered.at ≤ length out.old }
     ensures { result.gathered.at ≤ length out.new }
 {
-    let got = libc::read(fd, block);
-    if got < 0 {
-        return give_up(line, name, out);
+    match input.read(block) {
+        Err(error) => give_up(line, name, error, out),
+        Ok(0) => finish(line, text, out, atoms, bonds),
+        Ok(n) => take_block(line, &block[0..n], text, out, atoms, bonds),
     }
-    if got == 0 {
-        return finish(line, text, out, atoms, bonds);
-    }
-    let n = io::count(got, block);
-    take_block(line, &block[0..n], text, out, atoms, bonds)
 }
 
-// Answers the lines of an input. Nothing says that it ends, so the loop counts its turns down, from a number that no run
-// uses up.
-fn take_blocks(
-    fd: i32,
+// Answers the lines of an input. Nothing says that it ends, so the loop counts its turns, to a number that no run reaches.
+fn take_blocks<R: Read>(
+    input: &mut R,
     name: &[u8],
     first: Line,
     block: &mut [u8],
@@ -109,10 +112,8 @@ fn take_blocks(
     ensures { result.gathered.at ≤ length out.new }
 {
     let mut line = first;
-    let mut turns = u64::MAX;
-    while turns > 0 {
-        turns -= 1;
-        line = take_next(fd, name, line, block, text, out, atoms, bonds);
+    for _ in 0..u64::MAX {
+        line = take_next(input, name, line, block, text, out, atoms, bonds);
         if line.is_over {
             return line;
         }
@@ -122,6 +123,7 @@ fn take_blocks(
 
 // Answers the lines of the standard input.
 fn take_standard(
+    rt: &HostRuntime,
     line: Line,
     block: &mut [u8],
     text: &mut [u8],
@@ -132,8 +134,9 @@ fn take_standard(
     requires { line.gathered.at ≤ length out.old }
     ensures { result.gathered.at ≤ length out.new }
 {
+    let mut input = rt.stdin();
     take_blocks(
-        STDIN_FILENO,
+        &mut input,
         b"standard input",
         line,
         block,
@@ -146,6 +149,7 @@ fn take_standard(
 
 // Answers the lines of a file, or says why it cannot.
 fn take_file(
+    rt: &HostRuntime,
     path: &[u8],
     line: Line,
     block: &mut [u8],
@@ -157,17 +161,18 @@ fn take_file(
     requires { line.gathered.at ≤ length out.old }
     ensures { result.gathered.at ≤ length out.new }
 {
-    let fd = os::open_read(path);
-    if fd < 0 {
-        return give_up(line, path, out);
+    match file::open(rt, path) {
+        Err(error) => give_up(line, path, error, out),
+        Ok(file) => {
+            let mut input = file;
+            take_blocks(&mut input, path, line, block, text, out, atoms, bonds)
+        }
     }
-    let line = take_blocks(fd, path, line, block, text, out, atoms, bonds);
-    libc::close(fd);
-    line
 }
 
 // Answers the lines of an input by its name.
 fn take_named(
+    rt: &HostRuntime,
     name: &[u8],
     line: Line,
     block: &mut [u8],
@@ -180,14 +185,15 @@ fn take_named(
     ensures { result.gathered.at ≤ length out.new }
 {
     let line = open(line, name, out);
-    if same(name, b"-") {
-        return take_standard(line, block, text, out, atoms, bonds);
+    if name == STANDARD_INPUT {
+        return take_standard(rt, line, block, text, out, atoms, bonds);
     }
-    take_file(name, line, block, text, out, atoms, bonds)
+    take_file(rt, name, line, block, text, out, atoms, bonds)
 }
 
 // Answers the lines of the input that an argument names, unless what was answered before cannot be written.
 fn take_argument(
+    rt: &HostRuntime,
     i: usize,
     line: Line,
     block: &mut [u8],
@@ -203,13 +209,14 @@ fn take_argument(
     if g.has_failed {
         return line;
     }
-    let mut path = io::buffer();
-    let n = os::arg(i, &mut path);
-    take_named(&path[..n], line, block, text, out, atoms, bonds)
+    let mut path = [0u8; WORD];
+    let n = word(rt, i, &mut path);
+    take_named(rt, &path[..n], line, block, text, out, atoms, bonds)
 }
 
 // Answers the lines of all files that the arguments from a first one on name, or of the standard input if there are none.
 fn take_all(
+    rt: &HostRuntime,
     first: usize,
     begun: Line,
     block: &mut [u8],
@@ -222,62 +229,79 @@ fn take_all(
     ensures { result.gathered.at ≤ length out.new }
 {
     let mut line = begun;
-    let count = os::arg_count();
+    let count = arguments::count(rt);
     if count <= first {
-        return take_standard(line, block, text, out, atoms, bonds);
+        return take_standard(rt, line, block, text, out, atoms, bonds);
     }
-    let mut i = first;
-    while i < count {
-        line = take_argument(i, line, block, text, out, atoms, bonds);
-        i += 1;
+    for i in first..count {
+        line = take_argument(rt, i, line, block, text, out, atoms, bonds);
     }
     line
 }
 
 // Whether there is no file of the name that an argument is.
-fn is_missing(i: usize) -> bool {
-    let mut path = io::buffer();
-    let n = os::arg(i, &mut path);
-    if same(&path[..n], b"-") {
+fn is_missing(rt: &HostRuntime, i: usize) -> bool {
+    let mut path = [0u8; WORD];
+    let n = word(rt, i, &mut path);
+    let name = &path[..n];
+    if name == STANDARD_INPUT {
         return false;
     }
-    path[LAST] = 0;
-    libc::access(&path, F_OK) != 0
+    file::is_missing(rt, name)
 }
 
 // Whether the first word is a slip: it is no command, nothing tells that it is a file, and it is none.
-fn is_slip(asked: Asked) -> bool {
-    if !asked.is_guess || os::arg_count() <= asked.first {
+fn is_slip(rt: &HostRuntime, asked: Asked) -> bool {
+    if !asked.is_guess || arguments::count(rt) <= asked.first {
         return false;
     }
-    is_missing(asked.first)
+    is_missing(rt, asked.first)
 }
 
 // Says that it is one.
-fn say_slip(i: usize) {
-    let mut word = io::buffer();
-    let n = os::arg(i, &mut word);
-    io::write_all(STDERR_FILENO, b"label: no command and no file: ");
-    io::write_all(STDERR_FILENO, &word[..n]);
-    io::write_all(STDERR_FILENO, b"\n");
-    print_usage();
+fn say_slip(rt: &HostRuntime, i: usize) {
+    let mut room = [0u8; WORD];
+    let n = word(rt, i, &mut room);
+    let errors = rt.stderr();
+    say(&errors, b"label: no command and no file: ");
+    say(&errors, &room[..n]);
+    say(&errors, b"\n");
+    print_usage(errors);
+}
+
+// What the lines came to, once all that was answered is written.
+fn end(line: Line, out: &[u8]) -> u8
+    requires { line.gathered.at ≤ length out.now }
+{
+    let g = line.gathered;
+    let g = flush(out, g);
+    if g.is_unheard {
+        return UNHEARD;
+    }
+    if g.has_failed {
+        return NOT_DONE;
+    }
+    let c = line.counts;
+    say_counts(g.errors, c);
+    status(c)
 }
 
 // Answers all lines, with room for the largest job, and with which status the program is to end. The output holds 65,536
 // bytes, which is more than any answer has.
-pub fn answer_all(asked: Asked) -> i32 {
-    if is_slip(asked) {
-        say_slip(asked.first);
+pub fn answer_all(rt: &HostRuntime, asked: Asked) -> u8 {
+    if is_slip(rt, asked) {
+        say_slip(rt, asked.first);
         return NOT_DONE;
     }
-    let mut block = io::large_buffer();
-    let mut out = io::large_buffer();
+    let mut block = [0u8; BLOCK];
+    let mut out = [0u8; BLOCK];
     let mut text = [0u8; TEXT_ROOM];
     let mut atoms = [0u32; ATOM_TABLE];
     let mut bonds = [0u32; BOND_TABLE];
     let command = asked.command;
-    let begun = start(command, asked.has_progress);
+    let begun = start(command, asked.has_progress, rt.stdout(), rt.stderr());
     let line = take_all(
+        rt,
         asked.first,
         begun,
         &mut block,
@@ -286,12 +310,5 @@ pub fn answer_all(asked: Asked) -> i32 {
         &mut atoms,
         &mut bonds,
     );
-    let g = line.gathered;
-    let g = flush(&out, g);
-    if g.has_failed {
-        return NOT_DONE;
-    }
-    let c = line.counts;
-    say_counts(c);
-    status(c)
+    end(line, &out)
 }

@@ -3,7 +3,6 @@
 ghost use Rattle.std.specs.Prelude.{◌≤◌, length};
 
 use crate::byte::{NOWHERE, find, put_word};
-use check::same;
 
 const END: u8 = b';';
 
@@ -52,7 +51,7 @@ pub fn number_of(list: &[u8], word: &[u8]) -> usize {
     let mut at = 0;
     while at < list.len() {
         let end = find(list, at, END);
-        if same(&list[at..end], word) {
+        if &list[at..end] == word {
             return n;
         }
         if end == list.len() {

@@ -8,4 +8,4 @@ use Rattle.replay.specs.declared.list.Step.TheVariants.{More, Ended, Failed}
 abbrev pub held_after : Step → ℕ
 held_after (More p) = p.held
 held_after (Ended t) = 0
-held_after Failed = 0
+held_after (Failed e) = 0

@@ -6,8 +6,13 @@ ghost use Rattle.replay.specs.Steps.{held_after};
 use crate::line::{give_up, judge};
 use crate::slices::move_to_front;
 use crate::tally::Tally;
-use libc::STDOUT_FILENO;
 use oracle_form::byte::find;
+use program_io::failure::{fail, say};
+use std::io;
+use std::io::{Read, Stdout};
+
+// The bytes that are read at once, and room for an answer and for a text.
+const BLOCK: usize = 65536;
 
 // How far the reading has come.
 #[derive(Clone, Copy)]
@@ -31,11 +36,18 @@ struct Taken {
 enum Step {
     More(Progress),
     Ended(Tally),
-    Failed,
+    Failed(io::Error),
 }
 
 // Judges the whole lines of a block from a place on.
-fn take_lines(block: &[u8], start: usize, tally: Tally, out: &mut [u8], text: &mut [u8]) -> Taken
+fn take_lines(
+    to: Stdout,
+    block: &[u8],
+    start: usize,
+    tally: Tally,
+    out: &mut [u8],
+    text: &mut [u8],
+) -> Taken
     requires { start ≤ length block.now }
     ensures { result.rest ≤ length block.now }
 {
@@ -43,7 +55,7 @@ fn take_lines(block: &[u8], start: usize, tally: Tally, out: &mut [u8], text: &m
     let mut rest = start;
     let mut end = find(block, rest, b'\n');
     while end < block.len() {
-        tally = judge(&block[rest..end], tally, out, text);
+        tally = judge(to, &block[rest..end], tally, out, text);
         rest = end + 1;
         end = find(block, rest, b'\n');
     }
@@ -55,7 +67,7 @@ fn take_lines(block: &[u8], start: usize, tally: Tally, out: &mut [u8], text: &m
 }
 
 // Judges the whole lines of a block, but passes over what is left of a line that was given up.
-fn take_block(block: &[u8], p: Progress, out: &mut [u8], text: &mut [u8]) -> Taken
+fn take_block(to: Stdout, block: &[u8], p: Progress, out: &mut [u8], text: &mut [u8]) -> Taken
     ensures { result.rest ≤ length block.now }
 {
     let tally = p.tally;
@@ -68,14 +80,14 @@ fn take_block(block: &[u8], p: Progress, out: &mut [u8], text: &mut [u8]) -> Tak
                 tally,
             };
         }
-        return take_lines(block, end + 1, tally, out, text);
+        return take_lines(to, block, end + 1, tally, out, text);
     }
-    take_lines(block, 0, tally, out, text)
+    take_lines(to, block, 0, tally, out, text)
 }
 
 // Keeps what is left of a block's first bytes. A line that fills the whole block is given up, and counts as one that
 // differs.
-fn keep_rest(block: &mut [u8], n: usize, t: Taken) -> Progress
+fn keep_rest(to: Stdout, block: &mut [u8], n: usize, t: Taken) -> Progress
     requires { (t.rest ≤ n) × (n ≤ length block.old) }
     ensures { result.held ≤ length block.new }
 {
@@ -84,7 +96,7 @@ fn keep_rest(block: &mut [u8], n: usize, t: Taken) -> Progress
         return Progress {
             held: 0,
             too_long: true,
-            tally: give_up(tally),
+            tally: give_up(to, tally),
         };
     }
     move_to_front(block, t.rest, n);
@@ -96,60 +108,74 @@ fn keep_rest(block: &mut [u8], n: usize, t: Taken) -> Progress
 }
 
 // The last line, if no line end follows it.
-fn take_last(line: &[u8], p: Progress, out: &mut [u8], text: &mut [u8]) -> Tally {
+fn take_last(to: Stdout, line: &[u8], p: Progress, out: &mut [u8], text: &mut [u8]) -> Tally {
     let tally = p.tally;
     if line.len() == 0 {
         return tally;
     }
-    judge(line, tally, out, text)
+    judge(to, line, tally, out, text)
 }
 
 // One read, and all that can be judged after it.
-fn read_once(fd: i32, p: Progress, block: &mut [u8], out: &mut [u8], text: &mut [u8]) -> Step
+fn read_once<R: Read>(
+    to: Stdout,
+    input: &mut R,
+    p: Progress,
+    block: &mut [u8],
+    out: &mut [u8],
+    text: &mut [u8],
+) -> Step
     requires { p.held ≤ length block.old }
     ensures { held_after result ≤ length block.new }
 {
     let held = p.held;
-    let got = libc::read(fd, &mut block[held..]);
-    if got < 0 {
-        return Step::Failed;
+    match input.read(&mut block[held..]) {
+        Err(error) => Step::Failed(error),
+        Ok(0) => Step::Ended(take_last(to, &block[0..held], p, out, text)),
+        Ok(got) => {
+            let n = held + got;
+            let taken = take_block(to, &block[0..n], p, out, text);
+            Step::More(keep_rest(to, block, n, taken))
+        }
     }
-    if got == 0 {
-        return Step::Ended(take_last(&block[0..held], p, out, text));
-    }
-    let n = held + io::count(got, &block[held..]);
-    let taken = take_block(&block[0..n], p, out, text);
-    Step::More(keep_rest(block, n, taken))
 }
 
-// Nothing says that a file ends, so the loop counts its turns down, from a number that no run uses up.
-fn read_all(fd: i32, block: &mut [u8], out: &mut [u8], text: &mut [u8]) -> Step {
+// Nothing says that a file ends, so the loop counts its turns, to a number that no run reaches.
+fn read_all<R: Read>(
+    to: Stdout,
+    input: &mut R,
+    block: &mut [u8],
+    out: &mut [u8],
+    text: &mut [u8],
+) -> Step {
     let mut p = Progress {
         held: 0,
         too_long: false,
         tally: Tally::new(),
     };
-    let mut turns = u64::MAX;
-    while turns > 0 {
-        match read_once(fd, p, block, out, text) {
+    for _ in 0..u64::MAX {
+        match read_once(to, input, p, block, out, text) {
             Step::More(next) => p = next,
             Step::Ended(tally) => return Step::Ended(tally),
-            Step::Failed => return Step::Failed,
+            Step::Failed(error) => return Step::Failed(error),
         }
-        turns -= 1;
     }
-    Step::Failed
+    Step::Failed(io::Error::other("the list does not end"))
 }
 
 // Replays a list and prints what came of it. A list that cannot be read to its end gets no such line.
-pub fn replay(fd: i32, name: &[u8]) {
-    let mut block = io::large_buffer();
-    let mut out = io::large_buffer();
-    let mut text = io::large_buffer();
-    let Step::Ended(tally) = read_all(fd, &mut block, &mut out, &mut text) else {
-        os::fail(name);
-        return;
-    };
-    let n = tally.print(&mut out, name);
-    io::write_all(STDOUT_FILENO, &out[0..n]);
+pub fn replay<R: Read>(rt: &HostRuntime, input: &mut R, name: &[u8]) {
+    let mut block = [0u8; BLOCK];
+    let mut out = [0u8; BLOCK];
+    let mut text = [0u8; BLOCK];
+    let to = rt.stdout();
+    match read_all(to, input, &mut block, &mut out, &mut text) {
+        Step::Ended(tally) => {
+            let n = tally.print(&mut out, name);
+            say(&to, &out[0..n]);
+        }
+        Step::Failed(error) => fail(&rt.stderr(), name, error),
+        // The reading goes on until one of the two comes.
+        Step::More(_) => {}
+    }
 }

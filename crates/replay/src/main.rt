@@ -15,6 +15,11 @@
 // sizes: sizes and numbers that several of them share.
 // slices: bytes moved within a slice.
 #![tactic(auto)]
+
+use program_io::arguments::{WORD, read_word};
+use program_io::failure::fail;
+use program_io::{arguments, file};
+
 mod answer;
 mod blank;
 mod bonds;
@@ -38,28 +43,28 @@ mod texts;
 mod words;
 mod writes;
 
-// Replays the list that an argument names, or says why it cannot.
-fn replay_argument(i: usize) {
-    let mut path = io::buffer();
-    let n = os::arg(i, &mut path);
-    if os::errno() != 0 {
-        os::fail(b"argument");
-        return;
+// Replays the list of a name, or says why it cannot.
+fn replay_named(rt: &HostRuntime, name: &[u8]) {
+    match file::open(rt, name) {
+        Ok(file) => {
+            let mut input = file;
+            list::replay(rt, &mut input, name)
+        }
+        Err(error) => fail(&rt.stderr(), name, error),
     }
-    let fd = os::open_read(&path[..n]);
-    if fd < 0 {
-        os::fail(&path[..n]);
-        return;
-    }
-    list::replay(fd, &path[..n]);
-    libc::close(fd);
 }
 
-fn main() {
-    let count = os::arg_count();
-    let mut i = 1;
-    while i < count {
-        replay_argument(i);
-        i += 1;
+// Replays the list that an argument names, or says why it cannot.
+fn replay_argument(rt: &HostRuntime, i: usize) {
+    let mut path = [0u8; WORD];
+    match read_word(rt, i, &mut path) {
+        Ok(n) => replay_named(rt, &path[..n]),
+        Err(error) => fail(&rt.stderr(), b"argument", error),
+    }
+}
+
+fn main(rt: HostRuntime) {
+    for i in 1..arguments::count(&rt) {
+        replay_argument(&rt, i);
     }
 }

@@ -1,0 +1,68 @@
+// What failed, in the system's words.
+ghost use Rattle.std.specs.Prelude.{◌≤◌, ◌<◌, length, drop, codes};
+ghost use Rattle.std.specs.Io.{StartsWith};
+
+use oracle_form::byte::{put_word, within};
+use std::fmt::Write;
+use std::{fmt, io};
+
+// Room for the words of an error. Longer ones are cut.
+const ROOM: usize = 256;
+
+// Text as it is formatted.
+#[derive(Drop)]
+struct Words {
+    bytes: [u8; ROOM],
+    end: usize,
+}
+
+impl fmt::Write for Words {
+    fn write_str(&mut self, s: &str) -> fmt::Result {
+        self.end = put_word(&mut self.bytes, self.end, s.as_bytes());
+        Ok(())
+    }
+}
+
+// What the library says after the system's words, before their number.
+const NUMBER: &[u8] = b" (os error ";
+
+// Where the number begins that the library adds to the system's words, or the end where there is none.
+fn words_end(text: &[u8]) -> usize
+    ensures bound { result ≤ length text.now }
+    ensures number { result < length text.now → StartsWith (drop result text.now) (codes " (os error ") }
+{
+    for i in 0..text.len() {
+        if text[i..].starts_with(NUMBER) {
+            return i;
+        }
+    }
+    text.len()
+}
+
+// Writes bytes at once.
+pub fn say<P: Print>(to: &P, bytes: &[u8]) {
+    let _ = to.write_all(bytes);
+}
+
+// Says what failed, by the name that the caller has for it, and why.
+pub fn fail<P: Print>(to: &P, what: &[u8], error: io::Error) {
+    let mut words = Words {
+        bytes: [0; ROOM],
+        end: 0,
+    };
+    let _ = write!(words, "{error}");
+    let text = &words.bytes[..within(&words.bytes, words.end)];
+    say(to, what);
+    say(to, b": ");
+    say(to, &text[..words_end(text)]);
+    say(to, b"\n");
+}
+
+#[test]
+fn words_without_number(rt: HostRuntime) {
+    assert!(rt;
+        words_end(b"No such file or directory (os error 2)") == 25,
+        "numbered"
+    );
+    assert!(rt; words_end(b"Is a directory (now)") == 20, "plain");
+}
