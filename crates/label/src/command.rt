@@ -8,14 +8,14 @@ use std::env::Env;
 use std::io::Stderr;
 
 // The statuses.
-pub const ALL_DONE: u8 = 0;
+pub const ALL_DONE: i32 = 0;
 
-pub const SOME_REFUSED: u8 = 1;
+pub const SOME_REFUSED: i32 = 1;
 
-pub const NOT_DONE: u8 = 2;
+pub const NOT_DONE: i32 = 2;
 
 // What shells have for a program that a closed pipe ended: 128 and the signal's number.
-pub const UNHEARD: u8 = 141;
+pub const UNHEARD: i32 = 141;
 
 #[derive(Clone, Copy)]
 pub enum Command {

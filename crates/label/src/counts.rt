@@ -130,7 +130,7 @@ pub fn say_counts(errors: Stderr, c: Counts) {
 }
 
 // The status that they come to.
-pub fn status(c: Counts) -> u8 {
+pub fn status(c: Counts) -> i32 {
     if c.has_unread {
         return NOT_DONE;
     }

@@ -270,7 +270,7 @@ fn say_slip(rt: &HostRuntime, i: usize) {
 }
 
 // What the lines came to, once all that was answered is written.
-fn end(line: Line, out: &[u8]) -> u8
+fn end(line: Line, out: &[u8]) -> i32
     requires { line.gathered.at ≤ length out.now }
 {
     let g = line.gathered;
@@ -288,7 +288,7 @@ fn end(line: Line, out: &[u8]) -> u8
 
 // Answers all lines, with room for the largest job, and with which status the program is to end. The output holds 65,536
 // bytes, which is more than any answer has.
-pub fn answer_all(rt: &HostRuntime, asked: Asked) -> u8 {
+pub fn answer_all(rt: &HostRuntime, asked: Asked) -> i32 {
     if is_slip(rt, asked) {
         say_slip(rt, asked.first);
         return NOT_DONE;

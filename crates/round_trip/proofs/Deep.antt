@@ -13,7 +13,7 @@ use Rattle.table.specs.Limits.{text_limit, atom_limit, bond_limit, branch_limit,
 use Rattle.desk_numbers.specs.Numbers.{nesting}
 use Rattle.read_line.specs.Events as reader
 use Rattle.read_line.specs.Parse.{parse}
-use Rattle.writer.specs.Line.{Event, Join, Pop}
+use Rattle.writer.specs.Line.{Event}
 use Rattle.builder_meaning.specs.Sketch.{Sketch, start_s, step_s, run_s, sketch_of}
 use Rattle.read.specs.declared.Answer.TheVariants as answer
 use Rattle.read.specs.Read.{read_refusal}

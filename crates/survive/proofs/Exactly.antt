@@ -16,7 +16,6 @@ use Rattle.read_token.specs.Scan.{peek_at, inside_at, bracket_at, aromatic_of, a
 use Rattle.spell.specs.Spell.{bracket_text, kind_text}
 use Rattle.survive.specs.Survive.{fields_survive, survives, Survives}
 use Rattle.survive.proofs.Field.{only}
-use Rattle.survive.proofs.Fields.{isotope, symbol, configuration, hydrogens, charge}
 use Rattle.survive.proofs.Bracketed.{Bracketed, bracketed, from_isotope}
 use Rattle.survive.proofs.ReadBack.{text_of}
 use Rattle.survive.proofs.Inside.{Inside, inside_read}

@@ -29,7 +29,7 @@ use Rattle.survive.specs.Survive.{survives, can_follow}
 use Rattle.survive.proofs.Checked.{mem, checked}
 use Rattle.survive.proofs.Shift.{onward, front, past, peek_shift}
 use Rattle.survive.proofs.Field.{got, Field, Here, here_read, back}
-use Rattle.survive.proofs.Fields.{isotope, symbol, configuration, hydrogens, charge, map}
+use Rattle.survive.proofs.Fields.{symbol, configuration, hydrogens, charge}
 use Rattle.survive.proofs.Bracketed.{Bracketed, bracketed, from_isotope, at_symbol, at_configuration, at_hydrogens, at_charge, at_map, at_close, of_got}
 use Rattle.survive.proofs.ReadBack.{survives_ranged, text_of, read_back_at}
 

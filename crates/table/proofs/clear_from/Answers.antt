@@ -1,4 +1,4 @@
-use Rattle.std.proofs.Common.{◌-◌, List, set, refl, ap, ◌∙◌, length-set, rules}
+use Rattle.std.proofs.Common.{List, set, refl, ap, ◌∙◌, length-set, rules}
 use Rattle.table.proofs.Zeros.{cleared_start, cleared_step, cleared_end}
 use Rattle.table.proofs.clear_from.Goals as goal
 
