@@ -1,4 +1,3 @@
-use Prim.Native.Nat.{◌-◌}
 use mathlib.Core.Path.{◌∙◌, sym}
 use borrow.Author.Rules.{rules}
 use Rattle.table_check.proofs.Records.{beyond, no_atom_lem, atom_on, atoms_end, atoms_start}

@@ -1,4 +1,3 @@
-use Prim.Native.Nat.{◌-◌}
 use mathlib.Core.Path.{◌∙◌, sym}
 use borrow.Author.Rules.{rules}
 use Rattle.table_check.proofs.Records.{unheld, no_bond, bond_on, bonds_end, bonds_start}

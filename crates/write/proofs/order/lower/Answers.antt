@@ -1,5 +1,4 @@
 use Rattle.write.proofs.Tables.{lower_turn}
-use Prim.Native.Nat.{◌-◌}
 use mathlib.Core.Path.{refl, ◌∙◌}
 use lib.ListN.{length-set}
 use borrow.Author.Rules.{rules}

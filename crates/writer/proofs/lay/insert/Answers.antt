@@ -2,7 +2,7 @@ use lib.ListN.{length-set, length}
 use Rattle.writer.proofs.Laws.{insert_out, insert_carry, insert_done}
 use native.Mathlib.Omega.{arith}
 use native.Mathlib.Nat.{sub_self}
-use Prim.Native.Nat.{◌+◌, ◌-◌, ◌≤◌}
+use Prim.Native.Nat.{◌+◌, ◌≤◌}
 use mathlib.Core.Path.{refl, ◌∙◌}
 use Rattle.writer.proofs.lay.insert.Goals as goal
 
