@@ -30,6 +30,7 @@ pub const TEN: u32 = NEUTRAL + 10;
 
 pub const MINUS_TEN: u32 = NEUTRAL - 10;
 
+#[tactic(auto, unfolding(crate::specs::Survive::configuration_survives))]
 fn configuration_survives(c: u32) -> bool
     ensures { result ≡ configuration_survives c }
 {
