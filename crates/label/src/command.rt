@@ -14,9 +14,6 @@ pub const SOME_REFUSED: i32 = 1;
 
 pub const NOT_DONE: i32 = 2;
 
-// What shells have for a program that a closed pipe ended: 128 and the signal's number.
-pub const UNHEARD: i32 = 141;
-
 #[derive(Clone, Copy)]
 pub enum Command {
     Rewrite,

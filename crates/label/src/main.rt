@@ -30,8 +30,8 @@ mod output;
 mod tray;
 
 // Answers what is asked, and with which status the program is to end: 0 if all lines were done, 1 if some were refused, 2 if
-// something was not read, not written or not understood, 141 if nobody reads the answers any more. This main answers nothing, so
-// it drops the status; where `./label` compiles the program, its start ends with it.
+// something was not read, not written or not understood. This main answers nothing, so it drops the status; where `./label`
+// compiles the program, its start ends with it.
 fn run(rt: &HostRuntime) -> i32 {
     let asked = command::read_arguments(rt);
     if asked.is_understood {

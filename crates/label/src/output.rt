@@ -8,13 +8,11 @@ use program_io::failure;
 use program_io::failure::fail;
 use std::io::{ErrorKind, Stderr, Stdout};
 
-// The buffer's first free place, and whether a write has failed, or failed because nobody reads any more. After that nothing
-// more is written.
+// The buffer's first free place, and whether a write has failed. After that nothing more is written.
 #[derive(Clone, Copy)]
 pub struct Gathered {
     pub at: usize,
     pub has_failed: bool,
-    pub is_unheard: bool,
     // Where what has gathered goes, and where messages do.
     pub answers: Stdout,
     pub errors: Stderr,
@@ -27,7 +25,6 @@ pub fn nothing_gathered(answers: Stdout, errors: Stderr) -> Gathered
     Gathered {
         at: 0,
         has_failed: false,
-        is_unheard: false,
         answers,
         errors,
     }
@@ -42,7 +39,7 @@ pub fn gathered_to(at: usize, g: Gathered) -> Gathered
     g
 }
 
-// Writes what has gathered up to a place. The first write that fails is told, but not that nobody reads.
+// Writes what has gathered up to a place. The first write that fails is told, unless it fails since nobody reads any more.
 pub fn flush(out: &[u8], g: Gathered) -> Gathered
     requires { g.at ≤ length out.now }
     ensures { result.at ≡ 0 }
@@ -55,8 +52,7 @@ pub fn flush(out: &[u8], g: Gathered) -> Gathered
     }
     if let Err(error) = g.answers.write_all(&out[0..at]) {
         g.has_failed = true;
-        g.is_unheard = error.kind() == ErrorKind::BrokenPipe;
-        if !g.is_unheard {
+        if error.kind() != ErrorKind::BrokenPipe {
             fail(&g.errors, b"label: standard output", error);
         }
     }

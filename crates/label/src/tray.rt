@@ -1,7 +1,7 @@
 // All lines of the inputs, read block by block.
 ghost use Rattle.std.specs.Prelude.{◌≤◌, length};
 
-use crate::command::{Asked, NOT_DONE, UNHEARD, print_usage};
+use crate::command::{Asked, NOT_DONE, print_usage};
 use crate::counts::{say_counts, status, unread};
 use crate::line::{Line, ORDER_MARK, cut, finish, open, piece_end, start, take_piece};
 use crate::output::flush;
@@ -275,9 +275,6 @@ fn end(line: Line, out: &[u8]) -> i32
 {
     let g = line.gathered;
     let g = flush(out, g);
-    if g.is_unheard {
-        return UNHEARD;
-    }
     if g.has_failed {
         return NOT_DONE;
     }

@@ -17,7 +17,8 @@ pub fn open<R: Files>(rt: &R, name: &[u8]) -> io::Result<R::File>
     }
 }
 
-// Whether there is surely no file of a name. Of one that is no UTF-8 nothing is known.
+// Whether the system finds no file of a name, be it that it may not look. A name that is no UTF-8 is not looked for, and not said
+// to be missing.
 pub fn is_missing(rt: &impl Files, name: &[u8]) -> bool
     ensures { IsTrue result → IsUtf8 name.now }
 {

@@ -52,14 +52,20 @@ num_find (y ∷ P) r h =
     by_bool (eqb r y.num) (λ q. (y, here, sym (eqb-true r y.num q)))
     (λ q. let f = num_find P r (rw q at h) in (f.0, there f.1, f.2))
 
-look_none_in : (x : Pair) (P : List Pair) (a b : ℕ) → look P a b ≡ none → In x P → pair_is a b x ≡ false
+pub in_case {ℓ} : {X : Type ℓ} {x y : Pair} {P : List Pair} → In x (y ∷ P) → (x ≡ y → X) → (In x P → X) → X
+in_case here f h = f refl
+in_case (there k) f h = h k
+
+look_none_in : (P : List Pair) (a b : ℕ) (x : Pair) → look P a b ≡ none → In x P → pair_is a b x ≡ false
 unfolding look
-look_none_in x P a b h (here {P = Q}) = by_bool (pair_is a b x) (λ q. absurd (none≢some (sym (rw q at h)))) (λ q. q)
-look_none_in x P a b h (there {y = y} {P = Q} i) =
-    by_bool (pair_is a b y) (λ q. absurd (none≢some (sym (rw q at h)))) (λ q. look_none_in x Q a b (rw q at h) i)
+look_none_in [] a b x h i = elim i [ ]
+look_none_in (y ∷ P) a b x h i =
+    by_bool (pair_is a b y)
+    (λ q. absurd (none≢some (sym (rw q at h))))
+    (λ q. in_case i (λ e. rw e q) (λ k. look_none_in P a b x (rw q at h) k))
 
 pub no_member : (P : List Pair) (a b : ℕ) (x : Pair) → look P a b ≡ none → In x P → a ≡ x.from → b ≡ x.onto → ⊥
-no_member P a b x h i p q = clash (pair_this a b x p q) (look_none_in x P a b h i)
+no_member P a b x h i p q = clash (pair_this a b x p q) (look_none_in P a b x h i)
 
 -- a member is found at its pair
 pub in_look : (P : List Pair) (x : Pair) (a b : ℕ) → Distinct P → In x P → a ≡ x.from → b ≡ x.onto → look P a b ≡ some x
@@ -189,18 +195,14 @@ in_del [] a b x i = i
 in_del (y ∷ P) a b x i =
     by_bool (pair_is a b y) (λ q. there (in_del P a b x (rw q at i))) (λ q. let k : In x (y ∷ del a b P) = rw q at i in in_cons (in_del P a b x) k)
 
-pub in_case {ℓ} : {X : Type ℓ} {x y : Pair} {P : List Pair} → In x (y ∷ P) → (x ≡ y → X) → (In x P → X) → X
-in_case here f h = f refl
-in_case (there k) f h = h k
-
 -- a member that is another pair stays
-kept_in : (x : Pair) (P : List Pair) (a b : ℕ) → In x P → pair_is a b x ≡ false → In x (del a b P)
-unfolding del
-kept_in x P a b (here {P = Q}) h = rw h here
-kept_in x P a b (there {y = y} {P = Q} i) h = by_bool (pair_is a b y) (λ q. rw q (kept_in x Q a b i h)) (λ q. rw q (there (kept_in x Q a b i h)))
-
 pub in_kept : (P : List Pair) (a b : ℕ) (x : Pair) → In x P → pair_is a b x ≡ false → In x (del a b P)
-in_kept P a b x = kept_in x P a b
+unfolding del
+in_kept [] a b x i h = elim i [ ]
+in_kept (y ∷ P) a b x i h =
+    by_bool (pair_is a b y)
+    (λ q. in_case i (λ e. clash (ap (pair_is a b) e ∙ q) h) (λ k. rw q (in_kept P a b x k h)))
+    (λ q. rw q (in_case i (λ e. rw e here) (λ k. there (in_kept P a b x k h))))
 
 -- every opener was met
 pub data Froms (o : List ℕ) : List Pair → Type 0 where
