@@ -1,71 +1,77 @@
-// What the desk says: a number, and what it carries. Where it refuses, the number has a name.
-ghost use Rattle.std.specs.Prelude.{◌≤◌, length};
-
-use desk_numbers::{OVERPOP, Said};
-use oracle_form::byte::put;
-use oracle_form::list::put_nth;
-use oracle_form::number;
-
-// The refusals' names by their numbers. 0 is none.
-const NAMES: [u8; 183] =
-    *b"?;EndOfLine;Character;Join;Rnum;UnknownTarget;Loop;HalfBond;DuplicateBond;IncompatibleBond;Inversion;\
-    RingNumbers;TextTooLong;AtomRoom;BondRoom;Nesting;OutRoom;BadTable;NoAtom;Overpop;";
+// What the desk says, as text: a number, and what it carries. Where it refuses, the number has a name.
+use desk_numbers::Said;
+use std::fmt;
 
 // The name of a refusal, `?` for a number that is none.
-fn print_name(out: &mut [u8], at: usize, no: u32) -> usize
-    ensures { result ≤ length out.new }
-{
-    if OVERPOP < no {
-        return put(out, at, b'?');
+fn name(no: u32) -> &'static str {
+    match no {
+        desk_numbers::END_OF_LINE => "EndOfLine",
+        desk_numbers::CHARACTER => "Character",
+        desk_numbers::JOIN => "Join",
+        desk_numbers::RNUM => "Rnum",
+        desk_numbers::UNKNOWN_TARGET => "UnknownTarget",
+        desk_numbers::LOOP => "Loop",
+        desk_numbers::HALF_BOND => "HalfBond",
+        desk_numbers::DUPLICATE_BOND => "DuplicateBond",
+        desk_numbers::INCOMPATIBLE_BOND => "IncompatibleBond",
+        desk_numbers::INVERSION => "Inversion",
+        desk_numbers::RING_NUMBERS => "RingNumbers",
+        desk_numbers::TEXT_TOO_LONG => "TextTooLong",
+        desk_numbers::ATOM_ROOM => "AtomRoom",
+        desk_numbers::BOND_ROOM => "BondRoom",
+        desk_numbers::NESTING => "Nesting",
+        desk_numbers::OUT_ROOM => "OutRoom",
+        desk_numbers::BAD_TABLE => "BadTable",
+        desk_numbers::NO_ATOM => "NoAtom",
+        desk_numbers::OVERPOP => "Overpop",
+        _ => "?",
     }
-    put_nth(out, at, &NAMES, no as usize)
-}
-
-// A number of the desk's, and the tab that ends it.
-pub fn print_number(out: &mut [u8], at: usize, no: u32) -> usize
-    ensures { result ≤ length out.new }
-{
-    let at = number::print(out, at, no as usize);
-    put(out, at, b'\t')
 }
 
 // What is carried, each number after a blank.
-fn print_carried(out: &mut [u8], at: usize, s: Said) -> usize
-    requires { at ≤ length out.old }
-    ensures { result ≤ length out.new }
-{
-    if s.carries == 0 {
-        return at;
+#[derive(Clone, Copy)]
+pub struct Carried(pub Said);
+
+impl fmt::Display for Carried {
+    fn fmt<W: fmt::Write>(&self, f: &mut fmt::Formatter<W>) -> fmt::Result {
+        let Carried(said) = *self;
+        match said.carries {
+            0 => Ok(()),
+            1 => write!(f, " {}", said.first),
+            _ => write!(f, " {} {}", said.first, said.second),
+        }
     }
-    let at = put(out, at, b' ');
-    let at = number::print(out, at, s.first);
-    if s.carries == 1 {
-        return at;
-    }
-    let at = put(out, at, b' ');
-    number::print(out, at, s.second)
 }
 
 // A refusal's name and what it carries.
-pub fn print_named(out: &mut [u8], at: usize, s: Said) -> usize
-    ensures { result ≤ length out.new }
-{
-    let at = print_name(out, at, s.no);
-    print_carried(out, at, s)
-}
+#[derive(Clone, Copy)]
+pub struct Named(pub Said);
 
-// A refusal: its number, a tab, its name and what it carries.
-pub fn print_refusal(out: &mut [u8], at: usize, s: Said) -> usize
-    ensures { result ≤ length out.new }
-{
-    let at = print_number(out, at, s.no);
-    print_named(out, at, s)
+impl fmt::Display for Named {
+    fn fmt<W: fmt::Write>(&self, f: &mut fmt::Formatter<W>) -> fmt::Result {
+        let Named(said) = *self;
+        write!(f, "{}{}", name(said.no), Carried(said))
+    }
 }
 
 // The number and what it carries, without a name.
-pub fn print_said(out: &mut [u8], at: usize, s: Said) -> usize
-    ensures { result ≤ length out.new }
-{
-    let at = number::print(out, at, s.no as usize);
-    print_carried(out, at, s)
+#[derive(Clone, Copy)]
+pub struct Numbered(pub Said);
+
+impl fmt::Display for Numbered {
+    fn fmt<W: fmt::Write>(&self, f: &mut fmt::Formatter<W>) -> fmt::Result {
+        let Numbered(said) = *self;
+        write!(f, "{}{}", said.no, Carried(said))
+    }
+}
+
+// A refusal: its number, a tab, its name and what it carries.
+#[derive(Clone, Copy)]
+pub struct Refusal(pub Said);
+
+impl fmt::Display for Refusal {
+    fn fmt<W: fmt::Write>(&self, f: &mut fmt::Formatter<W>) -> fmt::Result {
+        let Refusal(said) = *self;
+        write!(f, "{}\t{}", said.no, Named(said))
+    }
 }

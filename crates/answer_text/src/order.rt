@@ -1,11 +1,7 @@
 // A walk order on one line: for each atom, in walk order, its number, its number in walk order and its text as it is
 // written, separated by `:`; after each but the last a `;`: `0:0:C;2:1:N`.
-ghost use Rattle.std.specs.Prelude.{◌≤◌, length};
-
-use crate::tables::{least, print_mark};
-use oracle_form::byte::{put, put_word};
-use oracle_form::number;
-use packing::{Loaded, load};
+use oracle_form::output::Output;
+use packing::load;
 use spell::spell_atom;
 use table::{ATOM_WORDS, look};
 use walk_entry::entry::said_as;
@@ -15,55 +11,42 @@ const LONGEST: usize = 21;
 
 const UNKNOWN: u8 = b'?';
 
-// The text of an atom, by the place of its entry back to the atom that it was reached from.
-fn print_text(out: &mut [u8], at: usize, atoms: &[u32], atom: u32, back: u32) -> usize
-    ensures { result ≤ length out.new }
-{
+// A walk order in lent tables: the atoms in walk order; for each atom its number in it, and the place, from 1, of its entry
+// back to the atom that it was reached from.
+#[derive(Clone, Copy)]
+pub struct Order<'a> {
+    pub walked: &'a [u32],
+    pub number: &'a [u32],
+    pub back: &'a [u32],
+}
+
+// The text of an atom, by the place of its entry back.
+fn put_text(out: &mut Output, atoms: &[u32], atom: u32, back: u32) {
     match load(atoms, atom as usize * ATOM_WORDS) {
-        Loaded::Held(k) => {
+        Some(k) => {
             let mut text = [0u8; LONGEST];
             let n = spell_atom(&mut text, said_as(k, back));
-            put_word(out, at, &text[0..n])
+            out.put_all(&text[..n]);
         }
-        Loaded::Bad => put(out, at, UNKNOWN),
+        None => out.put(UNKNOWN),
     }
 }
 
-fn print_atom(
-    out: &mut [u8],
-    at: usize,
-    atoms: &[u32],
-    atom: u32,
-    number: &[u32],
-    back: &[u32],
-) -> usize
-    ensures { result ≤ length out.new }
-{
-    let at = number::print(out, at, atom as usize);
-    let at = put(out, at, b':');
-    let at = number::print(out, at, look(number, atom as usize) as usize);
-    let at = put(out, at, b':');
-    print_text(out, at, atoms, atom, look(back, atom as usize))
+fn put_atom(out: &mut Output, atoms: &[u32], atom: u32, order: Order) {
+    let place = atom as usize;
+    out.number(place);
+    out.put(b':');
+    out.number(look(order.number, place) as usize);
+    out.put(b':');
+    put_text(out, atoms, atom, look(order.back, place));
 }
 
-// The first n atoms of a walk order, as the walk order's tables have them.
-pub fn print_order(
-    out: &mut [u8],
-    at: usize,
-    atoms: &[u32],
-    n: usize,
-    walked: &[u32],
-    number: &[u32],
-    back: &[u32],
-) -> usize
-    ensures { result ≤ length out.new }
-{
-    let mut next = least(at, out.len());
-    let mut i = 0;
-    while i < n {
-        next = print_mark(out, next, i);
-        next = print_atom(out, next, atoms, look(walked, i), number, back);
-        i += 1;
+// The first n atoms of a walk order.
+pub fn put_order(out: &mut Output, atoms: &[u32], n: usize, order: Order) {
+    for (i, atom) in order.walked.iter().take(n).enumerate() {
+        if i > 0 {
+            out.put(b';');
+        }
+        put_atom(out, atoms, *atom, order);
     }
-    next
 }

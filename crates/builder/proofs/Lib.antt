@@ -1,5 +1,4 @@
 -- Laws that several proofs cite.
-pub mod Rings
 pub mod Joins
 pub mod Passes
 pub mod Whole

@@ -1,21 +1,18 @@
 -- What each event makes of a builder's tables and the numbers beside them. An extend takes two entries, an opened ring
 -- number one, its closing one more; a closing whose kinds fail takes none and is remembered. Refusals in order: 18 with no
 -- current atom, 13 with no room for the atom, 14 with none for its entries, 10 for a mark that can't be turned.
-use Rattle.std.specs.Prelude.{ℕ, ◌+◌, ◌-◌, ◌*◌, Bool, true, false, List, [], ◌∷◌, ◌==◌, nat_le, nat_lt, slice_index, slice_set}
+use Rattle.std.specs.Prelude.{ℕ, ◌+◌, ◌-◌, ◌*◌, List, [], ◌∷◌, ◌==◌, nat_le, nat_lt, slice_index, slice_set, Option, None, Some, is_some}
 use Rattle.std.proofs.lemmas.List.Edits.{sets}
 use Rattle.feature.specs.Pick.{pick}
 use Rattle.feature.specs.Kinds.{invert_of}
 use Rattle.feature.specs.Bonds.{code_of, kind_of, sure_kind, reverse_of, reconcile_of}
 use Rattle.feature.specs.declared.atom_kind.AtomKind.{AtomKind}
-use Rattle.feature.specs.declared.atom_kind.Inverted.{Inverted}
-use Rattle.feature.specs.declared.atom_kind.Inverted.TheVariants.{Turned, Refused}
 use Rattle.feature.specs.declared.bond_kind.BondKind.{BondKind}
-use Rattle.feature.specs.declared.bond_kind.Reconciled.{Reconciled}
-use Rattle.feature.specs.declared.bond_kind.Reconciled.TheVariants.{Both, Fails}
 use Rattle.desk_numbers.specs.Numbers.{inversion, atom_room, bond_room, no_atom}
 use Rattle.table.specs.Records.{atom_words}
 use Rattle.packing.specs.Words.{list_of}
 use Rattle.builder.specs.declared.builder.Builder.{Builder}
+use Rattle.builder.specs.declared.builder.FailedJoin.{FailedJoin}
 
 -- the words of an entry in the making: source, kind, target
 abbrev pub entry_words : ℕ
@@ -36,22 +33,25 @@ pub record Bld : Type 0 where
 abbrev pub bld : List ℕ → List ℕ → List ℕ → List ℕ → Builder → Bld
 bld a e p r s = record { atoms = a; entries = e; path = p; rings = r; st = s }
 
+abbrev pub failed_join : ℕ → ℕ → FailedJoin
+failed_join x y = record { closing = x; opening = y }
+
 -- a state, field by field
-abbrev pub state : ℕ → ℕ → ℕ → ℕ → ℕ → ℕ → ℕ → ℕ → Bool → ℕ → ℕ → Builder
-state r c p l a e t j f x y =
-    record { refusal = r; carried = c; places = p; slots = l; atoms = a; entries = e; top = t; joins = j; failed = f; closing = x; opening = y }
+abbrev pub state : ℕ → ℕ → ℕ → ℕ → ℕ → ℕ → ℕ → ℕ → Option FailedJoin → Builder
+state r c p l a e t j f =
+    record { refusal = r; carried = c; places = p; slots = l; atoms = a; entries = e; top = t; joins = j; failed = f }
 
 abbrev pub fresh_builder : ℕ → ℕ → Builder
-fresh_builder p l = state 0 0 p l 0 0 0 0 false 0 0
+fresh_builder p l = state 0 0 p l 0 0 0 0 None
 
 abbrev pub refused_st : Builder → ℕ → ℕ → Builder
 refused_st s r c =
-    state r c s.places s.slots s.atoms s.entries s.top s.joins s.failed s.closing s.opening
+    state r c s.places s.slots s.atoms s.entries s.top s.joins s.failed
 
 -- other counts: atoms, entries, the path's length, joins
 abbrev pub counts_st : Builder → ℕ → ℕ → ℕ → ℕ → Builder
 counts_st s a e t j =
-    state s.refusal s.carried s.places s.slots a e t j s.failed s.closing s.opening
+    state s.refusal s.carried s.places s.slots a e t j s.failed
 
 abbrev pub popped_st : Builder → ℕ → Builder
 popped_st s n = counts_st s s.atoms s.entries (s.top - n) s.joins
@@ -65,13 +65,14 @@ abbrev pub joined_st : Builder → Builder
 joined_st s = counts_st s s.atoms (s.entries + 1) s.top (s.joins + 1)
 
 -- one join more, and a failed one is remembered
-abbrev pub broken_st : Builder → ℕ → ℕ → Builder
-broken_st s x y =
-    state s.refusal s.carried s.places s.slots s.atoms s.entries s.top (s.joins + 1) true x y
+abbrev pub broken_st : Builder → Option FailedJoin → Builder
+broken_st s f =
+    state s.refusal s.carried s.places s.slots s.atoms s.entries s.top (s.joins + 1) f
 
 -- one join more, which failed; the first such is kept
 unfoldable pub failed_st : Builder → ℕ → ℕ → Builder
-failed_st s x y = pick s.failed (broken_st s s.closing s.opening) (broken_st s x y)
+failed_st s x y =
+    pick (is_some s.failed) (broken_st s s.failed) (broken_st s (Some (failed_join x y)))
 
 unfoldable pub refuse : Bld → ℕ → ℕ → Bld
 refuse b r c = bld b.atoms b.entries b.path b.rings (refused_st b.st r c)
@@ -103,9 +104,9 @@ bonded b k =
     (entry_list b.st.atoms (code_of (reverse_of k)) (last_of b)))
     b.path b.rings b.st
 
-unfoldable pub extended_by : Bld → BondKind → Inverted → Bld
-extended_by b k Refused = refuse b inversion b.st.atoms
-extended_by b k (Turned t) = entered (bonded b k) t (b.st.entries + 2)
+unfoldable pub extended_by : Bld → BondKind → Option AtomKind → Bld
+extended_by b k None = refuse b inversion b.st.atoms
+extended_by b k (Some t) = entered (bonded b k) t (b.st.entries + 2)
 
 -- extend: a new atom, its mark turned, bonded to the current one
 unfoldable pub extend_of : Bld → BondKind → AtomKind → ℕ → Bld
@@ -133,10 +134,10 @@ unfoldable pub opening_kind : Bld → ℕ → BondKind
 opening_kind b n = sure_kind (kind_of (slice_index b.entries (opened_at b n + 1)))
 
 -- its second use fills that entry and adds one at the closing atom; kinds that do not agree are a failure
-unfoldable pub closed_by : Bld → ℕ → ℕ → Reconciled → Bld
-closed_by b n place Fails =
+unfoldable pub closed_by : Bld → ℕ → ℕ → Option (BondKind × BondKind) → Bld
+closed_by b n place None =
     bld b.atoms b.entries b.path (slice_set b.rings n 0) (failed_st b.st (last_of b) (opening_of b n))
-closed_by b n place (Both l r) =
+closed_by b n place (Some (l, r)) =
     pick (nat_lt b.st.slots (b.st.entries + 1)) (refuse b bond_room place)
     (bld b.atoms
     (sets

@@ -1,7 +1,9 @@
 // The events of a builder, on lent tables and a few numbers beside them. A refused event changes nothing but the refusal.
 //
 // atoms: an atom's record each. entries: three words each, in the order of the events: source, kind, target. path: the
-// atoms from the first to the current one. rings: the open ring numbers between two joins.
+// atoms from the first to the current one. rings: the open ring numbers between two joins. They go as four slices: as one
+// struct of slices behind a reference they were tried, and reading took 12 in a hundred instructions more, since each store has
+// the struct read again.
 ghost use Rattle.std.specs.Prelude.{◌≡◌, ℕ, ◌+◌, ◌-◌, ◌*◌, ◌^◌, ◌<◌, ◌≤◌, List, [], ◌∷◌, slice_index};
 ghost use Rattle.std.proofs.lemmas.List.Edits.{sets};
 ghost use Rattle.feature.specs.Bonds.{code_of, reconcile_of};
@@ -11,8 +13,8 @@ ghost use Rattle.builder.specs.Steps.{SmallCounts};
 
 use crate::opens::rejoin;
 use desk_numbers::{ATOM_ROOM, BOND_ROOM, INVERSION, NO_ATOM};
-use feature::atom_kind::{AtomKind, Inverted, invert};
-use feature::bond_kind::{BondKind, Reconciled, code, reconcile, reverse, sure_kind};
+use feature::atom_kind::{AtomKind, invert};
+use feature::bond_kind::{BondKind, code, reconcile, reverse, sure_kind};
 use packing::store;
 use table::{ATOM_WORDS, look, poke};
 
@@ -21,7 +23,16 @@ pub const ENTRY_WORDS: usize = 3;
 // The target of an entry whose ring number is open is the sum of this and the number of the join.
 pub const OPEN: u32 = 0x8000_0000;
 
-// What a builder knows beside its tables. A refusal is its number and what it carries; 0 is none.
+// The atoms at the two ends of a join whose kinds do not agree.
+#[derive(Clone, Copy, Debug, PartialEq, Eq)]
+pub struct FailedJoin {
+    pub closing: u32,
+    pub opening: u32,
+}
+
+// What a builder knows beside its tables. A refusal is its number and what it carries; 0 is none. It is no Option of an enum: C keeps
+// a state's words between two calls, its first may be any number below 2^32, and `builder_again` (desk_report) says of each that it
+// is read as it was laid.
 #[derive(Clone, Copy)]
 pub struct Builder {
     pub refusal: u32,
@@ -33,10 +44,8 @@ pub struct Builder {
     pub entries: usize,
     pub top: usize,
     pub joins: usize,
-    // The first join that failed: its closing and its opening atom.
-    pub failed: bool,
-    pub closing: u32,
-    pub opening: u32,
+    // The first join that failed.
+    pub failed: Option<FailedJoin>,
 }
 
 impl Builder {
@@ -52,28 +61,7 @@ impl Builder {
             entries: 0,
             top: 0,
             joins: 0,
-            failed: false,
-            closing: 0,
-            opening: 0,
-        }
-    }
-
-    // A copy field by field: a copy of the whole struct also moves the padding between its fields, through memory.
-    pub fn copied(self) -> Builder
-        ensures { result ≡ self }
-    {
-        Builder {
-            refusal: self.refusal,
-            carried: self.carried,
-            places: self.places,
-            slots: self.slots,
-            atoms: self.atoms,
-            entries: self.entries,
-            top: self.top,
-            joins: self.joins,
-            failed: self.failed,
-            closing: self.closing,
-            opening: self.opening,
+            failed: None,
         }
     }
 
@@ -89,13 +77,8 @@ impl Builder {
     pub fn pop(mut self, n: usize) -> Builder
         ensures { result ≡ popped_st self n }
     {
-        let top = self.top;
-        if n <= top {
-            self.top = top - n;
-            return self.copied();
-        }
-        self.top = 0;
-        self.copied()
+        self.top = self.top.saturating_sub(n);
+        self
     }
 
     // One join more, and one entry.
@@ -103,23 +86,21 @@ impl Builder {
         requires { SmallCounts self }
         ensures { result ≡ joined_st self }
     {
-        self.joins = self.joins + 1;
-        self.entries = self.entries + 1;
+        self.joins += 1;
+        self.entries += 1;
         self
     }
 
     // A join whose kinds do not agree: the first such is remembered.
+    #[tactic(auto, unfolding(crate::specs::State::failed_st))]
     pub fn fail(mut self, closing: u32, opening: u32) -> Builder
         requires { SmallCounts self }
         ensures { result ≡ failed_st self closing opening }
     {
-        self.joins = self.joins + 1;
-        if self.failed {
-            return self;
+        self.joins += 1;
+        if self.failed.is_none() {
+            self.failed = Some(FailedJoin { closing, opening });
         }
-        self.failed = true;
-        self.closing = closing;
-        self.opening = opening;
         self
     }
 }
@@ -156,12 +137,18 @@ fn put_bond(entries: &mut [u32], e: usize, source: u32, kind: u32, target: u32, 
 }
 
 // A new atom on the path; `held` is how many entries there are then.
-fn enter(atoms: &mut [u32], path: &mut [u32], builder: Builder, k: AtomKind, held: usize) -> Builder
+#[tactic(auto, unfolding(crate::specs::State::entered))]
+fn enter(
+    atoms: &mut [u32],
+    path: &mut [u32],
+    mut builder: Builder,
+    k: AtomKind,
+    held: usize,
+) -> Builder
     requires { SmallCounts builder }
     ensures { (e s : List ℕ) →
         bld atoms.new e path.new s result ≡ entered (bld atoms.old e path.old s builder) k held }
 {
-    let mut builder = builder;
     let n = builder.atoms;
     let top = builder.top;
     store(atoms, n * ATOM_WORDS, k);
@@ -173,6 +160,7 @@ fn enter(atoms: &mut [u32], path: &mut [u32], builder: Builder, k: AtomKind, hel
 }
 
 // A first atom of a component.
+#[tactic(auto, unfolding(crate::specs::State::root_of, crate::specs::State::refuse))]
 pub fn root(
     atoms: &mut [u32],
     path: &mut [u32],
@@ -192,6 +180,7 @@ pub fn root(
 }
 
 // A new atom and the two entries of its bond.
+#[tactic(auto, unfolding(crate::specs::State::bonded, crate::specs::State::last_of))]
 fn attach(
     atoms: &mut [u32],
     entries: &mut [u32],
@@ -212,6 +201,7 @@ fn attach(
 }
 
 // A new atom, its mark turned, bonded to the current one.
+#[tactic(auto, unfolding(crate::specs::State::extend_of, crate::specs::State::extended_by, crate::specs::State::refuse))]
 pub fn extend(
     atoms: &mut [u32],
     entries: &mut [u32],
@@ -236,12 +226,13 @@ pub fn extend(
     }
     let n = builder.atoms;
     match invert(t) {
-        Inverted::Refused => builder.refused(INVERSION, n),
-        Inverted::Turned(turned) => attach(atoms, entries, path, builder, k, turned),
+        None => builder.refused(INVERSION, n),
+        Some(turned) => attach(atoms, entries, path, builder, k, turned),
     }
 }
 
 // A free ring number opens an entry.
+#[tactic(auto, unfolding(crate::specs::State::opened_of, crate::specs::State::last_of))]
 fn open_ring(
     entries: &mut [u32],
     path: &[u32],
@@ -302,11 +293,11 @@ fn close_ring(
     let left = sure_kind(look(entries, w + 1));
     let closing = look(path, builder.top - 1);
     match reconcile(left, k) {
-        Reconciled::Fails => {
+        None => {
             rejoin(rings, number, 0);
             builder.fail(closing, opening)
         }
-        Reconciled::Both(l, r) => {
+        Some((l, r)) => {
             let e = builder.entries;
             if builder.slots < e + 1 {
                 return builder.refused(BOND_ROOM, place);
@@ -319,6 +310,7 @@ fn close_ring(
 }
 
 // A ring number at the current atom.
+#[tactic(auto, unfolding(crate::specs::State::join_of, crate::specs::State::refuse))]
 pub fn join(
     entries: &mut [u32],
     path: &[u32],

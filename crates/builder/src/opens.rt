@@ -1,8 +1,7 @@
 // The open ring numbers: for each number 0, or one more than the place of the entry that it opened.
-ghost use Rattle.std.specs.Prelude.{◌≡◌, ◌<◌, ◌≤◌, length, set, slice_set};
-ghost use Rattle.std.proofs.lemmas.List.Edits.{sets};
+ghost use Rattle.std.specs.Prelude.{◌≡◌, ◌<◌, slice_set};
 ghost use Rattle.table.specs.Limits.{ring_number_count};
-ghost use Rattle.builder.specs.Rings.{opens_of, joined_at};
+ghost use Rattle.builder.specs.Rings.{joined_at};
 
 use table::limits::RING_NUMBER_COUNT;
 
@@ -22,45 +21,18 @@ impl Opens {
     }
 }
 
-// The list out of the words that hold it between two joins.
-fn taken(rings: &[u32]) -> Opens
-    requires { ring_number_count ≤ length rings.now }
-    ensures { result ≡ opens_of rings.now }
-{
-    let mut o = Opens {
-        at: [0u32; RING_NUMBER_COUNT],
-    };
-    let mut i: usize = 0;
-    while i < RING_NUMBER_COUNT {
-        o.at[i] = rings[i];
-        i += 1;
-    }
-    o
-}
-
-// The list back into those words.
-fn put_back(rings: &mut [u32], o: Opens)
-    requires { (ring_number_count ≤ length rings.old) × (length o.at ≡ ring_number_count) }
-    ensures { rings.new ≡ sets rings.old 0 o.at }
-{
-    let mut i: usize = 0;
-    while i < RING_NUMBER_COUNT {
-        rings[i] = o.at[i];
-        i += 1;
-    }
-}
-
 // A ring number's value set in the words that hold the list: the list goes through a join whole. Fewer words than numbers
 // hold no list.
 pub fn rejoin(rings: &mut [u32], number: usize, value: u32)
     requires { number < ring_number_count }
     ensures { rings.new ≡ slice_set rings.old number value }
 {
-    if rings.len() < RING_NUMBER_COUNT {
+    let Some(held) = rings.first_chunk_mut::<RING_NUMBER_COUNT>() else {
         table::poke(rings, number, value);
         return;
-    }
-    let o = taken(rings);
-    let joined = o.join(number, value);
-    put_back(rings, joined)
+    };
+    let at = *held;
+    let joined = Opens { at }.join(number, value);
+    let at = joined.at;
+    *held = at;
 }

@@ -13,18 +13,19 @@ use Rattle.feature.specs.declared.bond_kind.BondKind.TheVariants.{Elided, Single
 use Rattle.read_token.specs.Scan.{peek_at, digit_of, digit_at, missing_at, bracket_at, aromatic_of, aliphatic_of, wanted_at, optional_at, organic_at, star_at, or_else, other_at, atom_at, sign_kind, mark_width, bond_at, percent_at, rnum_at}
 use Rattle.table.specs.Limits.{lesser_of}
 use Rattle.read_line.specs.Parse.{led_at, body_of, body_at, miss_p, found_p, atom_p, ring_p, union_by, union_p, unit_by, unit_p, line_p, close_p, branch_p, bodies, end_p, parse}
-use Rattle.builder.specs.declared.build.Built.TheVariants as built
+use Rattle.std.specs.Prelude.{Err}
+use Rattle.builder.specs.declared.build.BuildError.TheVariants as built
 use Rattle.builder_meaning.specs.Sketch.{To, Failed, Sketch, edge, node, next_number, count_of, upd, edges_at, add_edge, waits, open_kind, fill_edges, fill, lookup, ring_freed, root_s, bonded_s, extend_s, opened_s, closed_s, first_of, ring_s, join_s, judged_s, enter_s, number_s, step_s, run_s, sketch_of, open_here, open_in, first_open_s, rings_say, says_s, finish_s, leads, is_edge_to, bonds_to, BothEnds}
 
 abbrev carbon : AtomKind
 carbon = Aliphatic 1
 
 -- 3 with 2 and 0
-kinds_fail : finish_s (sketch_of (bytes "C=1CC#1") 60 60) ≡ built.Join 2 0
+kinds_fail : finish_s (sketch_of (bytes "C=1CC#1") 60 60) ≡ Err (built.Join 2 0)
 unfolding peek_at digit_of digit_at missing_at bracket_at aromatic_of aliphatic_of wanted_at optional_at organic_at star_at or_else other_at atom_at sign_kind mark_width bond_at percent_at rnum_at lesser_of led_at body_of body_at miss_p found_p atom_p ring_p union_by union_p unit_by unit_p line_p close_p branch_p bodies end_p parse sketch_of run_s step_s enter_s number_s root_s extend_s bonded_s join_s ring_s opened_s closed_s first_of next_number count_of upd add_edge edges_at open_kind waits fill_edges fill lookup ring_freed invert_of reverse_of reconcile_of is_directional code_of open_here open_in first_open_s rings_say says_s finish_s
 kinds_fail = refl
 
-directions_fail : finish_s (sketch_of (bytes "C/1CC/1") 60 60) ≡ built.Join 2 0
+directions_fail : finish_s (sketch_of (bytes "C/1CC/1") 60 60) ≡ Err (built.Join 2 0)
 unfolding peek_at digit_of digit_at missing_at bracket_at aromatic_of aliphatic_of wanted_at optional_at organic_at star_at or_else other_at atom_at sign_kind mark_width bond_at percent_at rnum_at lesser_of led_at body_of body_at miss_p found_p atom_p ring_p union_by union_p unit_by unit_p line_p close_p branch_p bodies end_p parse sketch_of run_s step_s enter_s number_s root_s extend_s bonded_s join_s ring_s opened_s closed_s first_of next_number count_of upd add_edge edges_at open_kind waits fill_edges fill lookup ring_freed invert_of reverse_of reconcile_of is_directional code_of open_here open_in first_open_s rings_say says_s finish_s
 directions_fail = refl
 
@@ -34,7 +35,7 @@ unfolding peek_at digit_of digit_at missing_at bracket_at aromatic_of aliphatic_
 counted_on = refl
 
 -- 4 with 1
-left_open : finish_s (sketch_of (bytes "C12CC1") 60 60) ≡ built.Rnum 1
+left_open : finish_s (sketch_of (bytes "C12CC1") 60 60) ≡ Err (built.Rnum 1)
 unfolding peek_at digit_of digit_at missing_at bracket_at aromatic_of aliphatic_of wanted_at optional_at organic_at star_at or_else other_at atom_at sign_kind mark_width bond_at percent_at rnum_at lesser_of led_at body_of body_at miss_p found_p atom_p ring_p union_by union_p unit_by unit_p line_p close_p branch_p bodies end_p parse sketch_of run_s step_s enter_s number_s root_s extend_s bonded_s join_s ring_s opened_s closed_s first_of next_number count_of upd add_edge edges_at open_kind waits fill_edges fill lookup ring_freed invert_of reverse_of reconcile_of is_directional code_of open_here open_in first_open_s rings_say says_s finish_s
 left_open = refl
 

@@ -8,10 +8,9 @@ use Rattle.feature.specs.Text.{byte}
 use Rattle.feature.specs.declared.bond_kind.BondKind.{BondKind}
 use Rattle.feature.proofs.Cases.{by_either}
 use Rattle.read_token.specs.Scan.{peek_at, atom_at, rnum_at}
-use Rattle.read_token.specs.declared.scanner.Found.{Found}
-use Rattle.read_token.specs.declared.scanner.Found.TheVariants.{Atom, Nothing, Lacks}
-use Rattle.read_token.specs.declared.read_rnum.Ring.{Ring}
-use Rattle.read_token.specs.declared.read_rnum.Ring.TheVariants as ring
+use Rattle.std.specs.Prelude.{Err, None, Ok, Some}
+use Rattle.read_token.specs.Scan.{Ring}
+use Rattle.read_token.specs.Scan.{Found}
 use Rattle.read_token.proofs.Within.{ring_in}
 use Rattle.table.specs.Limits.{branch_limit}
 use Rattle.read_line.specs.declared.lead.Lead.{Lead}
@@ -32,9 +31,9 @@ miss_ok s at = (tt, tt)
 module _ (s : List ℕ) (k : Rest) (ok : OkRest k) where
   found_ok : (at : ℕ) (l : Lead) (n : ℕ) (f : Found) → AllOk (found_p s at l n k f)
   unfolding found_p
-  found_ok at l n (Atom kind next) = (tt, ok next (n + 1))
-  found_ok at l n Nothing = miss_ok s at
-  found_ok at l n (Lacks m) = (tt, tt)
+  found_ok at l n (Ok (Some (kind, next))) = (tt, ok next (n + 1))
+  found_ok at l n (Ok None) = miss_ok s at
+  found_ok at l n (Err m) = (tt, tt)
 
   atom_ok : (at : ℕ) (l : Lead) (n : ℕ) → AllOk (atom_p s at l n k)
   unfolding atom_p
@@ -42,15 +41,15 @@ module _ (s : List ℕ) (k : Rest) (ok : OkRest k) where
 
   ring_ok : (at : ℕ) (e : BondKind) (n : ℕ) (r : Ring) → rnum_at s at ≡ r → AllOk (ring_p s at e n k r)
   unfolding ring_p
-  ring_ok at e n (ring.Number r next) q = ((ring_in s at q).0, ok next n)
-  ring_ok at e n ring.Nothing q = miss_ok s at
-  ring_ok at e n (ring.Lacks m) q = (tt, tt)
+  ring_ok at e n (Ok (Some (r, next))) q = ((ring_in s at q).0, ok next n)
+  ring_ok at e n (Ok None) q = miss_ok s at
+  ring_ok at e n (Err m) q = (tt, tt)
 
   union_by_lem : (at : ℕ) (e : BondKind) (n : ℕ) (f : Found) → AllOk (union_by s at e n k f)
   unfolding union_by
-  union_by_lem at e n (Atom kind next) = (tt, ok next (n + 1))
-  union_by_lem at e n Nothing = ring_ok at e n (rnum_at s at) refl
-  union_by_lem at e n (Lacks m) = (tt, tt)
+  union_by_lem at e n (Ok (Some (kind, next))) = (tt, ok next (n + 1))
+  union_by_lem at e n (Ok None) = ring_ok at e n (rnum_at s at) refl
+  union_by_lem at e n (Err m) = (tt, tt)
 
   unit_by_lem : (at n : ℕ) (l : Lead) → AllOk (unit_by s at n k l)
   unfolding unit_by union_p
@@ -59,7 +58,7 @@ module _ (s : List ℕ) (k : Rest) (ok : OkRest k) where
 
   unit_ok : (at n : ℕ) → AllOk (unit_p s at n k)
   unfolding unit_p
-  unit_ok at n = unit_by_lem (led_at s at).next n (led_at s at).lead
+  unit_ok at n = unit_by_lem (led_at s at).next n (led_at s at).value
 
 close_ok : (s : List ℕ) (k : ℕ → List ReadEvent) → ((at : ℕ) → AllOk (k at)) → OkRest (close_p s k)
 unfolding close_p
@@ -73,7 +72,7 @@ branch_ok : (more : ℕ → ℕ → ℕ → Rest → List ReadEvent) (s : List �
 unfolding branch_p
 branch_ok more s m at room k ok =
     by_either AllOk (eqb room 0) (tt, tt)
-    (line_ok (more (room - 1)) s (close_p s k) (λ at' n'. m (room - 1) at' n' (close_p s k) (close_ok s k ok)) (led_at s (at + 1)).next (led_at s (at + 1)).lead)
+    (line_ok (more (room - 1)) s (close_p s k) (λ at' n'. m (room - 1) at' n' (close_p s k) (close_ok s k ok)) (led_at s (at + 1)).next (led_at s (at + 1)).value)
 
 bodies_ok : (f : ℕ) (s : List ℕ) (room at n : ℕ) (k : Rest) → OkRest k → AllOk (bodies f s room at n k)
 unfolding bodies

@@ -7,9 +7,10 @@ use native.Mathlib.Omega.{arith}
 use lib.ListN.{length, take}
 use lib.Seq.{sets}
 use Rattle.table.specs.Records.{atom_words, bond_words}
-use Rattle.builder.specs.State.{Bld, unclosed, entry_words}
-use Rattle.builder.specs.declared.build.Built.{Built}
-use Rattle.builder.specs.declared.build.Built.TheVariants as built
+use Rattle.builder.specs.State.{Bld, unclosed, entry_words, failed_join}
+use Rattle.std.specs.Prelude.{Err, Ok}
+use Rattle.builder.specs.Build.{Built}
+use Rattle.builder.specs.declared.build.BuildError.TheVariants as built
 use Rattle.table.specs.Zeros.{zeroed}
 use Rattle.builder.specs.Build.{upto, tallied, first_open, Tables, tables, BuildOutcome, build_of, entries_told}
 use Rattle.builder.specs.Steps.{degree, Sources, BuildReady}
@@ -17,7 +18,7 @@ use Rattle.builder.proofs.Degrees.{tallied_length, words_kept, upto_length}
 use Rattle.builder.proofs.Laws.{built_failed, total, degree_at_lem, built_done, built_open}
 use Rattle.builder_meaning.specs.Sketch.{Node, Failure, None, Failed, Sketch, first_open_s, rings_say, says_s, finish_s, atom_table, bond_table, padded, left_s}
 use Rattle.builder_meaning.proofs.Rows.{edges_of, flat}
-use Rattle.builder_meaning.proofs.Same.{has_failed, closer_of, opener_of, Same}
+use Rattle.builder_meaning.proofs.Same.{has_failed, failure_in, Same}
 use Rattle.builder_meaning.proofs.Tables.{degree_rows, sources_rows, bonds_upto, laid_padded, words_table, LowNodes, low_rows, open_word, found_rows}
 
 -- what a build says of some atoms, and what it leaves in tables of these lengths
@@ -32,12 +33,12 @@ module _ (b : Bld) (d : Sketch) (same : Same b d) (bonds starts : List ℕ) (wid
 
   -- a join failed
   says_failed : (x y : ℕ) → d.failure ≡ Failed x y → Says (build_of lent b.entries b.st) (says_s (Failed x y) d.nodes) d.nodes (length b.atoms) (length bonds)
-  unfolding says_s left_s has_failed closer_of opener_of
+  unfolding says_s left_s failure_in
   says_failed x y e =
-      subst (λ (o : BuildOutcome). Says o (built.Join x y) d.nodes (length b.atoms) (length bonds))
-      (sym (built_failed lent b.entries b.st (same.state.failed ∙ ap has_failed e)))
+      subst (λ (o : BuildOutcome). Says o (Err (built.Join x y)) d.nodes (length b.atoms) (length bonds))
+      (sym (built_failed lent b.entries b.st (failed_join x y) (same.state.failed ∙ ap failure_in e)))
       (record {
-        answer = ap₂ (λ (u v : ℕ). built.Join u v) (same.state.closing ∙ ap closer_of e) (same.state.opening ∙ ap opener_of e);
+        answer = refl;
         atoms = refl;
         bonds = refl;
       })
@@ -99,11 +100,11 @@ module _ (b : Bld) (d : Sketch) (same : Same b d) (bonds starts : List ℕ) (wid
         ∙ ap₂ (λ (m : ℕ) (ns : List Node). padded m (atom_table ns)) (tallied_length n es b.atoms) (sym same.entries.nodes)
 
     says_rings : (o : Option ℕ) → first_open_s d.nodes ≡ o → Says (build_of lent b.entries b.st) (rings_say o) d.nodes (length b.atoms) (length bonds)
-    unfolding rings_say left_s open_word has_failed
+    unfolding rings_say left_s open_word failure_in
     says_rings none e =
         let f : first_open (upto b.st.atoms (entries_told b.st b.entries)) ≡ 0 = found ∙ ap open_word e in
-        subst (λ (x : BuildOutcome). Says x built.Done d.nodes (length b.atoms) (length bonds))
-        (sym (built_done lent b.entries b.st ready (same.state.failed ∙ ap has_failed going) (omega (arith, f))))
+        subst (λ (x : BuildOutcome). Says x (Ok tt) d.nodes (length b.atoms) (length bonds))
+        (sym (built_done lent b.entries b.st ready (same.state.failed ∙ ap failure_in going) (omega (arith, f))))
         (record {
           answer = refl;
           atoms = atoms_are;
@@ -112,9 +113,9 @@ module _ (b : Bld) (d : Sketch) (same : Same b d) (bonds starts : List ℕ) (wid
     says_rings (some j) e =
         let f : first_open (upto b.st.atoms (entries_told b.st b.entries)) ≡ unclosed + j = found ∙ ap open_word e in
         let q : first_open (upto b.st.atoms (entries_told b.st b.entries)) - unclosed ≡ j = omega (arith, f) in
-        subst (λ (x : BuildOutcome). Says x (built.Rnum j) d.nodes (length b.atoms) (length bonds))
-        (sym (built_open lent b.entries b.st ready (same.state.failed ∙ ap has_failed going) (omega (arith, f))))
-        (record { answer = ap built.Rnum q; atoms = refl; bonds = refl })
+        subst (λ (x : BuildOutcome). Says x (Err (built.Rnum j)) d.nodes (length b.atoms) (length bonds))
+        (sym (built_open lent b.entries b.st ready (same.state.failed ∙ ap failure_in going) (omega (arith, f))))
+        (record { answer = ap (λ (x : ℕ). Err (built.Rnum x)) q; atoms = refl; bonds = refl })
 
   says_by : (f : Failure) → d.failure ≡ f → Says (build_of lent b.entries b.st) (says_s f d.nodes) d.nodes (length b.atoms) (length bonds)
   unfolding says_s

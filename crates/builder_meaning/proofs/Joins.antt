@@ -1,9 +1,10 @@
 -- A ring number keeps tables and sketch the same. Assumes nothing.
 use Prim.Native.Nat.{ℕ, ◌+◌, ◌*◌, ◌<◌, ◌≤◌}
-use mathlib.Core.Path.{◌≡◌, refl, ◌∙◌, ap, sym, subst}
+use Rattle.std.specs.Prelude as std
+use Rattle.builder.specs.declared.builder.FailedJoin.{FailedJoin}
+use mathlib.Core.Path.{◌≡◌, refl, ◌∙◌, ap, sym, subst, ap₂}
 use mathlib.Core.List.{List, [], ◌∷◌, ◌++◌}
 use mathlib.Core.Option.{Option, none, some}
-use mathlib.Core.Bool.{Bool, true}
 use native.Mathlib.Omega.{arith}
 use lib.ListN.{length, get_or, set, length-set}
 use lib.Seq.{sets, length-sets, get_or_at, get_or-take}
@@ -12,19 +13,18 @@ use borrow.Author.Tests.{ltb-false, eq-eqb, ne_eqb}
 use Rattle.feature.specs.Pick.{pick}
 use Rattle.feature.specs.Bonds.{code_of, kind_of, reconcile_of, sure_kind}
 use Rattle.feature.specs.declared.bond_kind.BondKind.{BondKind}
-use Rattle.feature.specs.declared.bond_kind.Reconciled.{Reconciled}
-use Rattle.feature.specs.declared.bond_kind.Reconciled.TheVariants.{Both, Fails}
+use Rattle.std.specs.Prelude.{Some}
 use Rattle.desk_numbers.specs.Numbers.{bond_room, no_atom}
 use Rattle.feature.proofs.Bonds.{sure_code, Reversed, reconciled}
 use Rattle.feature.proofs.Cases.{impossible}
 use Rattle.table.specs.Limits.{ring_number_count}
-use Rattle.builder.specs.State.{Bld, bld, state, unclosed, entry_words, entry_list, refuse, joined_st, failed_st, last_of, opened_of, opened_at, opening_of, opening_kind, closed_by, join_of}
+use Rattle.builder.specs.State.{Bld, bld, failed_join, broken_st, unclosed, entry_words, entry_list, refuse, joined_st, failed_st, last_of, opened_of, opened_at, opening_of, opening_kind, closed_by, join_of}
 use Rattle.builder.specs.declared.builder.Builder.{Builder}
 use Rattle.builder.proofs.Joins.{first_failed, again_failed}
 use Rattle.builder_meaning.specs.Sketch.{To, Open, Node, Held, Failure, None, Failed, Sketch, edge, held, joined, first_of, broken, count_of, upd, edges_at, add_edge, open_kind, fill, lookup, ring_freed, opened_s, closed_s, ring_s, join_s, target_of}
 use Rattle.builder_meaning.proofs.Rows.{Row, row, no_row, edges_of, flat, edges_at_lem, Opened, opened_kind, flat_source, flat_kind}
 use Rattle.builder_meaning.proofs.Twins.{Twins, twins_open, twins_close}
-use Rattle.builder_meaning.proofs.Same.{Way, At, Ring, Rings, Entries, has_failed, closer_of, opener_of, Same}
+use Rattle.builder_meaning.proofs.Same.{Way, At, Ring, Rings, Entries, failure_in, Same}
 use Rattle.builder_meaning.proofs.Parts.{snoc_length, entries_push, entries_fill, way_none, way_some, Current}
 use Rattle.builder_meaning.proofs.RingNumbers.{ring_within, rings_later, rings_push, rings_hold, rings_free, rings_fill, rings_opened, rings_alone}
 use Rattle.builder_meaning.proofs.Steps.{both_ways, room_kept, same_refuse, tight_same, last_is}
@@ -44,8 +44,6 @@ module _ (b : Bld) (d : Sketch) (same : Same b d) (whole : d.unseen ≡ 0) where
           slots = s.slots;
           atoms = s.atoms;
           failed = s.failed;
-          closing = s.closing;
-          opening = s.opening;
           seen = s.seen;
           fits = s.fits;
           entries = omega (arith, s.entries);
@@ -128,8 +126,8 @@ module _ (b : Bld) (d : Sketch) (same : Same b d) (whole : d.unseen ≡ 0) where
       freed : Rings same.rows (set b.rings n 0) (ring_freed n d.opens) d.joins
       freed = rings_free same.rows b.rings d.opens d.joins same.rings n low same.room.rings
 
-      broken_same : (c : Bool) (x y : ℕ) → c ≡ has_failed (first_of d.failure s h.atom) → x ≡ closer_of (first_of d.failure s h.atom) → y ≡ opener_of (first_of d.failure s h.atom) → Same (bld b.atoms b.entries b.path (set b.rings n 0) (state b.st.refusal b.st.carried b.st.places b.st.slots b.st.atoms b.st.entries b.st.top (b.st.joins + 1) c x y)) (broken d (ring_freed n d.opens) s h.atom)
-      broken_same c x y ec ex ey =
+      broken_same : (f : std.Option FailedJoin) → f ≡ failure_in (first_of d.failure s h.atom) → Same (bld b.atoms b.entries b.path (set b.rings n 0) (broken_st b.st f)) (broken d (ring_freed n d.opens) s h.atom)
+      broken_same f is =
           let st = same.state in
           record {
             kinds = same.kinds;
@@ -144,9 +142,7 @@ module _ (b : Bld) (d : Sketch) (same : Same b d) (whole : d.unseen ≡ 0) where
               fits = st.fits;
               holds = st.holds;
               joins = omega (arith, st.joins);
-              failed = ec;
-              closing = ex;
-              opening = ey;
+              failed = is;
               seen = λ e. whole;
             };
             atoms = same.atoms;
@@ -158,22 +154,22 @@ module _ (b : Bld) (d : Sketch) (same : Same b d) (whole : d.unseen ≡ 0) where
           }
 
       same_broken : (f : Failure) → d.failure ≡ f → Same (bld b.atoms b.entries b.path (set b.rings n 0) (failed_st b.st (last_of b) (opening_of b n))) (broken d (ring_freed n d.opens) s h.atom)
-      unfolding has_failed closer_of opener_of first_of
+      unfolding failure_in first_of
       same_broken None e =
           let now : first_of d.failure s h.atom ≡ Failed s h.atom = ap (λ (g : Failure). first_of g s h.atom) e in
           subst (λ (x : Builder). Same (bld b.atoms b.entries b.path (set b.rings n 0) x) (broken d (ring_freed n d.opens) s h.atom))
-          (first_failed b.st (last_of b) (opening_of b n) (same.state.failed ∙ ap has_failed e))
-          (broken_same true (last_of b) (opening_of b n) (sym (ap has_failed now)) (current_is ∙ sym (ap closer_of now)) (opening_is ∙ sym (ap opener_of now)))
+          (first_failed b.st (last_of b) (opening_of b n) (ap std.is_some (same.state.failed ∙ ap failure_in e)))
+          (broken_same (std.Some (failed_join (last_of b) (opening_of b n))) (ap₂ (λ (x y : ℕ). std.Some (failed_join x y)) current_is opening_is ∙ sym (ap failure_in now)))
       same_broken (Failed v w) e =
           let kept : d.failure ≡ first_of d.failure s h.atom = e ∙ sym (ap (λ (g : Failure). first_of g s h.atom) e) in
           subst (λ (x : Builder). Same (bld b.atoms b.entries b.path (set b.rings n 0) x) (broken d (ring_freed n d.opens) s h.atom))
-          (again_failed b.st (last_of b) (opening_of b n) (same.state.failed ∙ ap has_failed e))
-          (broken_same b.st.failed b.st.closing b.st.opening (same.state.failed ∙ ap has_failed kept) (same.state.closing ∙ ap closer_of kept) (same.state.opening ∙ ap opener_of kept))
+          (again_failed b.st (last_of b) (opening_of b n) (ap std.is_some (same.state.failed ∙ ap failure_in e)))
+          (broken_same b.st.failed (same.state.failed ∙ ap failure_in kept))
 
-      same_closed : (q : Reconciled) → Reversed q → Same (closed_by b n place q) (closed_s d n place s h q)
+      same_closed : (q : std.Option (BondKind × BondKind)) → Reversed q → Same (closed_by b n place q) (closed_s d n place s h q)
       unfolding closed_by closed_s target_of
-      same_closed Fails back = same_broken d.failure refl
-      same_closed (Both l r) back =
+      same_closed std.None back = same_broken d.failure refl
+      same_closed (Some (l, r)) back =
           both_ways Same (ltb b.st.slots (b.st.entries + 1)) (ltb d.slots (count_of d.nodes + 1)) (tight_same b d same whole 1)
           (λ u. same_refuse b d same bond_room place place refl)
           (λ u.

@@ -1,5 +1,6 @@
 -- A run of events keeps tables and sketch the same, from the start on. Assumes nothing.
 use Prim.Native.Nat.{ℕ, ◌<◌}
+use Rattle.std.specs.Prelude.{is_some}
 use mathlib.Core.Path.{◌≡◌, refl, ◌∙◌, ap, sym, subst}
 use mathlib.Core.List.{List, [], ◌∷◌}
 use mathlib.Core.Bool.{Bool, true}
@@ -9,8 +10,8 @@ use lib.Dec.{eqb}
 use Rattle.feature.specs.Pick.{pick}
 use Rattle.feature.specs.Kinds.{invert_of}
 use Rattle.feature.specs.declared.atom_kind.AtomKind.{AtomKind}
-use Rattle.feature.specs.declared.atom_kind.Inverted.{Inverted}
-use Rattle.feature.specs.declared.atom_kind.Inverted.TheVariants.{Turned, Refused}
+use Rattle.std.specs.Prelude as std
+use Rattle.std.specs.Prelude.{Option, Some}
 use Rattle.feature.specs.declared.bond_kind.BondKind.{BondKind}
 use Rattle.desk_numbers.specs.Numbers.{inversion, end_of_line, character, nesting}
 use Rattle.feature.proofs.Cases.{impossible}
@@ -23,7 +24,7 @@ use Rattle.read_line.specs.declared.lead.Lead.TheVariants.{Dot, Bond}
 use Rattle.read_line.specs.Events.{ReadEvent, Enter, Join, Pop, Miss, Nest, on, counted_st, mark_judged, unstored_of, led_of, enter_of, ring_of, missing_st, step, run}
 use Rattle.builder_meaning.specs.Sketch.{Failure, None, Failed, Sketch, start_s, atom_passed, next_number, count_of, bonds_to, lookup, judged_s, enter_s, number_s, missed_s, step_s, run_s}
 use Rattle.builder_meaning.proofs.Rows.{edges_of, flat, nodes_of}
-use Rattle.builder_meaning.proofs.Same.{lastly, has_failed, closer_of, opener_of, Room, Same}
+use Rattle.builder_meaning.proofs.Same.{lastly, has_failed, failure_in, Room, Same}
 use Rattle.builder_meaning.proofs.Steps.{both_ways, number_is, same_refuse, same_pop, same_root, same_extend}
 use Rattle.builder_meaning.proofs.Joins.{same_join}
 
@@ -39,10 +40,15 @@ abbrev pub AllOk : List ReadEvent → Type 0
 AllOk [] = Unit {0}
 AllOk (e ∷ es) = Ok e × AllOk es
 
+fails : (f : Failure) → is_some (failure_in f) ≡ has_failed f
+unfolding failure_in has_failed
+fails None = refl
+fails (Failed x y) = refl
+
 module _ (b : Bld) (d : Sketch) (same : Same b d) where
   -- what has failed, at a known failure
-  failed_is : (f : Failure) → d.failure ≡ f → b.st.failed ≡ has_failed f
-  failed_is f e = same.state.failed ∙ ap has_failed e
+  failed_is : (f : Failure) → d.failure ≡ f → is_some b.st.failed ≡ has_failed f
+  failed_is f e = ap is_some (same.state.failed ∙ ap failure_in e) ∙ fails f
 
   -- after a failure an atom is only counted
   module _ (x y : ℕ) (broke : d.failure ≡ Failed x y) where
@@ -61,8 +67,6 @@ module _ (b : Bld) (d : Sketch) (same : Same b d) where
             entries = s.entries;
             joins = s.joins;
             failed = s.failed;
-            closing = s.closing;
-            opening = s.opening;
             fits = s.fits;
             holds = s.holds;
             atoms = omega (arith, s.atoms);
@@ -76,10 +80,10 @@ module _ (b : Bld) (d : Sketch) (same : Same b d) where
           room = same.room;
         }
 
-    same_judged : (t : Inverted) → Same (on b (mark_judged b.st t)) (judged_s d t)
+    same_judged : (t : Option AtomKind) → Same (on b (mark_judged b.st t)) (judged_s d t)
     unfolding mark_judged judged_s refuse
-    same_judged Refused = same_refuse b d same inversion b.st.atoms (next_number d) (number_is b d same)
-    same_judged (Turned k) = same_passed
+    same_judged std.None = same_refuse b d same inversion b.st.atoms (next_number d) (number_is b d same)
+    same_judged (Some k) = same_passed
 
     same_numb : (l : Lead) (k : AtomKind) (place : ℕ) → Same (on b (unstored_of b.st l k)) (enter_s d l k place (Failed x y))
     unfolding unstored_of enter_s
@@ -134,7 +138,7 @@ same_run b d (e ∷ es) same ok =
 
 -- tables with room, the atoms and the ring numbers all zeros
 pub same_start : (places slots : ℕ) (a e p r : List ℕ) → Room places slots a e p r → ((i : ℕ) → get_or a i 0 ≡ 0) → ((n : ℕ) → n < ring_number_count → get_or r n 0 ≡ 0) → Same (bld a e p r (fresh_builder places slots)) (start_s places slots)
-unfolding nodes_of edges_of flat count_of bonds_to lookup lastly has_failed closer_of opener_of
+unfolding nodes_of edges_of flat count_of bonds_to lookup lastly has_failed failure_in
 same_start places slots a e p r room blank free =
     record {
       kinds = [];
@@ -148,8 +152,6 @@ same_start places slots a e p r room blank free =
         entries = refl;
         joins = refl;
         failed = refl;
-        closing = refl;
-        opening = refl;
         seen = λ q. refl;
         fits = omega arith;
         holds = omega arith;

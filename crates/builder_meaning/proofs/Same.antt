@@ -12,7 +12,9 @@ use Rattle.feature.specs.declared.bond_kind.BondKind.{BondKind}
 use Rattle.table.specs.Records.{atom_words}
 use Rattle.packing.specs.Words.{words_of}
 use Rattle.table.specs.Limits.{atom_limit, bond_limit, ring_number_count}
-use Rattle.builder.specs.State.{Bld, entry_words}
+use Rattle.std.specs.Prelude as std
+use Rattle.builder.specs.State.{Bld, entry_words, failed_join}
+use Rattle.builder.specs.declared.builder.FailedJoin.{FailedJoin}
 use Rattle.builder.specs.declared.builder.Builder.{Builder}
 use Rattle.builder_meaning.specs.Sketch.{To, Open, Node, Held, Failure, None, Failed, Sketch, count_of, lookup}
 use Rattle.builder_meaning.proofs.Rows.{Row, row, no_row, edges_of, flat, nodes_of}
@@ -72,13 +74,10 @@ unfoldable pub has_failed : Failure → Bool
 has_failed None = false
 has_failed (Failed x y) = true
 
-unfoldable pub closer_of : Failure → ℕ
-closer_of None = 0
-closer_of (Failed x y) = x
-
-unfoldable pub opener_of : Failure → ℕ
-opener_of None = 0
-opener_of (Failed x y) = y
+-- as a builder remembers it
+unfoldable pub failure_in : Failure → std.Option FailedJoin
+failure_in None = std.None
+failure_in (Failed x y) = std.Some (failed_join x y)
 
 -- with n atoms and m entries held
 pub record Numbers (s : Builder) (d : Sketch) (n m : ℕ) : Type 0 where
@@ -89,9 +88,7 @@ pub record Numbers (s : Builder) (d : Sketch) (n m : ℕ) : Type 0 where
   pub atoms : s.atoms ≡ n + d.unseen
   pub entries : s.entries ≡ m
   pub joins : s.joins ≡ d.joins
-  pub failed : s.failed ≡ has_failed d.failure
-  pub closing : s.closing ≡ closer_of d.failure
-  pub opening : s.opening ≡ opener_of d.failure
+  pub failed : s.failed ≡ failure_in d.failure
   pub seen : has_failed d.failure ≡ false → d.unseen ≡ 0
   pub fits : n ≤ d.places
   pub holds : m ≤ d.slots

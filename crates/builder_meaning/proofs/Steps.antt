@@ -12,8 +12,7 @@ use Rattle.feature.specs.Pick.{pick}
 use Rattle.feature.specs.Kinds.{invert_of}
 use Rattle.feature.specs.Bonds.{code_of, reverse_of}
 use Rattle.feature.specs.declared.atom_kind.AtomKind.{AtomKind}
-use Rattle.feature.specs.declared.atom_kind.Inverted.{Inverted}
-use Rattle.feature.specs.declared.atom_kind.Inverted.TheVariants.{Turned, Refused}
+use Rattle.std.specs.Prelude.{None, Option, Some}
 use Rattle.feature.specs.declared.bond_kind.BondKind.{BondKind}
 use Rattle.desk_numbers.specs.Numbers.{atom_room, inversion, no_atom, bond_room}
 use Rattle.feature.proofs.Cases.{impossible}
@@ -71,8 +70,6 @@ module _ (b : Bld) (d : Sketch) (same : Same b d) where
           entries = s.entries;
           joins = s.joins;
           failed = s.failed;
-          closing = s.closing;
-          opening = s.opening;
           seen = s.seen;
           fits = s.fits;
           holds = s.holds;
@@ -102,8 +99,6 @@ module _ (b : Bld) (d : Sketch) (same : Same b d) where
           entries = s.entries;
           joins = s.joins;
           failed = s.failed;
-          closing = s.closing;
-          opening = s.opening;
           seen = s.seen;
           fits = s.fits;
           holds = s.holds;
@@ -140,8 +135,6 @@ module _ (b : Bld) (d : Sketch) (same : Same b d) where
             slots = s.slots;
             joins = s.joins;
             failed = s.failed;
-            closing = s.closing;
-            opening = s.opening;
             seen = s.seen;
             atoms = omega (arith, s.atoms, grew);
             entries = count;
@@ -179,10 +172,10 @@ module _ (b : Bld) (d : Sketch) (same : Same b d) where
       below_more : (k : AtomKind) → s < length (same.kinds ++ (k ∷ []))
       below_more k = omega (arith, snoc_length same.kinds k, current.below)
 
-      pub same_bonded : (e : BondKind) (t : Inverted) → b.st.atoms < b.st.places → b.st.entries + 2 ≤ b.st.slots → Same (extended_by b e t) (bonded_s d e s t)
+      pub same_bonded : (e : BondKind) (t : Option AtomKind) → b.st.atoms < b.st.places → b.st.entries + 2 ≤ b.st.slots → Same (extended_by b e t) (bonded_s d e s t)
       unfolding extended_by bonded_s bonded add_edge target_of
-      same_bonded e Refused free room = same_refuse inversion b.st.atoms (next_number d) number_is
-      same_bonded e (Turned k) free room =
+      same_bonded e None free room = same_refuse inversion b.st.atoms (next_number d) number_is
+      same_bonded e (Some k) free room =
           let there = row s e (To (next_number d)) in
           let back = row (next_number d) (reverse_of e) (To s) in
           let ks = same.kinds ++ (k ∷ []) in

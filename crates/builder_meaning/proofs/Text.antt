@@ -1,5 +1,6 @@
 -- A text read into tables: the state that its events leave, and the build of it, say what its sketch says. Assumes nothing.
 use Prim.Native.Nat.{ℕ, ◌+◌, ◌*◌, ◌/◌, ◌<◌, ◌≤◌}
+use Rattle.std.specs.Prelude.{is_some}
 use mathlib.Core.Path.{◌≡◌, refl, ◌∙◌, sym, subst}
 use mathlib.Core.List.{List, [], ◌∷◌}
 use native.Mathlib.Omega.{arith}
@@ -9,11 +10,8 @@ use lib.Dec.{ltb, leb, eqb}
 use Rattle.feature.specs.Kinds.{invert_of}
 use Rattle.feature.specs.Bonds.{reconcile_of}
 use Rattle.feature.specs.declared.atom_kind.AtomKind.{AtomKind}
-use Rattle.feature.specs.declared.atom_kind.Inverted.{Inverted}
-use Rattle.feature.specs.declared.atom_kind.Inverted.TheVariants.{Turned, Refused}
+use Rattle.std.specs.Prelude.{None, Option, Some}
 use Rattle.feature.specs.declared.bond_kind.BondKind.{BondKind}
-use Rattle.feature.specs.declared.bond_kind.Reconciled.{Reconciled}
-use Rattle.feature.specs.declared.bond_kind.Reconciled.TheVariants.{Both, Fails}
 use Rattle.feature.proofs.Cases.{by_either}
 use Rattle.read_token.specs.declared.scanner.Missing.{Missing}
 use Rattle.read_token.specs.declared.scanner.Missing.TheVariants.{EndOfLine, Character}
@@ -53,10 +51,10 @@ module _ (n l : ℕ) (b : Bld) (kept : Kept n l b) where
       by_either (Kept n l) (leb b.st.places b.st.atoms) (refuse_kept _ _)
       (record { atoms = length-sets b.atoms (b.st.atoms * atom_words) (list_of k) ∙ kept.atoms; slots = kept.slots })
 
-  extended_kept : (e : BondKind) (t : Inverted) → Kept n l (extended_by b e t)
+  extended_kept : (e : BondKind) (t : Option AtomKind) → Kept n l (extended_by b e t)
   unfolding extended_by entered bonded
-  extended_kept e Refused = refuse_kept _ _
-  extended_kept e (Turned k) =
+  extended_kept e None = refuse_kept _ _
+  extended_kept e (Some k) =
       record { atoms = length-sets b.atoms (b.st.atoms * atom_words) (list_of k) ∙ kept.atoms; slots = kept.slots }
 
   extend_kept : (e : BondKind) (k : AtomKind) (place : ℕ) → Kept n l (extend_of b e k place)
@@ -68,12 +66,12 @@ module _ (n l : ℕ) (b : Bld) (kept : Kept n l b) where
 
   failed_kept : (x y : ℕ) → (failed_st b.st x y).slots ≡ l
   unfolding failed_st
-  failed_kept x y = by_either (λ (t : Builder). t.slots ≡ l) b.st.failed kept.slots kept.slots
+  failed_kept x y = by_either (λ (t : Builder). t.slots ≡ l) (is_some b.st.failed) kept.slots kept.slots
 
-  closed_kept : (m place : ℕ) (q : Reconciled) → Kept n l (closed_by b m place q)
+  closed_kept : (m place : ℕ) (q : Option (BondKind × BondKind)) → Kept n l (closed_by b m place q)
   unfolding closed_by
-  closed_kept m place Fails = record { atoms = kept.atoms; slots = failed_kept (last_of b) (opening_of b m) }
-  closed_kept m place (Both x y) =
+  closed_kept m place None = record { atoms = kept.atoms; slots = failed_kept (last_of b) (opening_of b m) }
+  closed_kept m place (Some (x, y)) =
       by_either (Kept n l) (ltb b.st.slots (b.st.entries + 1)) (refuse_kept _ _)
       (record { atoms = kept.atoms; slots = kept.slots })
 
@@ -90,10 +88,10 @@ module _ (n l : ℕ) (b : Bld) (kept : Kept n l b) where
   led_kept Dot k place = root_kept k place
   led_kept (Bond e) k place = extend_kept e k place
 
-  judged_kept : (t : Inverted) → (mark_judged b.st t).slots ≡ l
+  judged_kept : (t : Option AtomKind) → (mark_judged b.st t).slots ≡ l
   unfolding mark_judged
-  judged_kept Refused = kept.slots
-  judged_kept (Turned k) = kept.slots
+  judged_kept None = kept.slots
+  judged_kept (Some k) = kept.slots
 
   numb_kept : (x : Lead) (k : AtomKind) → (unstored_of b.st x k).slots ≡ l
   unfolding unstored_of
@@ -108,8 +106,8 @@ module _ (n l : ℕ) (b : Bld) (kept : Kept n l b) where
   step_kept : (e : ReadEvent) → Kept n l (step b e)
   unfolding step enter_of ring_of pop_of
   step_kept (Enter x k place) =
-      by_either (Kept n l) b.st.failed (record { atoms = kept.atoms; slots = numb_kept x k }) (led_kept x k place)
-  step_kept (Join e m place) = by_either (Kept n l) b.st.failed kept (join_kept e m place)
+      by_either (Kept n l) (is_some b.st.failed) (record { atoms = kept.atoms; slots = numb_kept x k }) (led_kept x k place)
+  step_kept (Join e m place) = by_either (Kept n l) (is_some b.st.failed) kept (join_kept e m place)
   step_kept (Pop m) = record { atoms = kept.atoms; slots = kept.slots }
   step_kept (Miss m) = record { atoms = kept.atoms; slots = missing_kept m }
   step_kept (Nest place) = record { atoms = kept.atoms; slots = kept.slots }

@@ -15,12 +15,10 @@ use Rattle.feature.specs.Pick.{pick, both}
 use Rattle.feature.specs.Kinds.{invert_of}
 use Rattle.feature.specs.Bonds.{code_of, same_kind, reverse_of, reconcile_of}
 use Rattle.feature.specs.declared.atom_kind.AtomKind.{AtomKind}
-use Rattle.feature.specs.declared.atom_kind.Inverted.{Inverted}
-use Rattle.feature.specs.declared.atom_kind.Inverted.TheVariants.{Turned, Refused}
+use Rattle.std.specs.Prelude as std
+use Rattle.std.specs.Prelude.{Some}
 use Rattle.feature.specs.declared.bond_kind.BondKind.{BondKind}
 use Rattle.feature.specs.declared.bond_kind.BondKind.TheVariants.{Elided}
-use Rattle.feature.specs.declared.bond_kind.Reconciled.{Reconciled}
-use Rattle.feature.specs.declared.bond_kind.Reconciled.TheVariants.{Both, Fails}
 use Rattle.desk_numbers.specs.Numbers.{inversion, atom_room, bond_room, no_atom, end_of_line, character, nesting}
 use Rattle.read_token.specs.declared.scanner.Missing.{Missing}
 use Rattle.read_token.specs.declared.scanner.Missing.TheVariants.{EndOfLine, Character}
@@ -32,8 +30,9 @@ use Rattle.read_line.specs.declared.lead.Lead.{Lead}
 use Rattle.read_line.specs.declared.lead.Lead.TheVariants.{Dot, Bond}
 use Rattle.read_line.specs.Events.{ReadEvent, Enter, Join, Pop, Miss, Nest}
 use Rattle.read_line.specs.Parse.{parse}
-use Rattle.builder.specs.declared.build.Built.{Built}
-use Rattle.builder.specs.declared.build.Built.TheVariants as built
+use Rattle.std.specs.Prelude.{Err, Ok}
+use Rattle.builder.specs.Build.{Built}
+use Rattle.builder.specs.declared.build.BuildError.TheVariants as built
 
 -- ---- a graph in the making
 -- where a bond entry leads: to an atom, or nowhere yet, opened by the join of this number
@@ -194,9 +193,9 @@ root_s d k place =
     (atom_added d (d.nodes ++ (node k [] ∷ [])) (next_number d))
 
 -- a new atom bonded to the atom s, its mark judged
-unfoldable pub bonded_s : Sketch → BondKind → ℕ → Inverted → Sketch
-bonded_s d e s Refused = refused d inversion (next_number d)
-bonded_s d e s (Turned k) =
+unfoldable pub bonded_s : Sketch → BondKind → ℕ → std.Option AtomKind → Sketch
+bonded_s d e s std.None = refused d inversion (next_number d)
+bonded_s d e s (Some k) =
     atom_added d
     (upd s (add_edge (edge e (To (next_number d)))) d.nodes ++ (node k (edge (reverse_of e) (To s) ∷ []) ∷ []))
     (next_number d)
@@ -215,9 +214,9 @@ opened_s d e n s =
     joined d (upd s (add_edge (edge e (Open d.joins))) d.nodes) (held n s d.joins ∷ d.opens)
 
 -- an open one closes at s
-unfoldable pub closed_s : Sketch → ℕ → ℕ → ℕ → Held → Reconciled → Sketch
-closed_s d n place s h Fails = broken d (ring_freed n d.opens) s h.atom
-closed_s d n place s h (Both l r) =
+unfoldable pub closed_s : Sketch → ℕ → ℕ → ℕ → Held → std.Option (BondKind × BondKind) → Sketch
+closed_s d n place s h std.None = broken d (ring_freed n d.opens) s h.atom
+closed_s d n place s h (Some (l, r)) =
     pick (ltb d.slots (count_of d.nodes + 1)) (refused d bond_room place)
     (joined d
     (upd s (add_edge (edge r (To h.atom))) (upd h.atom (fill h.join l s) d.nodes))
@@ -237,9 +236,9 @@ join_s d e n place (s ∷ rest) = ring_s d e n place s (lookup n d.opens)
 
 -- ---- the events of a text
 -- an atom after a failure
-unfoldable pub judged_s : Sketch → Inverted → Sketch
-judged_s d Refused = refused d inversion (next_number d)
-judged_s d (Turned k) = atom_passed d
+unfoldable pub judged_s : Sketch → std.Option AtomKind → Sketch
+judged_s d std.None = refused d inversion (next_number d)
+judged_s d (Some k) = atom_passed d
 
 -- an atom, with what leads it in
 unfoldable pub enter_s : Sketch → Lead → AtomKind → ℕ → Failure → Sketch
@@ -291,12 +290,12 @@ first_open_s [] = none
 first_open_s (n ∷ ns) = open_in n.edges (first_open_s ns)
 
 unfoldable pub rings_say : Option ℕ → Built
-rings_say none = built.Done
-rings_say (some j) = built.Rnum j
+rings_say none = Ok tt
+rings_say (some j) = Err (built.Rnum j)
 
 unfoldable pub says_s : Failure → List Node → Built
 says_s None ns = rings_say (first_open_s ns)
-says_s (Failed x y) ns = built.Join x y
+says_s (Failed x y) ns = Err (built.Join x y)
 
 -- what a build says
 unfoldable pub finish_s : Sketch → Built
@@ -328,9 +327,9 @@ padded n t = t ++ replicate (n - length t) 0
 
 -- what a build leaves in a table of n words
 unfoldable pub left_s : Built → ℕ → List ℕ → List ℕ
-left_s built.Done n t = padded n t
-left_s (built.Join x y) n t = replicate n 0
-left_s (built.Rnum j) n t = replicate n 0
+left_s (Ok _) n t = padded n t
+left_s (Err (built.Join x y)) n t = replicate n 0
+left_s (Err (built.Rnum j)) n t = replicate n 0
 
 -- ---- bonds at both ends
 -- whether an entry is a bond of kind k to the atom t

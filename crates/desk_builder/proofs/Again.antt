@@ -9,15 +9,13 @@ use native.Mathlib.Omega.{arith}
 use lib.ListN.{get_or}
 use lib.Dec.{ltb, leb, eqb}
 use borrow.Author.Tests.{ltb-true}
+use Rattle.std.specs.Prelude.{is_some}
 use Rattle.feature.specs.Pick.{pick, both}
 use Rattle.feature.specs.Kinds.{in_range, invert_of}
 use Rattle.feature.specs.Bonds.{reconcile_of}
 use Rattle.feature.specs.declared.atom_kind.AtomKind.{AtomKind}
-use Rattle.feature.specs.declared.atom_kind.Inverted.{Inverted}
-use Rattle.feature.specs.declared.atom_kind.Inverted.TheVariants.{Turned, Refused}
+use Rattle.std.specs.Prelude.{None, Option, Some}
 use Rattle.feature.specs.declared.bond_kind.BondKind.{BondKind}
-use Rattle.feature.specs.declared.bond_kind.Reconciled.{Reconciled}
-use Rattle.feature.specs.declared.bond_kind.Reconciled.TheVariants.{Both, Fails}
 use Rattle.feature.proofs.Cases.{by_test, both_first}
 use Rattle.table.specs.Limits.{ring_number_count}
 use Rattle.builder.specs.State.{Bld, refuse, entered, root_of, bonded, extended_by, extend_of, opened_of, opening_kind, failed_st, closed_by, join_of, pop_of}
@@ -77,10 +75,10 @@ module _ (b : Bld) (none : b.st.refusal ≡ 0) where
   unfolding root_of refuse entered
   root_other k place = by_test Other (leb b.st.places b.st.atoms) (λ t e. omega arith) (λ t e. omega (arith, none, e))
 
-  extended_other : (c : BondKind) (q : Inverted) → Other (extended_by b c q)
+  extended_other : (c : BondKind) (q : Option AtomKind) → Other (extended_by b c q)
   unfolding extended_by refuse entered bonded
-  extended_other c Refused e = omega arith
-  extended_other c (Turned k) e = omega (arith, none, e)
+  extended_other c None e = omega arith
+  extended_other c (Some k) e = omega (arith, none, e)
 
   extend_other : (c : BondKind) (k : AtomKind) (place : ℕ) → Other (extend_of b c k place)
   unfolding extend_of refuse
@@ -90,11 +88,11 @@ module _ (b : Bld) (none : b.st.refusal ≡ 0) where
       (λ t. by_test Other (ltb b.st.slots (b.st.entries + 2)) (λ t e. omega arith)
       (λ t. extended_other c (invert_of k))))
 
-  closed_other : (n place : ℕ) (q : Reconciled) → Other (closed_by b n place q)
+  closed_other : (n place : ℕ) (q : Option (BondKind × BondKind)) → Other (closed_by b n place q)
   unfolding closed_by refuse failed_st
-  closed_other n place Fails =
-      by_test (λ (s : Builder). s.refusal ≢ bad_table) b.st.failed (λ t e. omega (arith, none, e)) (λ t e. omega (arith, none, e))
-  closed_other n place (Both l r) =
+  closed_other n place None =
+      by_test (λ (s : Builder). s.refusal ≢ bad_table) (is_some b.st.failed) (λ t e. omega (arith, none, e)) (λ t e. omega (arith, none, e))
+  closed_other n place (Some (l, r)) =
       by_test Other (ltb b.st.slots (b.st.entries + 1)) (λ t e. omega arith) (λ t e. omega (arith, none, e))
 
   join_other : (c : BondKind) (n place : ℕ) → Other (join_of b c n place)

@@ -13,8 +13,10 @@ use Rattle.desk_numbers.proofs.One.{one_result, one_equal}
 use Rattle.builder.specs.State.{Bld}
 use Rattle.desk_builder.specs.Events.{root_d, extend_d, join_d, pop_d}
 use Rattle.desk_builder.specs.Build.{BuildLeft, answer_leaves, build_d}
-use Rattle.desk_builder.specs.declared.calls.Answer.{Answer}
-use Rattle.desk_builder.specs.declared.calls.Answer.TheVariants.{Done, Join, Rnum, BadTable}
+use Rattle.std.specs.Prelude as std
+use Rattle.std.specs.Prelude.{Err, Ok}
+use Rattle.desk_builder.specs.declared.calls.Refusal.TheVariants.{Join, BadTable, Rnum}
+use Rattle.desk_builder.specs.declared.calls.Refusal.{Refusal}
 
 -- ---- the events: the tables, and the builder's numbers with its refusal
 pub one_root : (b : Bld) (k : AtomKind) (x y : Bld) → x ≡ root_d b k → y ≡ root_d b k → x ≡ y
@@ -31,33 +33,33 @@ one_pop b n = one_equal (pop_d b n)
 
 -- ---- the build: its answer, and both tables
 pub record Result : Type 0 where
-  pub answer : Answer
+  pub answer : std.Result (ℕ × ℕ) Refusal
   pub atoms : List ℕ
   pub bonds : List ℕ
 
-abbrev result : Answer → List ℕ → List ℕ → Result
+abbrev result : std.Result (ℕ × ℕ) Refusal → List ℕ → List ℕ → Result
 result r a b = record { answer = r; atoms = a; bonds = b }
 
 abbrev said : Result → BuildLeft
 said x = answer_leaves x.answer x.atoms x.bonds
 
 -- the answer with a number and what it carries
-abbrev answer_to : BuildLeft → Answer
+abbrev answer_to : BuildLeft → std.Result (ℕ × ℕ) Refusal
 answer_to l =
-    pick (eqb l.number desk.done) (Done (get_or l.carries 0 0) (get_or l.carries 1 0))
-    (pick (eqb l.number desk.join) (Join (get_or l.carries 0 0) (get_or l.carries 1 0))
-    (pick (eqb l.number desk.rnum) (Rnum (get_or l.carries 0 0))
-    BadTable))
+    pick (eqb l.number desk.done) (Ok (get_or l.carries 0 0, get_or l.carries 1 0))
+    (pick (eqb l.number desk.join) (Err (Join (get_or l.carries 0 0) (get_or l.carries 1 0)))
+    (pick (eqb l.number desk.rnum) (Err (Rnum (get_or l.carries 0 0)))
+    (Err BadTable)))
 
 abbrev meant : BuildLeft → Result
 meant l = result (answer_to l) l.atoms l.bonds
 
-back : (r : Answer) (a b : List ℕ) → meant (answer_leaves r a b) ≡ result r a b
+back : (r : std.Result (ℕ × ℕ) Refusal) (a b : List ℕ) → meant (answer_leaves r a b) ≡ result r a b
 unfolding answer_leaves
-back (Done n m) a b = refl
-back (Join x y) a b = refl
-back (Rnum j) a b = refl
-back BadTable a b = refl
+back (Ok (n, m)) a b = refl
+back (Err (Join x y)) a b = refl
+back (Err (Rnum j)) a b = refl
+back (Err BadTable) a b = refl
 
 pub one_build : (b : Bld) (bonds : List ℕ) (x y : Result) → said x ≡ build_d b bonds → said y ≡ build_d b bonds → x ≡ y
 one_build b bonds = one_result said meant (λ x. back x.answer x.atoms x.bonds) (build_d b bonds)

@@ -5,6 +5,7 @@ use mathlib.Core.Path.{◌≡◌, refl}
 use mathlib.Core.List.{List, [], ◌∷◌, map}
 use mathlib.Core.Bool.{false}
 use lib.ListN.{replicate}
+use Rattle.std.specs.Prelude.{None}
 use Rattle.feature.specs.Kinds.{in_range, invert_of}
 use Rattle.feature.specs.Bonds.{code_of, kind_of, reverse_of, is_directional, reconcile_of, sure_kind}
 use Rattle.feature.specs.declared.atom_kind.AtomKind.TheVariants.{Star}
@@ -41,22 +42,22 @@ still_open = join_d (chain (join_d (join_d (root_d start Star) Elided 1) Elided 
 -- two atoms and a bond that only the first holds
 abbrev one_sided : Bld
 one_sided =
-    bld (1 ∷ 0 ∷ 0 ∷ 1 ∷ 0 ∷ 0 ∷ 0 ∷ 0 ∷ 0 ∷ []) (0 ∷ 1 ∷ 1 ∷ replicate 21 0) (replicate 3 0) (replicate 100 0) (state 0 0 3 8 2 1 0 0 false 0 0)
+    bld (1 ∷ 0 ∷ 0 ∷ 1 ∷ 0 ∷ 0 ∷ 0 ∷ 0 ∷ 0 ∷ []) (0 ∷ 1 ∷ 1 ∷ replicate 21 0) (replicate 3 0) (replicate 100 0) (state 0 0 3 8 2 1 0 0 None)
 
 -- an atom with half a bond to itself
 abbrev half : Bld
 half =
-    bld (1 ∷ 0 ∷ 0 ∷ replicate 6 0) (0 ∷ 2 ∷ 0 ∷ replicate 21 0) (replicate 3 0) (replicate 100 0) (state 0 0 3 8 1 1 0 0 false 0 0)
+    bld (1 ∷ 0 ∷ 0 ∷ replicate 6 0) (0 ∷ 2 ∷ 0 ∷ replicate 21 0) (replicate 3 0) (replicate 100 0) (state 0 0 3 8 1 1 0 0 None)
 
 -- two ring numbers that lead to one open entry
 abbrev shared : Bld
 shared =
-    bld (1 ∷ 0 ∷ 0 ∷ replicate 6 0) (0 ∷ 1 ∷ 0x8000_0000 ∷ replicate 21 0) (replicate 3 0) (1 ∷ 1 ∷ replicate 98 0) (state 0 0 3 8 1 1 1 1 false 0 0)
+    bld (1 ∷ 0 ∷ 0 ∷ replicate 6 0) (0 ∷ 1 ∷ 0x8000_0000 ∷ replicate 21 0) (replicate 3 0) (1 ∷ 1 ∷ replicate 98 0) (state 0 0 3 8 1 1 1 1 None)
 
 -- no event yet, and less room told than the tables have
 abbrev less : Bld
 less =
-    bld (replicate 9 0) (replicate 24 0) (replicate 3 0) (replicate 100 0) (state 0 0 2 8 0 0 0 0 false 0 0)
+    bld (replicate 9 0) (replicate 24 0) (replicate 3 0) (replicate 100 0) (state 0 0 2 8 0 0 0 0 None)
 
 -- what their builds answer and leave, whatever the bond table held: it has room for seven entries, as many as the third holds,
 -- though each of them may come to hold eight

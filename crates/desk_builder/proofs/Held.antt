@@ -16,6 +16,8 @@ use Rattle.feature.specs.Pick.{pick, both}
 use Rattle.feature.specs.Bonds.{code_of, reverse_of}
 use Rattle.table.specs.Records.{atom_words, bond_words}
 use Rattle.table.specs.Limits.{atom_limit}
+use Rattle.std.specs.Prelude.{Option, None, Some}
+use Rattle.builder.specs.declared.builder.FailedJoin.{FailedJoin}
 use Rattle.builder.specs.State.{Bld, entry_words, unclosed}
 use Rattle.table.specs.Zeros.{zeroed}
 use Rattle.builder.specs.Build.{of, upto, BuildOutcome, Tables, tables, first_open, entries_told, build_of}
@@ -175,13 +177,13 @@ module _ (b : Bld) (bonds : List ℕ) where
       unfolding roomy
       is_ready = ready (facts b holds) (leb-true (b.st.entries * bond_words) (length bonds) room)
 
-      failing : b.st.failed ≡ true → (build_d b bonds).number ≡ 3
+      failing : (f : FailedJoin) → b.st.failed ≡ Some f → (build_d b bonds).number ≡ 3
       unfolding left_of built_answered answer_leaves
-      failing e =
+      failing f e =
           ap (λ (x : BuildLeft). x.number) goes
-          ∙ ap (λ (o : BuildOutcome). (left_of o b.st).number) (built_failed (start_of b bonds) b.entries b.st e)
+          ∙ ap (λ (o : BuildOutcome). (left_of o b.st).number) (built_failed (start_of b bonds) b.entries b.st f e)
 
-      module _ (joined : b.st.failed ≡ false) where
+      module _ (joined : b.st.failed ≡ None) where
         opening : unclosed ≤ first_open (upto b.st.atoms (entries_told b.st b.entries)) → (build_d b bonds).number ≡ 4
         unfolding left_of built_answered answer_leaves
         opening h =
@@ -196,24 +198,24 @@ module _ (b : Bld) (bonds : List ℕ) where
   -- from a state, into a table with room, it is not answered 17
   pub build_other : is_state b ≡ true → roomy b.st bonds ≡ true → (build_d b bonds).number ≢ bad_table
   build_other holds room z = by_failure b.st.failed refl where
-    by_open : (joined : b.st.failed ≡ false) (q : Bool) → ltb (first_open (upto b.st.atoms (entries_told b.st b.entries))) unclosed ≡ q → ⊥
+    by_open : (joined : b.st.failed ≡ None) (q : Bool) → ltb (first_open (upto b.st.atoms (entries_told b.st b.entries))) unclosed ≡ q → ⊥
     by_open joined true e = let is : (build_d b bonds).number ≡ 0 = ap (λ (x : BuildLeft). x.number) (closing holds room joined (ltb-true _ _ e)) in omega (arith, z, is)
     by_open joined false e = omega (arith, z, opening holds room joined (ltb-false _ _ e))
 
-    by_failure : (q : Bool) → b.st.failed ≡ q → ⊥
-    by_failure true e = omega (arith, z, failing holds room e)
-    by_failure false e = by_open e (ltb (first_open (upto b.st.atoms (entries_told b.st b.entries))) unclosed) refl
+    by_failure : (q : Option FailedJoin) → b.st.failed ≡ q → ⊥
+    by_failure (Some f) e = omega (arith, z, failing holds room f e)
+    by_failure None e = by_open e (ltb (first_open (upto b.st.atoms (entries_told b.st b.entries))) unclosed) refl
 
   -- a build that is answered 0 leaves the graph of its state, and each bond is held at both ends as reverses
   pub done_holds : (build_d b bonds).number ≡ 0 → (build_d b bonds ≡ state_graph b bonds) × EntriesBothEnds (entries_told b.st b.entries)
   done_holds z = by_state (is_state b) refl where
-    by_open : (holds : is_state b ≡ true) (room : roomy b.st bonds ≡ true) (joined : b.st.failed ≡ false) (q : Bool) → ltb (first_open (upto b.st.atoms (entries_told b.st b.entries))) unclosed ≡ q → (build_d b bonds ≡ state_graph b bonds) × EntriesBothEnds (entries_told b.st b.entries)
+    by_open : (holds : is_state b ≡ true) (room : roomy b.st bonds ≡ true) (joined : b.st.failed ≡ None) (q : Bool) → ltb (first_open (upto b.st.atoms (entries_told b.st b.entries))) unclosed ≡ q → (build_d b bonds ≡ state_graph b bonds) × EntriesBothEnds (entries_told b.st b.entries)
     by_open holds room joined true e = (closing holds room joined (ltb-true _ _ e), told_ends b (facts b holds))
     by_open holds room joined false e = absurd (omega (arith, z, opening holds room joined (ltb-false _ _ e)))
 
-    by_failure : (holds : is_state b ≡ true) (room : roomy b.st bonds ≡ true) (q : Bool) → b.st.failed ≡ q → (build_d b bonds ≡ state_graph b bonds) × EntriesBothEnds (entries_told b.st b.entries)
-    by_failure holds room true e = absurd (omega (arith, z, failing holds room e))
-    by_failure holds room false e = by_open holds room e (ltb (first_open (upto b.st.atoms (entries_told b.st b.entries))) unclosed) refl
+    by_failure : (holds : is_state b ≡ true) (room : roomy b.st bonds ≡ true) (q : Option FailedJoin) → b.st.failed ≡ q → (build_d b bonds ≡ state_graph b bonds) × EntriesBothEnds (entries_told b.st b.entries)
+    by_failure holds room (Some f) e = absurd (omega (arith, z, failing holds room f e))
+    by_failure holds room None e = by_open holds room e (ltb (first_open (upto b.st.atoms (entries_told b.st b.entries))) unclosed) refl
 
     by_room : (holds : is_state b ≡ true) (q : Bool) → roomy b.st bonds ≡ q → (build_d b bonds ≡ state_graph b bonds) × EntriesBothEnds (entries_told b.st b.entries)
     by_room holds true e = by_failure holds e b.st.failed refl

@@ -1,5 +1,6 @@
 // The desk's numbers and their names, once for all calls, and an answer as code holds it. specs/Numbers.antt has the same
-// numbers for the promises.
+// numbers for the promises. They are numbers and no enum: a builder's refusal is the first word of a state that a caller in C
+// keeps, and `builder_in` of desk_report takes any below 2^32 there.
 #![tactic(auto)]
 
 pub const DONE: u32 = 0;
@@ -42,8 +43,9 @@ pub const NO_ATOM: u32 = 18;
 
 pub const OVERPOP: u32 = 19;
 
-// A number of the desk's and what it carries.
-#[derive(Clone, Copy)]
+// A number of the desk's and what it carries. Its readers, as the three words of a report, take both values whatever is carried,
+// 0 where fewer are; only what is printed asks how many. So it has no variant for each count.
+#[derive(Clone, Copy, Debug, PartialEq, Eq)]
 pub struct Said {
     pub no: u32,
     // How many values are carried; those that are not are 0.

@@ -1,4 +1,4 @@
-pub mod Stands
 pub mod PoolKept
 pub mod Results
 pub mod Again
+pub mod Calls

@@ -2,7 +2,7 @@
 -- to 99. A pool that has handed out nothing is one. In what stands for a pool no pair is open under two numbers. Assumes nothing.
 use Prim.{⊥}
 use Prim.Native.Nat.{ℕ, ◌+◌, ◌*◌, ◌≤◌, ◌<◌}
-use mathlib.Core.Path.{◌≡◌, refl, sym, ◌∙◌}
+use mathlib.Core.Path.{◌≡◌, refl, sym, ap, ◌∙◌}
 use mathlib.Core.Bool.{Bool, true, false, false≢true}
 use mathlib.Core.List.{List}
 use native.Mathlib.Omega.{arith}
@@ -12,14 +12,13 @@ use lib.Dec.{ltb, leb, eqb}
 use borrow.Author.Tests.{lt-ltb, le-ltb, le-leb, lt-leb, eq-eqb, ne_eqb, ltb-true, ltb-false, leb-true, leb-false, eqb-true, eqb-false}
 use Rattle.feature.specs.Pick.{pick, either}
 use Rattle.join_pool.specs.declared.Pool.{Pool}
-use Rattle.join_pool.specs.declared.Given.{Given}
-use Rattle.join_pool.specs.declared.Given.TheVariants.{Number, Full}
+use Rattle.std.specs.Prelude.{None, Option, Some, unwrap_or}
 use Rattle.join_pool.specs.Pairs.{highest, slot_words, pool, empty_of, opens, open_number, slot, counter_next, counter_of, next_of, Hits, hits, open_of, close_of, open_or_close, hit_pair, hit_of}
 use Rattle.join_pool.proofs.Slots.{slot_length, slot_beside, slot_open, slot_lower, slot_higher, words_of, found, finds, counter_on}
 use Rattle.desk_pool.specs.Slots.{top, is_free, is_open, kept_free, is_slot, is_found, is_pool}
 use Rattle.feature.specs.Every.{every}
 use Rattle.feature.proofs.Every.{every_at, every_all}
-use Rattle.feature.proofs.Cases.{by_test, both_first, both_second, both_pass}
+use Rattle.feature.proofs.Cases.{by_test, both_first, both_second, both_pass, impossible}
 use Rattle.table.proofs.Zeros.{zero_at}
 
 -- no less and not the same
@@ -58,7 +57,7 @@ not_kept p n k = go (eqb n 0) (eqb n p.spare) (leb p.counter n) refl refl k wher
   go false false false e f k = (differ (eqb-false n 0 e) (omega arith), leb-false p.counter n f)
 
 -- the search for the pair of an open number finds it
-sought : (p : Pool) (pairs : List ℕ) (n lo hi : ℕ) → opens pairs n lo hi ≡ true → is_found p pairs n ≡ true → open_number pairs lo hi p.counter ≡ n
+sought : (p : Pool) (pairs : List ℕ) (n lo hi : ℕ) → opens pairs n lo hi ≡ true → is_found p pairs n ≡ true → unwrap_or (open_number pairs lo hi p.counter) 0 ≡ n
 unfolding is_found
 sought p pairs n lo hi o h =
     let w = words_of pairs n lo hi o in
@@ -89,15 +88,17 @@ facts p pairs h1 =
 found_one : (p : Pool) (pairs : List ℕ) → Pooled p pairs → (n : ℕ) → n < top + 1 → is_found p pairs n ≡ true
 unfolding is_found
 found_one p pairs h n l = go (is_free pairs n) refl where
-  it : is_free pairs n ≡ false → open_number pairs (get_or pairs (n * slot_words + 1) 0) (get_or pairs (n * slot_words + 2) 0) p.counter ≡ n
+  it : is_free pairs n ≡ false → unwrap_or (open_number pairs (get_or pairs (n * slot_words + 1) 0) (get_or pairs (n * slot_words + 2) 0) p.counter) 0 ≡ n
   it f =
       let k = held p pairs n f (h.each n l) in
       let o = open_pair pairs n k.1 in
       let b = not_kept p n k.0 in
-      let s = found pairs (get_or pairs (n * slot_words + 1) 0) (get_or pairs (n * slot_words + 2) 0) p.counter (finds pairs (get_or pairs (n * slot_words + 1) 0) (get_or pairs (n * slot_words + 2) 0) p.counter n b.0 (omega (arith, b.1)) o) in
-      h.one _ n (get_or pairs (n * slot_words + 1) 0) (get_or pairs (n * slot_words + 2) 0) (omega (arith, s.0, h.counter)) l s.1 o
+      let f = finds pairs (get_or pairs (n * slot_words + 1) 0) (get_or pairs (n * slot_words + 2) 0) p.counter n b.0 (omega (arith, b.1)) o in
+      let s = found pairs (get_or pairs (n * slot_words + 1) 0) (get_or pairs (n * slot_words + 2) 0) p.counter f.0 f.1 in
+      ap (λ (r : Option ℕ). unwrap_or r 0) f.1
+      ∙ h.one f.0 n (get_or pairs (n * slot_words + 1) 0) (get_or pairs (n * slot_words + 2) 0) (omega (arith, s.1, h.counter)) l s.2 o
 
-  go : (q : Bool) → is_free pairs n ≡ q → either (is_free pairs n) (eqb (open_number pairs (get_or pairs (n * slot_words + 1) 0) (get_or pairs (n * slot_words + 2) 0) p.counter) n) ≡ true
+  go : (q : Bool) → is_free pairs n ≡ q → either (is_free pairs n) (eqb (unwrap_or (open_number pairs (get_or pairs (n * slot_words + 1) 0) (get_or pairs (n * slot_words + 2) 0) p.counter) 0) n) ≡ true
   go true f = rw f
   go false f = rw f (eq-eqb _ _ (it f))
 
@@ -210,9 +211,9 @@ fewer p c s n h k e = go (kept_why (pool c s) n e) where
   go (beyond z) = kept_true p n (beyond (omega arith))
 
 -- ---- what a call leaves
-abbrev pub KeepsBy : List ℕ → List ℕ → Given → Type 0
-KeepsBy pairs left (Number p n) = (is_pool p left ≡ true) × (0 < n) × (n ≤ highest)
-KeepsBy pairs left Full = left ≡ pairs
+abbrev pub KeepsBy : List ℕ → List ℕ → Option (Pool × ℕ) → Type 0
+KeepsBy pairs left (Some (p, n)) = (is_pool p left ≡ true) × (0 < n) × (n ≤ highest)
+KeepsBy pairs left None = left ≡ pairs
 
 abbrev pub Keeps : List ℕ → Hits → Type 0
 Keeps pairs h = KeepsBy pairs h.left h.answer
@@ -229,10 +230,10 @@ below_counter : (p : Pool) (pairs : List ℕ) (n lo hi : ℕ) → opens pairs n 
 below_counter p pairs n lo hi o s = not_kept p n (held p pairs n (marked pairs n lo hi o) s).0
 
 module _ (p : Pool) (pairs : List ℕ) (h : Pooled p pairs) where
-  open_kept : (lo hi : ℕ) → lo ≤ hi → open_number pairs lo hi p.counter ≡ 0 → Keeps pairs (open_of p pairs lo hi)
+  open_kept : (lo hi : ℕ) → lo ≤ hi → open_number pairs lo hi p.counter ≡ None → Keeps pairs (open_of p pairs lo hi)
   unfolding open_of
   open_kept lo hi l unheld =
-      by_test (λ (z : Hits). Keeps pairs z) (ltb highest (next_of p)) {x = hits Full pairs} {y = hits (Number (pool (counter_of p) 0) (next_of p)) (slot pairs (next_of p) 1 lo hi)} (λ e. refl) (λ e. given (ltb-false highest (next_of p) e))
+      by_test (λ (z : Hits). Keeps pairs z) (ltb highest (next_of p)) {x = hits None pairs} {y = hits (Some (pool (counter_of p) 0, next_of p)) (slot pairs (next_of p) 1 lo hi)} (λ e. refl) (λ e. given (ltb-false highest (next_of p) e))
     where
       given : next_of p ≤ highest → (is_pool (pool (counter_of p) 0) (slot pairs (next_of p) 1 lo hi) ≡ true) × (0 < next_of p) × (next_of p ≤ highest)
       given small =
@@ -259,7 +260,9 @@ module _ (p : Pool) (pairs : List ℕ) (h : Pooled p pairs) where
               let w = open_for pairs (next_of p) lo hi lo' hi' room o in
               let old : opens pairs m lo hi ≡ true = rw (opens_beside pairs (next_of p) 1 lo hi m e lo' hi', w.0, w.1) at o' in
               let b = below_counter p pairs m lo hi old (h.each m k) in
-              finds pairs lo hi p.counter m b.0 (omega (arith, b.1)) old unheld
+              let f = finds pairs lo hi p.counter m b.0 (omega (arith, b.1)) old in
+              let y : None ≡ Some f.0 = sym unheld ∙ f.1 in
+              impossible cc
 
           one : (n m lo' hi' : ℕ) → n < top + 1 → m < top + 1 → opens (slot pairs (next_of p) 1 lo hi) n lo' hi' ≡ true → opens (slot pairs (next_of p) 1 lo hi) m lo' hi' ≡ true → (q r : Bool) → eqb n (next_of p) ≡ q → eqb m (next_of p) ≡ r → n ≡ m
           one n m lo' hi' k k' o o' true true q r = eqb-true n (next_of p) q ∙ sym (eqb-true m (next_of p) r)
@@ -304,16 +307,13 @@ module _ (p : Pool) (pairs : List ℕ) (h : Pooled p pairs) where
 
 pair_kept : (p : Pool) (pairs : List ℕ) (lo hi : ℕ) → Pooled p pairs → lo ≤ hi → Keeps pairs (hit_pair p pairs lo hi)
 unfolding hit_pair open_or_close
-pair_kept p pairs lo hi h l =
-    by_test (λ (z : Hits). Keeps pairs z) (eqb (open_number pairs lo hi p.counter) 0) {x = open_of p pairs lo hi} {y = close_of p pairs (open_number pairs lo hi p.counter)}
-    (λ e. open_kept p pairs h lo hi l (eqb-true (open_number pairs lo hi p.counter) 0 e))
-    (λ e. closed (eqb-false (open_number pairs lo hi p.counter) 0 e))
+pair_kept p pairs lo hi h l = go (open_number pairs lo hi p.counter) refl
   where
-    closed : (open_number pairs lo hi p.counter ≡ 0 → ⊥) → Keeps pairs (close_of p pairs (open_number pairs lo hi p.counter))
-    closed z =
-        let f = found pairs lo hi p.counter z in
-        close_kept p pairs h (open_number pairs lo hi p.counter) lo hi z
-        (below_counter p pairs (open_number pairs lo hi p.counter) lo hi f.1 (h.each (open_number pairs lo hi p.counter) (omega (arith, f.0, h.counter)))).1
+    go : (o : Option ℕ) → open_number pairs lo hi p.counter ≡ o → Keeps pairs (open_or_close p pairs lo hi o)
+    go None e = open_kept p pairs h lo hi l e
+    go (Some r) e =
+        let f = found pairs lo hi p.counter r e in
+        close_kept p pairs h r lo hi (λ z. omega (arith, f.0)) (below_counter p pairs r lo hi f.2 (h.each r (omega (arith, f.1, h.counter)))).1
 
 pub hit_kept : (p : Pool) (pairs : List ℕ) (a b : ℕ) → is_pool p pairs ≡ true → Keeps pairs (hit_of p pairs a b)
 unfolding hit_of

@@ -6,14 +6,12 @@
 -- of the spare and of the numbers from the counter on are free. The search for a pair goes down from the counter, so the slot of
 -- 100 is judged too; where the table ends before it, it is free. No pair is open under two numbers: the search for the pair of an
 -- open number finds that number.
-use Rattle.std.specs.Prelude.{ℕ, ◌+◌, ◌*◌, List, [], ◌∷◌, Bool, false, length, get_or, ltb, leb, eqb}
+use Rattle.std.specs.Prelude.{ℕ, ◌+◌, ◌*◌, List, [], ◌∷◌, Bool, false, length, get_or, ltb, leb, eqb, Option, Some, None, unwrap_or, Result, Ok, Err}
 use Rattle.feature.specs.Pick.{pick, both, either}
 use Rattle.join_pool.specs.declared.Pool.{Pool}
-use Rattle.join_pool.specs.declared.Given.{Given}
-use Rattle.join_pool.specs.declared.Given.TheVariants as given
 use Rattle.join_pool.specs.Pairs.{slot_words, open_number as numberFor, Hits, hit_of}
-use Rattle.desk_pool.specs.declared.Handed.{Handed}
-use Rattle.desk_pool.specs.declared.Handed.TheVariants.{Number, RingNumbers, BadTable}
+use Rattle.desk_pool.specs.declared.Refusal.{Refusal}
+use Rattle.desk_pool.specs.declared.Refusal.TheVariants.{RingNumbers, BadTable}
 use Rattle.feature.specs.Every.{every}
 use Rattle.desk_numbers.specs.Numbers.{Told, told, done, ring_numbers, bad_table}
 
@@ -40,10 +38,11 @@ kept_free p n = either (eqb n 0) (either (eqb n p.spare) (leb p.counter n))
 unfoldable pub is_slot : Pool → List ℕ → ℕ → Bool
 is_slot p pairs n = either (is_free pairs n) (pick (kept_free p n) false (is_open pairs n))
 
+-- the search for the pair in the words of n finds n; where it finds none, it counts as 0, which is no pair's
 unfoldable pub is_found : Pool → List ℕ → ℕ → Bool
 is_found p pairs n =
     either (is_free pairs n)
-    (eqb (numberFor pairs (get_or pairs (n * slot_words + 1) 0) (get_or pairs (n * slot_words + 2) 0) p.counter) n)
+    (eqb (unwrap_or (numberFor pairs (get_or pairs (n * slot_words + 1) 0) (get_or pairs (n * slot_words + 2) 0) p.counter) 0) n)
 
 -- the counter is above the spare, and so from 1 on
 unfoldable pub is_pool : Pool → List ℕ → Bool
@@ -55,21 +54,20 @@ is_pool p pairs =
     (every (is_found p pairs) (top + 1)))))
 
 -- ---- the answers
-unfoldable pub handed_of : Given → Handed
-handed_of (given.Number p n) = Number p n
-handed_of given.Full = RingNumbers
+unfoldable pub handed_of : Option (Pool × ℕ) → Result (Pool × ℕ) Refusal
+handed_of (Some handed) = Ok handed
+handed_of None = Err RingNumbers
 
 -- an answer in the scope's numbers, where the call is for the atoms a and b
-unfoldable pub handed_told : ℕ → ℕ → Handed → Told
-handed_told a b (Number p n) = told done (n ∷ [])
-handed_told a b RingNumbers = told ring_numbers (a ∷ b ∷ [])
-handed_told a b BadTable = told bad_table (0 ∷ [])
+unfoldable pub handed_told : ℕ → ℕ → Result (Pool × ℕ) Refusal → Told
+handed_told a b (Ok (p, n)) = told done (n ∷ [])
+handed_told a b (Err RingNumbers) = told ring_numbers (a ∷ b ∷ [])
+handed_told a b (Err BadTable) = told bad_table (0 ∷ [])
 
 -- the numbers of the pool that it hands back; a refusal hands back none
-unfoldable pub pool_words : Handed → List ℕ
-pool_words (Number p n) = p.counter ∷ p.spare ∷ []
-pool_words RingNumbers = []
-pool_words BadTable = []
+unfoldable pub pool_words : Result (Pool × ℕ) Refusal → List ℕ
+pool_words (Ok (p, n)) = p.counter ∷ p.spare ∷ []
+pool_words (Err why) = []
 
 -- ---- the call
 -- what it answers for the atoms a and b, the pool that it hands back and the words that it leaves
@@ -78,11 +76,11 @@ pub record Gives : Type 0 where
   pub state : List ℕ
   pub left : List ℕ
 
-abbrev pub gives : ℕ → ℕ → Handed → List ℕ → Gives
+abbrev pub gives : ℕ → ℕ → Result (Pool × ℕ) Refusal → List ℕ → Gives
 gives a b r pairs = record { told = handed_told a b r; state = pool_words r; left = pairs }
 
 unfoldable pub given_by : ℕ → ℕ → Hits → Gives
 given_by a b h = gives a b (handed_of h.answer) h.left
 
 unfoldable pub hit_d : Pool → List ℕ → ℕ → ℕ → Gives
-hit_d p pairs a b = pick (is_pool p pairs) (given_by a b (hit_of p pairs a b)) (gives a b BadTable pairs)
+hit_d p pairs a b = pick (is_pool p pairs) (given_by a b (hit_of p pairs a b)) (gives a b (Err BadTable) pairs)

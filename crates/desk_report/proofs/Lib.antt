@@ -1,4 +1,3 @@
 -- Laws that the proofs cite.
 pub mod Again
-pub mod Kept
-pub mod States
+pub mod Laid

@@ -1,85 +1,88 @@
 // What an accepted call leaves in the words of a state, and what any event leaves beside its tables: those words and the report.
 // A refused call leaves the state's words as they were.
-ghost use Rattle.std.specs.Prelude.{◌≡◌};
-ghost use Rattle.desk_report.specs.Report.{of_event, of_said, laid_into};
-ghost use Rattle.desk_report.specs.State.{builder_kept, writer_kept, pool_kept};
-ghost use Rattle.desk_report.specs.Steps.{writer_held, pool_held};
+ghost use Rattle.std.specs.Prelude.{◌≡◌, slice_set};
+ghost use Rattle.desk_report.specs.Report.{of_event, of_said, of_handed, laid_into};
+ghost use Rattle.desk_report.specs.State.{builder_kept, builder_started, failure_forgotten, writer_kept, pool_kept};
 
-use crate::answer::{lay, of_event, of_said};
-use crate::state::{AsPool, AsWriter, lay_builder, lay_pool, lay_writer};
+use crate::answer::Report;
+use crate::state::{CLOSING, OPENING, StateWords};
 use builder::builder::Builder;
-use desk_pool::Handed;
-use desk_writer::Said;
-
-// The new state of a builder, where an event was accepted.
-fn keep_builder_state(state: &mut [u64], builder: Builder)
-    ensures { state.new ≡ builder_kept state.old builder }
-{
-    if builder.refusal != 0 {
-        return;
-    }
-    lay_builder(state, builder);
-}
+use join_pool::Pool;
+use writer::Writer;
 
 // What a builder's event leaves beside its tables.
+#[tactic(auto, unfolding(crate::specs::State::builder_kept))]
 pub fn keep_builder(state: &mut [u64], report: &mut [u64], builder: Builder)
     ensures state_after { state.new ≡ builder_kept state.old builder }
     ensures report_after { report.new ≡ laid_into report.old (of_event builder) }
 {
-    keep_builder_state(state, builder);
-    lay(report, of_event(builder));
+    if builder.refusal == 0 {
+        builder.lay(state);
+    }
+    Report::of_event(builder).lay(report);
 }
 
-// The new state of a writer, where an event was accepted.
-fn writer_held_by(said: Said) -> AsWriter
-    ensures { result ≡ writer_held said }
+// A word put at a place; past the end nothing changes.
+#[tactic(auto, using(std::proofs::lemmas::List::set_past))]
+fn put(words: &mut [u64], at: usize, word: u64)
+    ensures { words.new ≡ slice_set words.old at word }
 {
-    match said {
-        Said::Held(w) => AsWriter::Is(w),
-        Said::AtomRoom(_n) => AsWriter::Bad,
-        Said::OutRoom(_n) => AsWriter::Bad,
-        Said::NoPiece => AsWriter::Bad,
-        Said::Overpop => AsWriter::Bad,
-        Said::BadTable => AsWriter::Bad,
+    if at < words.len() {
+        words[at] = word;
     }
 }
 
-fn keep_writer_state(state: &mut [u64], said: Said)
-    ensures { state.new ≡ writer_kept state.old said }
+// An accepted start remembers no failure: 0 in the words of a failure's atoms.
+#[tactic(auto, unfolding(crate::specs::State::failure_forgotten))]
+fn forget_failure(state: &mut [u64], builder: Builder)
+    ensures { state.new ≡ failure_forgotten state.old builder }
 {
-    let held = writer_held_by(said);
-    let AsWriter::Is(w) = held else {
-        return;
-    };
-    lay_writer(state, w);
+    let accepted = builder.refusal == 0;
+    if accepted {
+        put(state, CLOSING, 0);
+        put(state, OPENING, 0);
+    }
+}
+
+// What a start leaves beside its tables.
+pub fn keep_start(state: &mut [u64], report: &mut [u64], builder: Builder)
+    ensures state_after { state.new ≡ builder_started state.old builder }
+    ensures report_after { report.new ≡ laid_into report.old (of_event builder) }
+{
+    forget_failure(state, builder);
+    keep_builder(state, report, builder);
 }
 
 // What a writer's event leaves beside its tables.
-pub fn keep_writer(state: &mut [u64], report: &mut [u64], said: Said)
+#[tactic(auto, unfolding(desk_writer::specs::Pieces::writer_words, crate::specs::State::writer_list))]
+pub fn keep_writer(
+    state: &mut [u64],
+    report: &mut [u64],
+    said: Result<Writer, desk_writer::Refusal>,
+)
     ensures state_after { state.new ≡ writer_kept state.old said }
     ensures report_after { report.new ≡ laid_into report.old (of_said said) }
 {
-    keep_writer_state(state, said);
-    lay(report, of_said(said));
-}
-
-// The new state of a pool, where a number was handed out or closed.
-fn pool_held_by(handed: Handed) -> AsPool
-    ensures { result ≡ pool_held handed }
-{
-    match handed {
-        Handed::Number(p, _n) => AsPool::Is(p),
-        Handed::RingNumbers => AsPool::Bad,
-        Handed::BadTable => AsPool::Bad,
+    if let Ok(w) = said {
+        w.lay(state);
     }
+    Report::from(said).lay(report);
 }
 
-pub fn keep_pool_state(state: &mut [u64], handed: Handed)
-    ensures { state.new ≡ pool_kept state.old handed }
+// What a call of a pool for two atoms leaves beside its table.
+#[tactic(auto, unfolding(desk_pool::specs::Slots::pool_words, crate::specs::State::pool_list))]
+pub fn keep_pool(
+    state: &mut [u64],
+    report: &mut [u64],
+    handed: Result<(Pool, u32), desk_pool::Refusal>,
+    a: u32,
+    b: u32,
+)
+    ensures state_after { state.new ≡ pool_kept state.old handed }
+    ensures report_after { report.new ≡ laid_into report.old (of_handed a b handed) }
 {
-    let held = pool_held_by(handed);
-    let AsPool::Is(p) = held else {
-        return;
-    };
-    lay_pool(state, p);
+    if let Ok((p, _n)) = handed {
+        p.lay(state);
+    }
+    Report::of_handed(handed, a, b).lay(report);
 }

@@ -1,170 +1,156 @@
 // The states of the desk's single calls as words: each number of a state a word, in the order of its fields. Words that are
 // too few, or too large for their field, stand for no state. Words after those of a state are untouched.
-ghost use Rattle.std.specs.Prelude.{◌≡◌, get_or};
+ghost use Rattle.std.specs.Prelude.{◌≡◌, ℕ, List, Option};
 ghost use Rattle.std.proofs.lemmas.List.Edits.{sets};
-ghost use Rattle.feature.specs.Pick.{pick};
-ghost use Rattle.desk_report.specs.State.{builder_in, writer_in, pool_in, builder_words, writer_list, pool_list};
+ghost use Rattle.desk_report.specs.State.{builder_in, writer_in, pool_in, builder_words, failure_words, writer_list, pool_list};
+ghost use Rattle.desk_report.specs.Steps.{narrow_in, failure_by};
 
-use crate::answer::{put, put_row};
-use builder::builder::Builder;
+use crate::answer::lay_words;
+use builder::builder::{Builder, FailedJoin};
 use join_pool::Pool;
 use writer::Writer;
 
-// The words of each state.
+// The words of a builder's state.
 pub const BUILDER_WORDS: usize = 11;
+// Where those of a failed join's atoms are.
+pub const CLOSING: usize = 9;
 
-const WRITER_WORDS: usize = 2;
+pub const OPENING: usize = 10;
 
-const POOL_WORDS: usize = 2;
+// A state that is kept as words between two calls.
+pub trait StateWords {
+    ghost taken: { List ℕ → Option Self };
 
-// The first number that is too large for a field of 32 bits.
-const NARROW: u64 = 0x1_0000_0000;
+    ghost listed: { Self → List ℕ };
 
-// What words stand for: a builder's state, or none; and the like for a writer and for a pool.
-#[derive(Clone, Copy)]
-pub enum AsBuilder {
-    Is(Builder),
-    Bad,
+    // The state that words stand for.
+    fn read(lent: &[u64]) -> Option<Self>
+        ensures { result ≡ taken lent.now };
+
+    // Its words, as far as there is room.
+    fn lay(self, lent: &mut [u64])
+        ensures { lent.new ≡ sets lent.old 0 (listed self) };
 }
 
-#[derive(Clone, Copy)]
-pub enum AsWriter {
-    Is(Writer),
-    Bad,
-}
-
-#[derive(Clone, Copy)]
-pub enum AsPool {
-    Is(Pool),
-    Bad,
-}
-
-// The word at a place, or 0 past the end.
-fn word(lent: &[u64], at: usize) -> u64
-    ensures { result ≡ get_or lent.now at 0 }
+// A word for a field of 32 bits.
+fn narrow(word: u64) -> Option<u32>
+    ensures { result ≡ narrow_in word }
 {
-    if at < lent.len() {
-        return lent[at];
-    }
-    0
+    u32::try_from(word).ok()
 }
 
-pub fn builder_in(lent: &[u64]) -> AsBuilder
-    ensures { result ≡ builder_in lent.now }
+// The failed join that a flag and two words tell of: 1 and its two atoms, or 0.
+#[tactic(auto, unfolding(crate::specs::Steps::failure_by))]
+fn failure(flag: u64, closing: u32, opening: u32) -> Option<Option<FailedJoin>>
+    ensures { result ≡ failure_by flag closing opening }
 {
-    if lent.len() < BUILDER_WORDS {
-        return AsBuilder::Bad;
+    match flag {
+        0 => Some(None),
+        1 => Some(Some(FailedJoin { closing, opening })),
+        _ => None,
     }
-    let refusal = word(lent, 0);
-    if NARROW <= refusal {
-        return AsBuilder::Bad;
-    }
-    let failed = word(lent, 8);
-    if 1 < failed {
-        return AsBuilder::Bad;
-    }
-    let closing = word(lent, 9);
-    if NARROW <= closing {
-        return AsBuilder::Bad;
-    }
-    let opening = word(lent, 10);
-    if NARROW <= opening {
-        return AsBuilder::Bad;
-    }
-    AsBuilder::Is(Builder {
-        refusal: refusal as u32,
-        carried: word(lent, 1) as usize,
-        places: word(lent, 2) as usize,
-        slots: word(lent, 3) as usize,
-        atoms: word(lent, 4) as usize,
-        entries: word(lent, 5) as usize,
-        top: word(lent, 6) as usize,
-        joins: word(lent, 7) as usize,
-        failed: failed == 1,
-        closing: closing as u32,
-        opening: opening as u32,
-    })
 }
 
-pub fn writer_in(lent: &[u64]) -> AsWriter
-    ensures { result ≡ writer_in lent.now }
-{
-    if lent.len() < WRITER_WORDS {
-        return AsWriter::Bad;
+impl StateWords for Builder {
+    ghost taken = { builder_in };
+
+    ghost listed = { builder_words };
+
+    #[tactic(auto, unfolding(crate::specs::State::builder_in))]
+    fn read(lent: &[u64]) -> Option<Builder> {
+        let [
+            refusal,
+            carried,
+            places,
+            slots,
+            atoms,
+            entries,
+            top,
+            joins,
+            failed,
+            closing,
+            opening,
+            ..
+        ] = lent
+        else {
+            return None;
+        };
+        Some(Builder {
+            refusal: narrow(*refusal)?,
+            carried: *carried as usize,
+            places: *places as usize,
+            slots: *slots as usize,
+            atoms: *atoms as usize,
+            entries: *entries as usize,
+            top: *top as usize,
+            joins: *joins as usize,
+            failed: failure(*failed, narrow(*closing)?, narrow(*opening)?)?,
+        })
     }
-    AsWriter::Is(Writer {
-        pieces: word(lent, 0) as usize,
-        len: word(lent, 1) as usize,
-    })
+
+    // Where no join has failed, the words of its atoms are left as they are.
+    #[tactic(auto, unfolding(crate::specs::State::builder_words, crate::specs::State::failure_words))]
+    fn lay(self, lent: &mut [u64]) {
+        let [r, v, p, l, n, m, t, o] = [
+            u64::from(self.refusal),
+            self.carried as u64,
+            self.places as u64,
+            self.slots as u64,
+            self.atoms as u64,
+            self.entries as u64,
+            self.top as u64,
+            self.joins as u64,
+        ];
+        match self.failed {
+            None => lay_words(lent, &[r, v, p, l, n, m, t, o, 0]),
+            Some(f) => {
+                let (x, y) = (u64::from(f.closing), u64::from(f.opening));
+                lay_words(lent, &[r, v, p, l, n, m, t, o, 1, x, y]);
+            }
+        }
+    }
 }
 
-pub fn pool_in(lent: &[u64]) -> AsPool
-    ensures { result ≡ pool_in lent.now }
-{
-    if lent.len() < POOL_WORDS {
-        return AsPool::Bad;
+impl StateWords for Writer {
+    ghost taken = { writer_in };
+
+    ghost listed = { writer_list };
+
+    #[tactic(auto, unfolding(crate::specs::State::writer_in))]
+    fn read(lent: &[u64]) -> Option<Writer> {
+        let [pieces, len, ..] = lent else {
+            return None;
+        };
+        Some(Writer {
+            pieces: *pieces as usize,
+            len: *len as usize,
+        })
     }
-    let counter = word(lent, 0);
-    if NARROW <= counter {
-        return AsPool::Bad;
+
+    #[tactic(auto, unfolding(crate::specs::State::writer_list))]
+    fn lay(self, lent: &mut [u64]) {
+        lay_words(lent, &[self.pieces as u64, self.len as u64]);
     }
-    let spare = word(lent, 1);
-    if NARROW <= spare {
-        return AsPool::Bad;
-    }
-    AsPool::Is(Pool {
-        counter: counter as u32,
-        spare: spare as u32,
-    })
 }
 
-fn flag(b: bool) -> u64
-    ensures { result ≡ pick b 1 0 }
-{
-    if b {
-        return 1;
+impl StateWords for Pool {
+    ghost taken = { pool_in };
+
+    ghost listed = { pool_list };
+
+    #[tactic(auto, unfolding(crate::specs::State::pool_in))]
+    fn read(lent: &[u64]) -> Option<Pool> {
+        let [counter, spare, ..] = lent else {
+            return None;
+        };
+        Some(Pool {
+            counter: narrow(*counter)?,
+            spare: narrow(*spare)?,
+        })
     }
-    0
-}
 
-pub fn lay_builder(lent: &mut [u64], builder: Builder)
-    ensures { lent.new ≡ sets lent.old 0 (builder_words builder) }
-{
-    put_row(
-        lent,
-        0,
-        builder.refusal as u64,
-        builder.carried as u64,
-        builder.places as u64,
-    );
-    put_row(
-        lent,
-        3,
-        builder.slots as u64,
-        builder.atoms as u64,
-        builder.entries as u64,
-    );
-    put_row(
-        lent,
-        6,
-        builder.top as u64,
-        builder.joins as u64,
-        flag(builder.failed),
-    );
-    put(lent, 9, builder.closing as u64);
-    put(lent, 10, builder.opening as u64);
-}
-
-pub fn lay_writer(lent: &mut [u64], w: Writer)
-    ensures { lent.new ≡ sets lent.old 0 (writer_list w) }
-{
-    put(lent, 0, w.pieces as u64);
-    put(lent, 1, w.len as u64);
-}
-
-pub fn lay_pool(lent: &mut [u64], p: Pool)
-    ensures { lent.new ≡ sets lent.old 0 (pool_list p) }
-{
-    put(lent, 0, p.counter as u64);
-    put(lent, 1, p.spare as u64);
+    #[tactic(auto, unfolding(crate::specs::State::pool_list))]
+    fn lay(self, lent: &mut [u64]) {
+        lay_words(lent, &[u64::from(self.counter), u64::from(self.spare)]);
+    }
 }

@@ -2,7 +2,7 @@
 use Prim.Native.Nat.{ℕ, zero, suc, ◌+◌, ◌%◌, ◌<◌, ◌≤◌}
 use mathlib.Core.Path.{◌≡◌, refl, sym, ap, ◌∙◌, subst}
 use mathlib.Core.List.{List}
-use mathlib.Core.Bool.{Bool, true, false}
+use mathlib.Core.Bool.{Bool, true, false, false≢true}
 use native.Mathlib.Omega.{arith}
 use native.Mathlib.Numerals.{add-one}
 use lib.Dec.{eqb, ltb}
@@ -10,12 +10,28 @@ use borrow.Author.Tests.{eqb-true, eq-eqb, ltb-true, ltb-false, lt-leb}
 use Rattle.feature.specs.Pick.{pick}
 use Rattle.feature.specs.Bonds.{code_of, kind_of, reverse_of}
 use Rattle.feature.specs.declared.bond_kind.BondKind.{BondKind}
+use Rattle.std.specs.Prelude.{None, Option, Some}
+use Rattle.packing.specs.Words.{entry_of_words, entry_coded}
+use Rattle.packing.proofs.Laws.{bond_only}
 use Rattle.builder.specs.State.{unclosed}
 use Rattle.feature.specs.Every.{every}
 use Rattle.feature.proofs.Every.{every_at}
 use Rattle.feature.proofs.Bonds.{reverse_twice, kind_back}
 use Rattle.feature.proofs.Cases.{both_first, both_second}
-use Rattle.desk_state.specs.Standing.{source_at, entry_kind_at, target_at, is_entry_to, bonds_counted, turned_of, is_own, is_matched, is_paired}
+use Rattle.desk_state.specs.Standing.{is_kind, source_at, entry_kind_at, target_at, is_entry_to, bonds_counted, turned_of, is_own, is_matched, is_paired}
+
+-- ---- kinds
+-- a number that is a kind's is its code, and the other way round
+pub kind_code : (n : ℕ) → is_kind (kind_of n) ≡ true → (k : BondKind) × (n ≡ code_of k)
+unfolding is_kind entry_of_words entry_coded
+kind_code n h = go (kind_of n) refl h where
+  go : (q : Option BondKind) → kind_of n ≡ q → is_kind q ≡ true → (k : BondKind) × (n ≡ code_of k)
+  go (Some k) e i = (k, (bond_only n 0 k 0 (ap (λ (x : Option BondKind). entry_coded x 0) e)).0)
+  go None e i = absurd (false≢true i)
+
+pub code_kind : (k : BondKind) → is_kind (kind_of (code_of k)) ≡ true
+unfolding is_kind
+code_kind k = rw (kind_back k)
 
 -- ---- one turn of the count
 pub count_step : (e : List ℕ) (a k t i : ℕ) → bonds_counted e a k t (i + 1) ≡ bonds_counted e a k t i + pick (is_entry_to e a k t i) 1 0

@@ -11,45 +11,29 @@ use borrow.Author.Tests.{eqb-true, eqb-false, eq-eqb, ne_eqb, lt-ltb, le-ltb, lt
 use Rattle.feature.specs.Pick.{pick, neither, both}
 use Rattle.feature.specs.Every.{every}
 use Rattle.feature.specs.Kinds.{no_configuration, no_hydrogens, th1, th2, with_configuration, in_range, invert_bracket, invert_of}
-use Rattle.feature.specs.Bonds.{code_of, kind_of, reverse_of, reconcile_of}
+use Rattle.feature.specs.Bonds.{kind_of, reverse_of, reconcile_of}
 use Rattle.feature.specs.declared.atom_kind.BracketAtom.{BracketAtom}
 use Rattle.feature.specs.declared.atom_kind.AtomKind.{AtomKind}
 use Rattle.feature.specs.declared.atom_kind.AtomKind.TheVariants.{Star, Aliphatic, Aromatic, Bracket}
-use Rattle.feature.specs.declared.atom_kind.Inverted.{Inverted}
-use Rattle.feature.specs.declared.atom_kind.Inverted.TheVariants.{Turned, Refused}
+use Rattle.std.specs.Prelude.{None, Option, Some}
 use Rattle.feature.specs.declared.bond_kind.BondKind.{BondKind}
-use Rattle.feature.specs.declared.bond_kind.Coded.{Coded}
-use Rattle.feature.specs.declared.bond_kind.Coded.TheVariants as coded
-use Rattle.feature.specs.declared.bond_kind.Reconciled.{Reconciled}
-use Rattle.feature.specs.declared.bond_kind.Reconciled.TheVariants.{Both, Fails}
 use Rattle.feature.proofs.Cases.{by_test, both_first, both_second, both_pass}
 use Rattle.feature.proofs.Every.{every_at, every_all}
 use Rattle.feature.proofs.Ranges.{good, ranged}
-use Rattle.feature.proofs.Bonds.{same_code, Reversed, reconciled, kind_back}
-use Rattle.packing.specs.Words.{is_atom, entry_of_words, entry_coded}
-use Rattle.packing.proofs.Laws.{bond_only}
+use Rattle.feature.proofs.Bonds.{same_code, Reversed, reconciled}
+use Rattle.packing.specs.Words.{is_atom}
 use Rattle.table.specs.Limits.{atom_limit, bond_limit, ring_number_count, places_in}
-use Rattle.builder.specs.State.{Bld, bld, unclosed, refuse, last_of, entered, root_of, bonded, extended_by, extend_of, opened_of, opened_at, opening_of, opening_kind, failed_st, closed_by, join_of, pop_of}
+use Rattle.builder.specs.State.{Bld, bld, failed_join, unclosed, refuse, last_of, entered, root_of, bonded, extended_by, extend_of, opened_of, opened_at, opening_of, opening_kind, failed_st, closed_by, join_of, pop_of}
 use Rattle.builder.specs.Steps.{SmallCounts}
 use Rattle.builder.specs.declared.builder.Builder.{Builder}
-use Rattle.desk_state.specs.Standing.{is_kind, source_at, entry_kind_at, target_at, is_target, is_builder_entry, bonds_counted, turned_of, is_own, is_matched, is_paired, least_open, is_later, is_step, is_apart, is_ring, open_rings, joins_stand, entry_slots_in, counts_stand, failure_stands, is_state}
+use Rattle.builder.specs.declared.builder.FailedJoin.{FailedJoin}
+use Rattle.std.specs.Prelude.{is_some}
+use Rattle.desk_state.specs.Standing.{is_kind, source_at, entry_kind_at, target_at, is_target, is_builder_entry, bonds_counted, turned_of, is_own, is_matched, is_paired, least_open, is_later, is_step, is_apart, is_ring, open_rings, joins_stand, entry_slots_in, counts_stand, failure_stands, failure_below, is_state}
 use Rattle.desk_state.specs.Steps.{Between}
 use Rattle.desk_state.proofs.Counts.{counts}
-use Rattle.desk_state.proofs.Ends.{turned_code, to_matched, both_ends, even_ends}
+use Rattle.desk_state.proofs.Ends.{kind_code, code_kind, turned_code, to_matched, both_ends, even_ends}
 use Rattle.desk_state.proofs.Grown.{Plain, Pairs}
 use Rattle.desk_state.proofs.Keeps.{Keeps, keeps_root, keeps_extend, keeps_open, keeps_fail, keeps_close, keeps_pop}
-
--- ---- kinds
-kind_code : (n : ℕ) → is_kind (kind_of n) ≡ true → (k : BondKind) × (n ≡ code_of k)
-unfolding is_kind entry_of_words entry_coded
-kind_code n h = go (kind_of n) refl h where
-  go : (q : Coded) → kind_of n ≡ q → is_kind q ≡ true → (k : BondKind) × (n ≡ code_of k)
-  go (coded.Kind k) e i = (k, (bond_only n 0 k 0 (ap (λ (x : Coded). entry_coded x 0) e)).0)
-  go coded.Bad e i = absurd (false≢true i)
-
-code_kind : (k : BondKind) → is_kind (kind_of (code_of k)) ≡ true
-unfolding is_kind
-code_kind k = rw (kind_back k)
 
 -- ---- entries
 -- the entries of a state are between atoms
@@ -59,7 +43,7 @@ between s e m few most all =
     record {
       few = few;
       most = most;
-      kind = λ i l. kind_code (entry_kind_at e i) (both_first (is_kind (kind_of (entry_kind_at e i))) _ (both_second (ltb (source_at e i) s.atoms) _ (at i l)));
+      kind = λ i l. both_first (is_kind (kind_of (entry_kind_at e i))) _ (both_second (ltb (source_at e i) s.atoms) _ (at i l));
       source = λ i l. ltb-true _ _ (both_first (ltb (source_at e i) s.atoms) _ (at i l));
       target = λ i l u. ltb-true _ _ (subst (λ (q : Bool). pick q (ltb (target_at e i) s.atoms) (ltb (target_at e i - unclosed) s.joins) ≡ true) (lt-ltb (target_at e i) unclosed u) (both_second (is_kind (kind_of (entry_kind_at e i))) _ (both_second (ltb (source_at e i) s.atoms) _ (at i l))));
     }
@@ -153,7 +137,7 @@ module _ (s : Builder) (e r : List ℕ) where
 -- ---- a state as what it keeps to
 -- the failure that is remembered
 abbrev pub Failing : Builder → Type 0
-Failing s = s.failed ≡ true → (s.closing < s.atoms) × (s.opening < s.atoms)
+Failing s = (f : FailedJoin) → s.failed ≡ Some f → (f.closing < s.atoms) × (f.opening < s.atoms)
 
 abbrev pub KeepsOf : Bld → Type 0
 KeepsOf b =
@@ -173,16 +157,16 @@ rooms s la le lp lr h1 =
 
 to_failing : (s : Builder) → failure_stands s ≡ true → Failing s
 unfolding failure_stands
-to_failing s h t =
-    let z : both (ltb s.closing s.atoms) (ltb s.opening s.atoms) ≡ true = subst (λ (q : Bool). pick q (both (ltb s.closing s.atoms) (ltb s.opening s.atoms)) true ≡ true) t h in
-    (ltb-true _ _ (both_first (ltb s.closing s.atoms) _ z), ltb-true _ _ (both_second (ltb s.closing s.atoms) _ z))
+to_failing s h f e =
+    let z : failure_below s.atoms (Some f) ≡ true = subst (λ (q : Option FailedJoin). failure_below s.atoms q ≡ true) e h in
+    (ltb-true _ _ (both_first (ltb f.closing s.atoms) _ z), ltb-true _ _ (both_second (ltb f.closing s.atoms) _ z))
 
 of_failing : (s : Builder) → Failing s → failure_stands s ≡ true
 unfolding failure_stands
 of_failing s h = go s.failed refl where
-  go : (q : Bool) → s.failed ≡ q → pick q (both (ltb s.closing s.atoms) (ltb s.opening s.atoms)) true ≡ true
-  go true t = let z = h t in both_pass (lt-ltb _ _ z.0) (lt-ltb _ _ z.1)
-  go false t = refl
+  go : (q : Option FailedJoin) → s.failed ≡ q → failure_below s.atoms q ≡ true
+  go None e = refl
+  go (Some f) e = let z = h f e in both_pass (lt-ltb _ _ z.0) (lt-ltb _ _ z.1)
 
 pub holds : (b : Bld) → is_state b ≡ true → Holds b
 unfolding is_state joins_stand is_step
@@ -267,9 +251,9 @@ small b w =
 
 -- ---- kinds that change
 -- a mark that is toggled stays in range
-abbrev RangeKept : Inverted → Type 0
-RangeKept Refused = Unit {0}
-RangeKept (Turned t) = in_range t ≡ true
+abbrev RangeKept : Option AtomKind → Type 0
+RangeKept None = Unit {0}
+RangeKept (Some t) = in_range t ≡ true
 
 marked_range : (b : BracketAtom) (c : ℕ) → c ≤ th2 → in_range (Bracket b) ≡ true → in_range (Bracket (with_configuration b c)) ≡ true
 marked_range b c l h =
@@ -297,8 +281,8 @@ module _ (b : Bld) (h : Holds b) where
   unfolding refuse
   refuse_holds r c = record { keeps = h.keeps; failing = h.failing }
 
-  more_failing : Failing b.st → b.st.failed ≡ true → (b.st.closing < b.st.atoms + 1) × (b.st.opening < b.st.atoms + 1)
-  more_failing f t = let z = f t in (omega (arith, z.0), omega (arith, z.1))
+  more_failing : Failing b.st → (f : FailedJoin) → b.st.failed ≡ Some f → (f.closing < b.st.atoms + 1) × (f.opening < b.st.atoms + 1)
+  more_failing h f e = let z = h f e in (omega (arith, z.0), omega (arith, z.1))
 
   pub root_holds : (k : AtomKind) (place : ℕ) → in_range k ≡ true → Holds (root_of b k place)
   unfolding root_of entered
@@ -314,10 +298,10 @@ module _ (b : Bld) (h : Holds b) where
   unfolding last_of
   last_below z = h.keeps.steps (b.st.top - 1) (omega arith)
 
-  extended_holds : (c : BondKind) (q : Inverted) → RangeKept q → b.st.top ≢ 0 → b.st.atoms < b.st.places → b.st.entries + 2 ≤ b.st.slots → Holds (extended_by b c q)
+  extended_holds : (c : BondKind) (q : Option AtomKind) → RangeKept q → b.st.top ≢ 0 → b.st.atoms < b.st.places → b.st.entries + 2 ≤ b.st.slots → Holds (extended_by b c q)
   unfolding extended_by entered bonded
-  extended_holds c Refused ok z room fits = refuse_holds _ b.st.atoms
-  extended_holds c (Turned t) ok z room fits =
+  extended_holds c None ok z room fits = refuse_holds _ b.st.atoms
+  extended_holds c (Some t) ok z room fits =
       record {
         keeps = keeps_extend b.st.places b.st.slots b.st.atoms b.st.entries b.st.top b.st.joins b.atoms b.entries b.path b.rings h.keeps t c (last_of b) ok room fits (last_below z);
         failing = more_failing h.failing;
@@ -345,16 +329,21 @@ module _ (b : Bld) (h : Holds b) where
     unfolding opening_of opened_at
     opener_below held = h.keeps.plain.source (get_or b.rings n 0 - 1) (let z = h.keeps.each n below held in omega (arith, z.0, held))
 
-    closed_holds : (place : ℕ) (q : Reconciled) → Reversed q → get_or b.rings n 0 ≢ 0 → Holds (closed_by b n place q)
+    closed_holds : (place : ℕ) (q : Option (BondKind × BondKind)) → Reversed q → get_or b.rings n 0 ≢ 0 → Holds (closed_by b n place q)
     unfolding closed_by failed_st opened_at opening_of
-    closed_holds place Fails back held =
-        by_test (λ (s : Builder). Holds (bld b.atoms b.entries b.path (set b.rings n 0) s)) b.st.failed
-        (λ t. record { keeps = fails; failing = λ e. h.failing t })
-        (λ t. record { keeps = fails; failing = λ e. (last_below some, opener_below held) })
+    closed_holds place None back held =
+        by_test (λ (s : Builder). Holds (bld b.atoms b.entries b.path (set b.rings n 0) s)) (is_some b.st.failed)
+        (λ t. record { keeps = fails; failing = h.failing })
+        (λ t. record {
+          keeps = fails;
+          failing = λ f e.
+              let q : failed_join (last_of b) (opening_of b n) ≡ f = cc in
+              subst (λ (g : FailedJoin). (g.closing < b.st.atoms) × (g.opening < b.st.atoms)) q (last_below some, opener_below held);
+        })
       where
         fails : Keeps b.st.places b.st.slots b.st.atoms b.st.entries b.st.top (b.st.joins + 1) b.atoms b.entries b.path (set b.rings n 0)
         fails = keeps_fail b.st.places b.st.slots b.st.atoms b.st.entries b.st.top b.st.joins b.atoms b.entries b.path b.rings h.keeps n below held
-    closed_holds place (Both l r) back held =
+    closed_holds place (Some (l, r)) back held =
         by_test Holds (ltb b.st.slots (b.st.entries + 1)) (λ e. refuse_holds _ place)
         (λ f. record {
           keeps = keeps_close b.st.places b.st.slots b.st.atoms b.st.entries b.st.top b.st.joins b.atoms b.entries b.path b.rings h.keeps n below held l r (last_of b) back (ltb-false _ _ f) (last_below some);

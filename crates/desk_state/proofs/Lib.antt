@@ -1,6 +1,7 @@
 -- Laws that the proofs and the crates above cite.
 pub mod Counts
 pub mod Ends
+pub mod Rings
 pub mod Turns
 pub mod Grown
 pub mod Keeps
@@ -8,3 +9,4 @@ pub mod Kept
 pub mod Links
 pub mod Levels
 pub mod Ways
+pub mod Walks

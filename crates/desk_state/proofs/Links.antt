@@ -11,7 +11,7 @@ use native.Mathlib.Numerals.{add-one}
 use lib.ListN.{length, get_or, set, length-set}
 use lib.Seq.{get_or-set_same, get_or-set_other}
 use lib.Dec.{eqb, ltb}
-use borrow.Author.Tests.{eqb-true, eq-eqb, ne_eqb, ltb-true, ltb-false, lt-ltb, le-ltb}
+use borrow.Author.Tests.{eqb-true, eq-eqb, ne_eqb, ltb-true, ltb-false, lt-ltb}
 use Rattle.feature.specs.Pick.{pick}
 use Rattle.feature.proofs.Cases.{by_eq, both_first, both_second}
 use Rattle.builder.specs.State.{unclosed, entry_words}
@@ -156,6 +156,9 @@ module _ (e : List ℕ) (column m : ℕ) (head next : List ℕ) (room : m < leng
         nexts = λ i l u. by_eq i m
             (λ q. ap (λ (x : ℕ). get_or (set next m (get_or head w 0)) x 0) q ∙ get_or-set_same next m (get_or head w 0) 0 room ∙ h.heads w (key c) ∙ ap (λ (x : ℕ). last_at e column (word_at e column x) x) (sym q))
             (λ q. get_or-set_other next m i (get_or head w 0) 0 q ∙ h.nexts i (omega (arith, l, q)) u);
+        descends = λ i. by_eq i m
+            (λ q. omega (arith, q, ap (λ (x : ℕ). get_or (set next m (get_or head w 0)) x 0) q, get_or-set_same next m (get_or head w 0) 0 room, h.heads w (key c), last_le e column w m))
+            (λ q. omega (arith, get_or-set_other next m i (get_or head w 0) 0 q, h.descends i));
       }
 
   open_step : ltb (target_at e m) unclosed ≡ false → Linked e column (m + 1) head next
@@ -165,6 +168,7 @@ module _ (e : List ℕ) (column m : ℕ) (head next : List ℕ) (room : m < leng
         nexts = λ i l u. by_eq i m
             (λ q. let z : target_at e i ≡ target_at e m = ap (target_at e) q in absurd (omega (arith, u, z, ltb-false (target_at e m) unclosed is)))
             (λ q. h.nexts i (omega (arith, l, q)) u);
+        descends = h.descends;
       }
 
   pub linked_step : Linked e column (m + 1) (head_with e column m head) (next_with e column m head next)
@@ -179,17 +183,4 @@ linked_next e column m {head} {next} room key h x y = rw (x, y) (linked_step e c
 
 pub linked_none : (e : List ℕ) (column n : ℕ) (head next : List ℕ) → Loose e column n head next → Linked e column 0 head next
 unfolding last_at
-linked_none e column n head next h = record { heads = λ a l. h.blank a; nexts = λ i l. absurd (omega arith) }
-
--- the ways through one of them
-pub link_open : (e : List ℕ) (column i : ℕ) (head next : List ℕ) (x : ℕ) → x ≡ target_at e i → unclosed ≤ x → (head ≡ head_with e column i head) × (next ≡ next_with e column i head next)
-unfolding head_with next_with
-link_open e column i head next x is u =
-    let z : ltb (target_at e i) unclosed ≡ false = le-ltb (target_at e i) unclosed (omega (arith, is, u)) in
-    (rw z refl, rw z refl)
-
-pub link_closed : (e : List ℕ) (column i : ℕ) (head next : List ℕ) {x w v : ℕ} {head' next' : List ℕ} → x ≡ target_at e i → x < unclosed → w ≡ word_at e column i → v ≡ get_or head w 0 → next' ≡ set next i v → head' ≡ set head w (i + 1) → (head' ≡ head_with e column i head) × (next' ≡ next_with e column i head next)
-unfolding head_with next_with
-link_closed e column i head next is u w v y x =
-    let z : ltb (target_at e i) unclosed ≡ true = lt-ltb (target_at e i) unclosed (omega (arith, is, u)) in
-    (rw (z, x, w) refl, rw (z, y, v, w) refl)
+linked_none e column n head next h = record { heads = λ a l. h.blank a; nexts = λ i l. absurd (omega arith); descends = λ i. omega (arith, h.unlinked i) }

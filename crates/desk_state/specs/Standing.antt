@@ -3,20 +3,20 @@
 -- held at both ends as reverses; so one from an atom to itself is two entries. The joins of open entries rise, so that no two
 -- are the same. The path goes over atoms. Each open ring number leads to an entry of its own whose join is open. There are no
 -- more joins than the entries tell of. A failure that is remembered names atoms.
-use Rattle.std.specs.Prelude.{ℕ, zero, suc, ◌+◌, ◌*◌, ◌-◌, ◌/◌, ◌%◌, List, Bool, true, false, length, get_or, ltb, leb, eqb}
+use Rattle.std.specs.Prelude.{ℕ, zero, suc, ◌+◌, ◌*◌, ◌-◌, ◌/◌, ◌%◌, List, Bool, true, false, length, get_or, ltb, leb, eqb, Option, None, Some}
 use Rattle.feature.specs.Every.{every}
 use Rattle.feature.specs.Pick.{pick, neither, both}
 use Rattle.feature.specs.Bonds.{code_of, kind_of, reverse_of}
-use Rattle.feature.specs.declared.bond_kind.Coded.{Coded}
-use Rattle.feature.specs.declared.bond_kind.Coded.TheVariants as coded
+use Rattle.feature.specs.declared.bond_kind.BondKind.{BondKind}
 use Rattle.packing.specs.Words.{is_atom}
 use Rattle.table.specs.Limits.{bond_limit, lesser_of, ring_number_count, places_in}
 use Rattle.builder.specs.State.{Bld, entry_words, unclosed}
 use Rattle.builder.specs.declared.builder.Builder.{Builder}
+use Rattle.builder.specs.declared.builder.FailedJoin.{FailedJoin}
 
-unfoldable pub is_kind : Coded → Bool
-is_kind (coded.Kind k) = true
-is_kind coded.Bad = false
+unfoldable pub is_kind : Option BondKind → Bool
+is_kind (Some k) = true
+is_kind None = false
 
 -- the words of entry i
 abbrev pub source_at : List ℕ → ℕ → ℕ
@@ -51,9 +51,9 @@ bonds_counted e a k t zero = 0
 bonds_counted e a k t (suc m) = bonds_counted e a k t m + pick (is_entry_to e a k t m) 1 0
 
 -- the number of a kind from the other end
-unfoldable pub turned_of : Coded → ℕ
-turned_of (coded.Kind k) = code_of (reverse_of k)
-turned_of coded.Bad = 0
+unfoldable pub turned_of : Option BondKind → ℕ
+turned_of (Some k) = code_of (reverse_of k)
+turned_of None = 0
 
 -- a bond of a kind from s to t is its own reverse
 unfoldable pub is_own : ℕ → ℕ → ℕ → Bool
@@ -121,10 +121,14 @@ counts_stand s la le lp lr =
     (both (leb s.entries s.slots)
     (leb s.top s.atoms))))))
 
+-- a failure that is remembered names atoms below n
+abbrev pub failure_below : ℕ → Option FailedJoin → Bool
+failure_below n None = true
+failure_below n (Some f) = both (ltb f.closing n) (ltb f.opening n)
+
 -- the failure that is remembered, if any
 unfoldable pub failure_stands : Builder → Bool
-failure_stands s =
-    pick s.failed (both (ltb s.closing s.atoms) (ltb s.opening s.atoms)) true
+failure_stands s = failure_below s.atoms s.failed
 
 unfoldable pub is_state : Bld → Bool
 is_state b =

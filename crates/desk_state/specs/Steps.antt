@@ -1,14 +1,15 @@
 -- Steps of the proofs: no public claim rests on these definitions.
 -- What the loops of the judge of pairs keep: the closed entries in chains, by the atom that each is from and by the one that
 -- it is to, and counts along them. What pairs are, `is_paired` says.
-use Rattle.std.specs.Prelude.{ℕ, zero, suc, ◌+◌, ◌*◌, ◌-◌, ◌%◌, ◌<◌, ◌≤◌, ◌≡◌, List, Bool, true, false, length, get_or, set, ltb, eqb}
+use Rattle.std.specs.Prelude.{ℕ, zero, suc, ◌+◌, ◌*◌, ◌-◌, ◌%◌, ◌<◌, ◌≤◌, ◌≡◌, List, Bool, true, false, length, get_or, set, ltb, eqb, Option, MatchOption}
+use Rattle.desk_state.specs.declared.chains.Chain.{Chain}
 use Rattle.feature.specs.Every.{every}
 use Rattle.feature.specs.Pick.{pick, neither, both}
 use Rattle.feature.specs.Bonds.{code_of, kind_of, reverse_of}
 use Rattle.feature.specs.declared.bond_kind.BondKind.{BondKind}
 use Rattle.table.specs.Limits.{atom_limit, bond_limit}
 use Rattle.builder.specs.State.{entry_words, unclosed}
-use Rattle.desk_state.specs.Standing.{source_at, entry_kind_at, target_at, bonds_counted, turned_of, is_own, is_paired}
+use Rattle.desk_state.specs.Standing.{is_kind, source_at, entry_kind_at, target_at, bonds_counted, turned_of, is_own, is_paired}
 
 -- ---- chains
 -- a word of entry i
@@ -24,17 +25,28 @@ unfoldable pub last_at : List ℕ → ℕ → ℕ → ℕ → ℕ
 last_at e column a zero = 0
 last_at e column a (suc m) = pick (is_of e column a m) (suc m) (last_at e column a m)
 
+-- no entry is followed by itself or by a later one
+abbrev pub Descends : List ℕ → Type 0
+Descends next = (i : ℕ) → get_or next i 0 ≤ i
+
 -- of each atom its last entry, and of each entry the one before it
 pub record Linked (e : List ℕ) (column m : ℕ) (head next : List ℕ) : Type 0 where
   pub heads : (a : ℕ) → a < length head → get_or head a 0 ≡ last_at e column a m
   pub nexts : (i : ℕ) → i < m → target_at e i < unclosed → get_or next i 0 ≡ last_at e column (word_at e column i) i
+  pub descends : Descends next
 
 -- what is to be linked: no entry yet, and room for all
 pub record Loose (e : List ℕ) (column n : ℕ) (head next : List ℕ) : Type 0 where
   pub few : n ≤ bond_limit
   pub blank : (a : ℕ) → get_or head a 0 ≡ 0
+  pub unlinked : (i : ℕ) → get_or next i 0 ≡ 0
   pub room : n ≤ length next
   pub keys : (i : ℕ) → i < n → target_at e i < unclosed → word_at e column i < length head
+
+-- a walk along a chain: which entry comes next, and where the walk goes on
+abbrev pub goes_along : Chain → Option ℕ → Chain → Type 0
+goes_along s r t =
+    MatchOption r (s.ahead ≡ 0) (λ i. (s.ahead ≡ i + 1) × (t.ahead ≡ get_or s.next.now i 0) × (t.next.now ≡ s.next.now))
 
 -- entry i put into its chain
 unfoldable pub head_with : List ℕ → ℕ → ℕ → List ℕ → List ℕ
@@ -120,16 +132,11 @@ pub record Judged (r : Bool) (e : List ℕ) (n : ℕ) (X : Type 0) : Type 0 wher
 pub record Between (e : List ℕ) (n atoms : ℕ) : Type 0 where
   pub few : n ≤ bond_limit
   pub most : atoms ≤ atom_limit
-  pub kind : (i : ℕ) → i < n → (k : BondKind) × (entry_kind_at e i ≡ code_of k)
+  pub kind : (i : ℕ) → i < n → is_kind (kind_of (entry_kind_at e i)) ≡ true
   pub source : (i : ℕ) → i < n → source_at e i < atoms
   pub target : (i : ℕ) → i < n → target_at e i < unclosed → target_at e i < atoms
 
--- both chains linked, and the counts for so many atoms
-pub record ChainsReady (e : List ℕ) (n atoms : ℕ) (first before last after d : List ℕ) : Type 0 where
-  pub between : Between e n atoms
-  pub from : Linked e 0 n first before
-  pub to : Linked e 2 n last after
-  pub firsts : atoms ≤ length first
-  pub lasts : atoms ≤ length last
-  pub counts : atoms * bond_kind_count < length d
-  pub blank : NoneCounted d
+-- counts for so many atoms, with nothing counted
+pub record Blank (atoms : ℕ) (d : List ℕ) : Type 0 where
+  pub room : atoms * bond_kind_count < length d
+  pub none : NoneCounted d

@@ -1,178 +1,131 @@
 // Whether tables and the numbers beside them stand for a builder's state.
-ghost use Rattle.std.specs.Prelude.{◌≡◌, ◌≤◌, ltb};
+ghost use Rattle.std.specs.Prelude.{◌≡◌, ◌≤◌, ltb, true, length};
 ghost use Rattle.feature.specs.Bonds.{kind_of};
 ghost use Rattle.table.specs.Limits.{atom_limit, bond_limit, ring_number_count};
 ghost use Rattle.builder.specs.State.{bld};
 ghost use Rattle.feature.specs.Every.{every};
 ghost use Rattle.packing.specs.Words.{is_atom};
 ghost use Rattle.desk_state.specs.Standing.{is_kind, is_target, is_builder_entry, is_step, is_ring, counts_stand, failure_stands, is_state};
+ghost use Rattle.desk_state.specs.Steps.{Between};
 
+use crate::entry::Entry;
 use crate::joins::{joins_rise, joins_stand, leads_alone};
 use crate::pairs::pairs_stand;
 use builder::builder::{Builder, ENTRY_WORDS, OPEN};
-use feature::bond_kind::{Coded, decode};
+use feature::bond_kind::decode;
 use packing::is_atom;
-use table::limits::{ATOMS, BONDS, RING_NUMBER_COUNT, lesser};
-use table::{ATOM_WORDS, look};
-
-// Where the words of an entry are.
-pub const KIND: usize = 1;
-
-pub const TARGET: usize = 2;
+use table::limits::{BONDS, RING_NUMBER_COUNT, atom_room, lesser};
+use table::look;
 
 fn atoms_stand(atoms: &[u32], n: usize) -> bool
     requires { n ≤ atom_limit }
     ensures { result ≡ every (is_atom atoms.now) n }
 {
-    let mut i = 0;
-    while i < n {
-        if !is_atom(atoms, i) {
-            return false;
-        }
-        i += 1;
-    }
-    true
+    (0..n).all(|i| is_atom(atoms, i))
 }
 
+#[tactic(auto, unfolding(crate::specs::Standing::is_kind))]
 fn is_kind(n: u32) -> bool
     ensures { result ≡ is_kind (kind_of n) }
 {
-    match decode(n) {
-        Coded::Kind(_) => true,
-        Coded::Bad => false,
-    }
+    decode(n).is_some()
 }
 
 fn is_below(n: u32, most: usize) -> bool
     ensures { result ≡ ltb n most }
 {
-    if (n as usize) < most {
-        return true;
-    }
-    false
+    (n as usize) < most
 }
 
+#[tactic(auto, unfolding(crate::specs::Standing::is_target))]
 fn is_target(builder: Builder, target: u32) -> bool
     ensures { result ≡ is_target builder target }
 {
     if target < OPEN {
-        return is_below(target, builder.atoms);
+        is_below(target, builder.atoms)
+    } else {
+        is_below(target - OPEN, builder.joins)
     }
-    is_below(target - OPEN, builder.joins)
 }
 
+#[tactic(auto, unfolding(crate::specs::Standing::is_builder_entry))]
 fn is_entry(builder: Builder, entries: &[u32], i: usize) -> bool
     requires { i ≤ bond_limit }
     ensures { result ≡ is_builder_entry builder entries.now i }
 {
-    let at = i * ENTRY_WORDS;
-    if !is_below(look(entries, at), builder.atoms) {
-        return false;
-    }
-    if !is_kind(look(entries, at + KIND)) {
-        return false;
-    }
-    is_target(builder, look(entries, at + TARGET))
+    let entry = Entry::at(entries, i);
+    is_below(entry.source, builder.atoms) && is_kind(entry.kind) && is_target(builder, entry.target)
 }
 
 fn entries_stand(builder: Builder, entries: &[u32], n: usize) -> bool
     requires { n ≤ bond_limit }
-    ensures { result ≡ every (is_builder_entry builder entries.now) n }
+    ensures value { result ≡ every (is_builder_entry builder entries.now) n }
+    ensures between { result ≡ true → builder.atoms ≤ atom_limit → Between entries.now n builder.atoms }
 {
-    let mut i = 0;
-    while i < n {
-        if !is_entry(builder, entries, i) {
-            return false;
-        }
-        i += 1;
-    }
-    true
+    (0..n).all(|i| is_entry(builder, entries, i))
 }
 
 fn steps_stand(builder: Builder, path: &[u32], n: usize) -> bool
     ensures { result ≡ every (is_step builder path.now) n }
 {
-    let mut i = 0;
-    while i < n {
-        if !is_below(look(path, i), builder.atoms) {
-            return false;
-        }
-        i += 1;
-    }
-    true
+    (0..n).all(|i| is_below(look(path, i), builder.atoms))
 }
 
+#[tactic(auto, unfolding(crate::specs::Standing::is_ring))]
 fn is_ring(builder: Builder, entries: &[u32], rings: &[u32], n: usize) -> bool
     requires { builder.entries ≤ bond_limit }
     ensures { result ≡ is_ring builder entries.now rings.now n }
 {
     let held = look(rings, n) as usize;
-    if held == 0 {
-        return true;
-    }
-    if builder.entries < held {
-        return false;
-    }
-    if look(entries, (held - 1) * ENTRY_WORDS + TARGET) < OPEN {
-        return false;
-    }
-    leads_alone(rings, n)
+    held == 0
+        || held <= builder.entries
+            && Entry::at(entries, held - 1).is_open()
+            && leads_alone(rings, n)
 }
 
 fn rings_stand(builder: Builder, entries: &[u32], rings: &[u32]) -> bool
     requires { builder.entries ≤ bond_limit }
     ensures { result ≡ every (is_ring builder entries.now rings.now) ring_number_count }
 {
-    let mut n = 0;
-    while n < RING_NUMBER_COUNT {
-        if !is_ring(builder, entries, rings, n) {
-            return false;
-        }
-        n += 1;
-    }
-    true
+    (0..RING_NUMBER_COUNT).all(|n| is_ring(builder, entries, rings, n))
 }
 
-// The rooms and the counts, for tables of so many words.
-fn counts_stand(builder: Builder, atoms: usize, entries: usize, path: usize, rings: usize) -> bool
-    ensures { result ≡ counts_stand builder atoms entries path rings }
+// The rooms and the counts, for what was lent.
+#[tactic(auto, unfolding(crate::specs::Standing::counts_stand))]
+fn counts_stand(
+    builder: Builder,
+    atoms: &[u32],
+    entries: &[u32],
+    path: &[u32],
+    rings: &[u32],
+) -> bool
+    ensures value { result
+        ≡ counts_stand builder (length atoms.now) (length entries.now) (length path.now) (length rings.now) }
+    ensures few_atoms { result ≡ true → builder.atoms ≤ atom_limit }
+    ensures few_entries { result ≡ true → builder.entries ≤ bond_limit }
 {
-    if builder.places != lesser(ATOMS, atoms / ATOM_WORDS) {
-        return false;
-    }
-    if builder.slots != lesser(BONDS, entries / ENTRY_WORDS) {
-        return false;
-    }
-    if path < builder.places {
-        return false;
-    }
-    if rings < RING_NUMBER_COUNT {
-        return false;
-    }
-    if builder.places < builder.atoms {
-        return false;
-    }
-    if builder.slots < builder.entries {
-        return false;
-    }
-    if builder.atoms < builder.top {
-        return false;
-    }
-    true
+    builder.places == atom_room(atoms)
+        && builder.slots == lesser(BONDS, entries.len() / ENTRY_WORDS)
+        && builder.places <= path.len()
+        && RING_NUMBER_COUNT <= rings.len()
+        && builder.atoms <= builder.places
+        && builder.entries <= builder.slots
+        && builder.top <= builder.atoms
 }
 
+#[tactic(auto, unfolding(crate::specs::Standing::failure_stands))]
 fn failure_stands(builder: Builder) -> bool
     ensures { result ≡ failure_stands builder }
 {
-    if !builder.failed {
-        return true;
+    match builder.failed {
+        None => true,
+        Some(failed) => {
+            is_below(failed.closing, builder.atoms) && is_below(failed.opening, builder.atoms)
+        }
     }
-    if !is_below(builder.closing, builder.atoms) {
-        return false;
-    }
-    is_below(builder.opening, builder.atoms)
 }
 
+#[tactic(auto, unfolding(crate::specs::Standing::is_state))]
 pub fn is_state(
     atoms: &[u32],
     entries: &[u32],
@@ -182,29 +135,13 @@ pub fn is_state(
 ) -> bool
     ensures { result ≡ is_state (bld atoms.now entries.now path.now rings.now builder) }
 {
-    if !counts_stand(builder, atoms.len(), entries.len(), path.len(), rings.len()) {
-        return false;
-    }
-    if !atoms_stand(atoms, builder.atoms) {
-        return false;
-    }
-    if !entries_stand(builder, entries, builder.entries) {
-        return false;
-    }
-    if !pairs_stand(entries, builder.entries, builder.atoms) {
-        return false;
-    }
-    if !joins_rise(entries, builder.entries) {
-        return false;
-    }
-    if !steps_stand(builder, path, builder.top) {
-        return false;
-    }
-    if !rings_stand(builder, entries, rings) {
-        return false;
-    }
-    if !joins_stand(builder, rings) {
-        return false;
-    }
-    failure_stands(builder)
+    counts_stand(builder, atoms, entries, path, rings)
+        && atoms_stand(atoms, builder.atoms)
+        && entries_stand(builder, entries, builder.entries)
+        && pairs_stand(entries, builder.entries, builder.atoms)
+        && joins_rise(entries, builder.entries)
+        && steps_stand(builder, path, builder.top)
+        && rings_stand(builder, entries, rings)
+        && joins_stand(builder, rings)
+        && failure_stands(builder)
 }

@@ -9,13 +9,14 @@ use lib.Dec.{eqb}
 use Rattle.feature.specs.Pick.{pick, both}
 use Rattle.feature.proofs.Cases.{both_second, impossible}
 use Rattle.writer.specs.declared.Writer.{Writer}
-use Rattle.writer.specs.declared.Wrote.{Wrote}
-use Rattle.writer.specs.declared.Wrote.TheVariants as wrote
+use Rattle.std.specs.Prelude.{Err, Ok, Result}
+use Rattle.writer.specs.declared.WriterError.{WriterError}
 use Rattle.writer.specs.Line.{Event}
 use Rattle.writer.specs.Tables.{Spoken, spoken, event_of, far}
-use Rattle.desk_writer.specs.declared.Said.TheVariants as said
+use Rattle.desk_writer.specs.declared.Refusal.{Refusal}
+use Rattle.desk_writer.specs.declared.Refusal.TheVariants.{BadTable}
 use Rattle.table.specs.Zeros.{cleared_from}
-use Rattle.desk_writer.specs.Pieces.{is_writer, tail_of, wrote_said, EventLeft, event_leaves, told_leaves, event_d}
+use Rattle.desk_writer.specs.Pieces.{is_writer, refused_as, tail_of, wrote_said, EventLeft, event_leaves, told_leaves, event_d}
 use Rattle.desk_writer.proofs.WriterKept as writer_kept_lem
 use Rattle.desk_writer.proofs.Results.{one_answer}
 
@@ -32,23 +33,20 @@ same_writer : (w : Writer) (o p t : List ℕ) → length p ≡ length o → is_w
 unfolding is_writer
 same_writer w o p t e h = rw e h
 
-held_again : (w : Writer) (out starts o t : List ℕ) (s : Spoken) (r : Wrote) → writer_kept_lem.KeepsBy s o t r → event_leaves (said.Held w) out starts ≡ event_leaves (wrote_said r) (tail_of s.at r o) t → w.len < far → is_writer (spoken w out starts) ≡ true
+held_again : (w : Writer) (out starts o t : List ℕ) (s : Spoken) (r : Result Writer WriterError) → writer_kept_lem.KeepsBy s o t r → event_leaves (Ok w) out starts ≡ event_leaves (wrote_said r) (tail_of s.at r o) t → w.len < far → is_writer (spoken w out starts) ≡ true
 unfolding wrote_said tail_of
-held_again w out starts o t s (wrote.Held v) h e near =
-    let answers : said.Held w ≡ said.Held v = one_answer e in
+held_again w out starts o t s (Ok v) h e near =
+    let answers : ◌≡◌ {A = Result Writer Refusal} (Ok w) (Ok v) = one_answer e in
     let same : w ≡ v = cc in
     let outs : out ≡ pick (eqb s.at.pieces 0) (cleared_from v.len o) o = ap (λ (x : EventLeft). x.out) e in
     let places : starts ≡ t = ap (λ (x : EventLeft). x.starts) e in
     let stands = h (rw same at near) in
     rw (same, outs, places) (same_writer v o (pick (eqb s.at.pieces 0) (cleared_from v.len o) o) t (tail_long (eqb s.at.pieces 0) v.len o (writer_kept_lem.facts (spoken v o t) stands).line) stands)
-held_again w out starts o t s (wrote.AtomRoom n) h e near = absurd (let y : said.Held w ≡ said.AtomRoom n = one_answer e in impossible cc)
-held_again w out starts o t s (wrote.OutRoom n) h e near = absurd (let y : said.Held w ≡ said.OutRoom n = one_answer e in impossible cc)
-held_again w out starts o t s wrote.NoPiece h e near = absurd (let y : said.Held w ≡ said.NoPiece = one_answer e in impossible cc)
-held_again w out starts o t s wrote.Overpop h e near = absurd (let y : said.Held w ≡ said.Overpop = one_answer e in impossible cc)
+held_again w out starts o t s (Err why) h e near = absurd (let y : ◌≡◌ {A = Result Writer Refusal} (Ok w) (Err (refused_as why)) = one_answer e in impossible cc)
 
-pub said_again : (ok : Bool) (s : Spoken) (e : Event) (w : Writer) (out starts : List ℕ) → event_leaves (said.Held w) out starts ≡ event_d ok s e → w.len < far → is_writer (spoken w out starts) ≡ true
+pub said_again : (ok : Bool) (s : Spoken) (e : Event) (w : Writer) (out starts : List ℕ) → event_leaves (Ok w) out starts ≡ event_d ok s e → w.len < far → is_writer (spoken w out starts) ≡ true
 unfolding event_d told_leaves
 said_again ok s e w out starts d near = go (both ok (is_writer s)) refl d where
-  go : (t : Bool) → both ok (is_writer s) ≡ t → event_leaves (said.Held w) out starts ≡ pick t (told_leaves s.at (event_of s e)) (event_leaves said.BadTable s.out s.starts) → is_writer (spoken w out starts) ≡ true
+  go : (t : Bool) → both ok (is_writer s) ≡ t → event_leaves (Ok w) out starts ≡ pick t (told_leaves s.at (event_of s e)) (event_leaves (Err BadTable) s.out s.starts) → is_writer (spoken w out starts) ≡ true
   go true t f = held_again w out starts (event_of s e).out (event_of s e).starts s (event_of s e).answer (writer_kept_lem.event_kept s e (both_second ok (is_writer s) t)) f near
-  go false t f = absurd (let y : said.Held w ≡ said.BadTable = one_answer f in impossible cc)
+  go false t f = absurd (let y : ◌≡◌ {A = Result Writer Refusal} (Ok w) (Err BadTable) = one_answer f in impossible cc)

@@ -15,12 +15,12 @@ use Rattle.feature.specs.Pick.{pick}
 use Rattle.feature.proofs.Cases.{by_test, by_either}
 use Rattle.feature.proofs.Lists.{drop_zeros}
 use Rattle.desk_numbers.specs.Numbers as desk
-use Rattle.writer.specs.declared.Wrote.TheVariants.{Held, AtomRoom, OutRoom, NoPiece, Overpop}
+use Rattle.std.specs.Prelude.{Err, Ok}
+use Rattle.writer.specs.declared.WriterError.TheVariants.{AtomRoom, OutRoom, NoPiece, Overpop}
 use Rattle.writer.specs.Line.{Event, Root, Extend, Join, Pop, line_of, write_event}
 use Rattle.writer.specs.Tables.{Spoken, spoken, writer, piece_room, bytes_from, added, piece_t, lengthened, join_t, wrap_t, pop_t, say_t, EventTold, told_with, event_refusing, fitting, event_of}
 use Rattle.writer.specs.Pieces.{piece_starts, Holds}
 use Rattle.writer.proofs.Pieces.{length_starts, holds_step, room_held}
-use Rattle.desk_writer.specs.declared.Said.TheVariants as said
 use Rattle.table.specs.Zeros.{cleared_from}
 use Rattle.desk_writer.specs.Pieces.{is_writer, wrote_said, said_told, writer_words, tail_of, event_leaves, told_leaves, event_d}
 use Rattle.desk_writer.specs.OnPieces.{pieces_to, pieces_in, fits_in, event_answer, ground_of, pieces_after, OnPieces, EventOnward}
@@ -115,16 +115,16 @@ module _ (s : Spoken) (ps : List (List ℕ)) (h : Holds s.out ps s) where
 
 -- ---- how an event ends
 data EventEnds (s n : Spoken) : EventTold → Type 0 where
-  full : (m : ℕ) → EventEnds s n (event_refusing s (AtomRoom m))
-  long : (m : ℕ) → EventEnds s n (event_refusing s (OutRoom m))
-  bare : EventEnds s n (event_refusing s NoPiece)
-  over : EventEnds s n (event_refusing s Overpop)
-  held : n.at.len ≤ length s.out → EventEnds s n (told_with (Held n.at) n.out n.starts)
+  full : (m : ℕ) → EventEnds s n (event_refusing s (Err (AtomRoom m)))
+  long : (m : ℕ) → EventEnds s n (event_refusing s (Err (OutRoom m)))
+  bare : EventEnds s n (event_refusing s (Err NoPiece))
+  over : EventEnds s n (event_refusing s (Err Overpop))
+  held : n.at.len ≤ length s.out → EventEnds s n (told_with (Ok n.at) n.out n.starts)
 
 fit_ends : (s n : Spoken) → EventEnds s n (fitting s n)
 unfolding fitting
 fit_ends s n =
-    by_test (EventEnds s n) (ltb (length s.out) n.at.len) {x = event_refusing s (OutRoom n.at.len)} {y = told_with (Held n.at) n.out n.starts}
+    by_test (EventEnds s n) (ltb (length s.out) n.at.len) {x = event_refusing s (Err (OutRoom n.at.len))} {y = told_with (Ok n.at) n.out n.starts}
     (λ q. long n.at.len) (λ q. held (ltb-false (length s.out) n.at.len q))
 
 event_ends : (s : Spoken) (e : Event) → EventEnds s (say_t s e) (event_of s e)
@@ -247,7 +247,7 @@ held_known {o} {ps} {s} l h =
 
 -- what an event that is held leaves
 module _ (s : Spoken) (e : Event) (h : Holds s.out (pieces_in s) s) where
-  held_onward : (say_t s e).at.len ≤ length s.out → EventOnward s e (event_leaves (said.Held (say_t s e).at) (pick (eqb s.at.pieces 0) (cleared_from (say_t s e).at.len (say_t s e).out) (say_t s e).out) (say_t s e).starts)
+  held_onward : (say_t s e).at.len ≤ length s.out → EventOnward s e (event_leaves (Ok (say_t s e).at) (pick (eqb s.at.pieces 0) (cleared_from (say_t s e).at.len (say_t s e).out) (say_t s e).out) (say_t s e).starts)
   unfolding ground_of writer_words
   held_onward l =
       let n = holds_last s e (pieces_in s) h l in

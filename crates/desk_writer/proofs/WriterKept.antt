@@ -14,8 +14,9 @@ use borrow.Author.Tests.{lt-ltb, le-ltb, le-leb, lt-leb, eq-eqb, ne_eqb, ltb-tru
 use Rattle.feature.specs.Pick.{pick, both}
 use Rattle.spell.specs.Spell.{atom_text, bond_text, rnum_text}
 use Rattle.writer.specs.declared.Writer.{Writer}
-use Rattle.writer.specs.declared.Wrote.{Wrote}
-use Rattle.writer.specs.declared.Wrote.TheVariants.{Held, AtomRoom, OutRoom, NoPiece, Overpop}
+use Rattle.std.specs.Prelude.{Err, Ok, Result}
+use Rattle.writer.specs.declared.WriterError.TheVariants.{AtomRoom, OutRoom, NoPiece, Overpop}
+use Rattle.writer.specs.declared.WriterError.{WriterError}
 use Rattle.writer.specs.Line.{Event, Root, Extend, Join, Pop, dot_text, wrapped}
 use Rattle.writer.specs.Tables.{Spoken, spoken, writer, piece_room, added, piece_t, lengthened, join_t, last_start, bytes_from, wrap_t, pop_t, say_t, EventTold, told_with, event_refusing, fitting, event_of, far}
 use Rattle.writer.proofs.Pieces.{room_held}
@@ -208,12 +209,9 @@ stands s h =
     (lies s.starts s.at h.laid)))
 
 -- ---- what an event leaves
-abbrev pub KeepsBy : Spoken → List ℕ → List ℕ → Wrote → Type 0
-KeepsBy s out starts (Held w) = w.len < far → is_writer (spoken w out starts) ≡ true
-KeepsBy s out starts (AtomRoom n) = (out ≡ s.out) × (starts ≡ s.starts)
-KeepsBy s out starts (OutRoom n) = (out ≡ s.out) × (starts ≡ s.starts)
-KeepsBy s out starts NoPiece = (out ≡ s.out) × (starts ≡ s.starts)
-KeepsBy s out starts Overpop = (out ≡ s.out) × (starts ≡ s.starts)
+abbrev pub KeepsBy : Spoken → List ℕ → List ℕ → Result Writer WriterError → Type 0
+KeepsBy s out starts (Ok w) = w.len < far → is_writer (spoken w out starts) ≡ true
+KeepsBy s out starts (Err why) = (out ≡ s.out) × (starts ≡ s.starts)
 
 abbrev pub Keeps : Spoken → EventTold → Type 0
 Keeps s t = KeepsBy s t.out t.starts t.answer
@@ -221,7 +219,7 @@ Keeps s t = KeepsBy s t.out t.starts t.answer
 fitting_kept : (s n : Spoken) → (n.at.len ≤ length s.out → n.at.len < far → Writes n) → Keeps s (fitting s n)
 unfolding fitting
 fitting_kept s n h =
-    by_test (λ (t : EventTold). Keeps s t) (ltb (length s.out) n.at.len) {x = event_refusing s (OutRoom n.at.len)} {y = told_with (Held n.at) n.out n.starts}
+    by_test (λ (t : EventTold). Keeps s t) (ltb (length s.out) n.at.len) {x = event_refusing s (Err (OutRoom n.at.len))} {y = told_with (Ok n.at) n.out n.starts}
     (λ q. (refl, refl))
     (λ q l. stands (spoken n.at n.out n.starts) (h (ltb-false (length s.out) n.at.len q) l))
 
@@ -269,19 +267,19 @@ module _ (s : Spoken) (h : Writes s) where
   kept : (e : Event) → Keeps s (event_of s e)
   unfolding event_of say_t
   kept (Root k) =
-      by_test (λ (t : EventTold). Keeps s t) (leb (piece_room s.starts) s.at.pieces) {x = event_refusing s (AtomRoom s.at.pieces)} {y = fitting s (piece_t s (dot_text s.at.pieces ++ atom_text k))}
+      by_test (λ (t : EventTold). Keeps s t) (leb (piece_room s.starts) s.at.pieces) {x = event_refusing s (Err (AtomRoom s.at.pieces))} {y = fitting s (piece_t s (dot_text s.at.pieces ++ atom_text k))}
       (λ q. (refl, refl))
       (λ q. piece_kept (dot_text s.at.pieces ++ atom_text k) (leb-false _ _ q))
   kept (Extend b k) =
-      by_test (λ (t : EventTold). Keeps s t) (leb (piece_room s.starts) s.at.pieces) {x = event_refusing s (AtomRoom s.at.pieces)} {y = fitting s (piece_t s (bond_text b ++ atom_text k))}
+      by_test (λ (t : EventTold). Keeps s t) (leb (piece_room s.starts) s.at.pieces) {x = event_refusing s (Err (AtomRoom s.at.pieces))} {y = fitting s (piece_t s (bond_text b ++ atom_text k))}
       (λ q. (refl, refl))
       (λ q. piece_kept (bond_text b ++ atom_text k) (leb-false _ _ q))
   kept (Join b n) =
-      by_test (λ (t : EventTold). Keeps s t) (eqb s.at.pieces 0) {x = event_refusing s NoPiece} {y = fitting s (join_t s (bond_text b ++ rnum_text n))}
+      by_test (λ (t : EventTold). Keeps s t) (eqb s.at.pieces 0) {x = event_refusing s (Err NoPiece)} {y = fitting s (join_t s (bond_text b ++ rnum_text n))}
       (λ q. (refl, refl))
       (λ q. join_kept (bond_text b ++ rnum_text n) (eqb-false _ _ q))
   kept (Pop d) =
-      by_test (λ (t : EventTold). Keeps s t) (leb s.at.pieces d) {x = event_refusing s Overpop} {y = fitting s (pop_t s d)}
+      by_test (λ (t : EventTold). Keeps s t) (leb s.at.pieces d) {x = event_refusing s (Err Overpop)} {y = fitting s (pop_t s d)}
       (λ q. (refl, refl))
       (λ q. pop_kept d (leb-false _ _ q))
 

@@ -2,35 +2,31 @@
 -- number is answered 17, however many went before. Assumes nothing.
 use Prim.{⊥}
 use Prim.Native.Nat.{ℕ, ◌+◌, ◌<◌, ◌≤◌}
-use mathlib.Core.Path.{◌≡◌, refl, sym, ap, ◌∙◌}
+use mathlib.Core.Path.{◌≡◌, refl, sym, ap, subst, ◌∙◌}
 use mathlib.Core.Logic.{◌≢◌}
 use mathlib.Core.List.{List, [], ◌∷◌}
-use mathlib.Core.Bool.{Bool, true, false, false≢true}
+use mathlib.Core.Bool.{Bool, true, false}
 use native.Mathlib.Omega.{arith}
 use lib.ListN.{length, get_or, set}
-use lib.Seq.{sets}
+use Rattle.std.proofs.Common.{get_or-set_same, get_or-set_other, length-set}
+use lib.Seq.{sets, length-sets}
 use lib.Dec.{ltb, leb, eqb}
 use borrow.Author.Tests.{eqb-true, eqb-false, eq-eqb, lt-ltb, ltb-false, lt-leb, le-ltb}
 use Rattle.feature.specs.Pick.{pick, both}
 use Rattle.feature.specs.Kinds.{in_range, invert_of}
 use Rattle.feature.specs.Bonds.{kind_of, reconcile_of}
 use Rattle.feature.specs.declared.atom_kind.AtomKind.{AtomKind}
-use Rattle.feature.specs.declared.atom_kind.Inverted.{Inverted}
-use Rattle.feature.specs.declared.atom_kind.Inverted.TheVariants.{Turned, Refused}
+use Rattle.std.specs.Prelude.{None, Option, Some}
 use Rattle.feature.specs.declared.bond_kind.BondKind.{BondKind}
-use Rattle.feature.specs.declared.bond_kind.Coded.{Coded}
-use Rattle.feature.specs.declared.bond_kind.Coded.TheVariants as coded
-use Rattle.feature.specs.declared.bond_kind.Reconciled.{Reconciled}
-use Rattle.feature.specs.declared.bond_kind.Reconciled.TheVariants.{Both, Fails}
 use Rattle.feature.proofs.Cases.{by_test}
 use Rattle.packing.specs.Words.{load_of}
-use Rattle.packing.specs.declared.Loaded.{Loaded}
-use Rattle.packing.specs.declared.Loaded.TheVariants as loaded
 use Rattle.packing.proofs.Laws.{only}
 use Rattle.table.specs.Limits.{ring_number_count}
 use Rattle.builder.specs.State.{Bld, bld, refuse, entered, root_of, bonded, extended_by, extend_of, opened_of, opening_kind, failed_st, closed_by, join_of, pop_of}
 use Rattle.builder.specs.State as graph
 use Rattle.builder.specs.declared.builder.Builder.{Builder}
+use Rattle.builder.specs.declared.builder.FailedJoin.{FailedJoin}
+use Rattle.std.specs.Prelude.{is_some}
 use Rattle.desk_state.specs.Standing.{is_state}
 use Rattle.desk_state.proofs.Kept.{holds}
 use Rattle.desk_numbers.specs.Numbers.{bad_table}
@@ -38,153 +34,127 @@ use Rattle.desk_builder.specs.Events.{anew, judged, rooms_of, fresh_of, start_d,
 use Rattle.desk_builder.proofs.Start.{started}
 use Rattle.desk_builder.specs.Runs.{Root, Extend, Join, Pop, call_d, fits}
 use Rattle.desk_builder.proofs.Again.{root_stands, extend_stands, join_stands, pop_stands, call_other}
-use Rattle.desk_report.specs.State.{on_builder, builder_size, narrow, builder_in, builder_kept, builder_words}
-use Rattle.desk_report.specs.declared.state.AsBuilder.{AsBuilder}
-use Rattle.desk_report.specs.declared.state.AsBuilder.TheVariants as state
+use Rattle.desk_report.specs.State.{on_state, builder_size, narrow, builder_in, builder_kept, builder_words, failure_in, failure_forgotten}
 use Rattle.desk_report.specs.Report.{of_event, laid_into}
-use Rattle.desk_report.proofs.Again.{builder_again}
+use Rattle.desk_report.proofs.Again.{FailureFits, builder_again}
 use Rattle.export.specs.Given.{on_atom, on_bond}
-use Rattle.export.specs.Events.{BuilderCells, cells_of_builder, over, builder_after, builder_unheard, builder_event, start_x, builder_root_x, builder_extend_x, builder_join_x, builder_pop_x}
+use Rattle.export.specs.Events.{BuilderCells, cells_of_builder, over, builder_after, builder_begun, builder_unheard, builder_event, start_x, builder_root_x, builder_extend_x, builder_join_x, builder_pop_x}
 
 -- ---- what an event changes
--- a refused one nothing but the refusal, and none that has seen no failure the atoms of one
+-- a refused one nothing but the refusal
 record Tame (b x : Bld) : Type 0 where
   same : x.st.refusal ≢ 0 → (r : ℕ) × (k : ℕ) × (x ≡ refuse b r k)
-  kept : x.st.failed ≡ false → (x.st.closing ≡ b.st.closing) × (x.st.opening ≡ b.st.opening)
 
 tame_refused : (b : Bld) (r k : ℕ) → Tame b (refuse b r k)
 unfolding refuse
-tame_refused b r k = record { same = λ z. (r, k, refl); kept = λ z. (refl, refl) }
+tame_refused b r k = record { same = λ z. (r, k, refl) }
 
 -- of a builder b with no refusal yet
 module _ (b : Bld) where
   tame_root : (k : AtomKind) (place : ℕ) → Tame b (root_of (anew b) k place)
   unfolding root_of refuse entered anew
   tame_root k place =
-      by_test (Tame b) (leb b.st.places b.st.atoms) (λ t. record { same = λ z. (_, _, refl); kept = λ z. (refl, refl) }) (λ t. record { same = λ z. absurd (z refl); kept = λ z. (refl, refl) })
+      by_test (Tame b) (leb b.st.places b.st.atoms) (λ t. record { same = λ z. (_, _, refl) }) (λ t. record { same = λ z. absurd (z refl) })
 
-  tame_extended : (c : BondKind) (q : Inverted) → Tame b (extended_by (anew b) c q)
+  tame_extended : (c : BondKind) (q : Option AtomKind) → Tame b (extended_by (anew b) c q)
   unfolding extended_by refuse entered bonded anew
-  tame_extended c Refused = record { same = λ z. (_, _, refl); kept = λ z. (refl, refl) }
-  tame_extended c (Turned k) = record { same = λ z. absurd (z refl); kept = λ z. (refl, refl) }
+  tame_extended c None = record { same = λ z. (_, _, refl) }
+  tame_extended c (Some k) = record { same = λ z. absurd (z refl) }
 
   tame_extend : (c : BondKind) (k : AtomKind) (place : ℕ) → Tame b (extend_of (anew b) c k place)
   unfolding extend_of refuse anew
   tame_extend c k place =
-      by_test (Tame b) (eqb b.st.top 0) (λ t. record { same = λ z. (_, _, refl); kept = λ z. (refl, refl) })
-      (λ t. by_test (Tame b) (leb b.st.places b.st.atoms) (λ t. record { same = λ z. (_, _, refl); kept = λ z. (refl, refl) })
-      (λ t. by_test (Tame b) (ltb b.st.slots (b.st.entries + 2)) (λ t. record { same = λ z. (_, _, refl); kept = λ z. (refl, refl) })
+      by_test (Tame b) (eqb b.st.top 0) (λ t. record { same = λ z. (_, _, refl) })
+      (λ t. by_test (Tame b) (leb b.st.places b.st.atoms) (λ t. record { same = λ z. (_, _, refl) })
+      (λ t. by_test (Tame b) (ltb b.st.slots (b.st.entries + 2)) (λ t. record { same = λ z. (_, _, refl) })
       (λ t. tame_extended c (invert_of k))))
 
-  tame_closed : (n place : ℕ) (q : Reconciled) → Tame b (closed_by (anew b) n place q)
+  tame_closed : (n place : ℕ) (q : Option (BondKind × BondKind)) → Tame b (closed_by (anew b) n place q)
   unfolding closed_by refuse failed_st anew
-  tame_closed n place Fails =
-      by_test (λ (s : Builder). Tame b (bld b.atoms b.entries b.path (set b.rings n 0) s)) b.st.failed (λ t. record { same = λ z. absurd (z refl); kept = λ z. absurd (false≢true (sym z)) }) (λ t. record { same = λ z. absurd (z refl); kept = λ z. absurd (false≢true (sym z)) })
-  tame_closed n place (Both l r) =
-      by_test (Tame b) (ltb b.st.slots (b.st.entries + 1)) (λ t. record { same = λ z. (_, _, refl); kept = λ z. (refl, refl) }) (λ t. record { same = λ z. absurd (z refl); kept = λ z. (refl, refl) })
+  tame_closed n place None =
+      by_test (λ (s : Builder). Tame b (bld b.atoms b.entries b.path (set b.rings n 0) s)) (is_some b.st.failed) (λ t. record { same = λ z. absurd (z refl) }) (λ t. record { same = λ z. absurd (z refl) })
+  tame_closed n place (Some (l, r)) =
+      by_test (Tame b) (ltb b.st.slots (b.st.entries + 1)) (λ t. record { same = λ z. (_, _, refl) }) (λ t. record { same = λ z. absurd (z refl) })
 
   tame_join : (c : BondKind) (n place : ℕ) → Tame b (join_of (anew b) c n place)
   unfolding join_of refuse opened_of anew
   tame_join c n place =
-      by_test (Tame b) (eqb b.st.top 0) (λ t. record { same = λ z. (_, _, refl); kept = λ z. (refl, refl) })
+      by_test (Tame b) (eqb b.st.top 0) (λ t. record { same = λ z. (_, _, refl) })
       (λ t. by_test (Tame b) (eqb (get_or b.rings n 0) 0)
-      (λ t. by_test (Tame b) (ltb b.st.slots (b.st.entries + 1)) (λ t. record { same = λ z. (_, _, refl); kept = λ z. (refl, refl) }) (λ t. record { same = λ z. absurd (z refl); kept = λ z. (refl, refl) }))
+      (λ t. by_test (Tame b) (ltb b.st.slots (b.st.entries + 1)) (λ t. record { same = λ z. (_, _, refl) }) (λ t. record { same = λ z. absurd (z refl) }))
       (λ t. tame_closed n place (reconcile_of (opening_kind (anew b) n) c)))
 
   tame_pop : (n : ℕ) → Tame b (pop_of (anew b) n)
   unfolding pop_of anew refuse
-  tame_pop n = record { same = λ z. absurd (z refl); kept = λ z. (refl, refl) }
+  tame_pop n = record { same = λ z. absurd (z refl) }
 
   tame_judged : (ok : Bool) (done : Bld) → Tame b done → Tame b (judged ok b done)
   unfolding judged
   tame_judged ok done h = by_test (Tame b) (both ok (is_state b)) (λ t. h) (λ t. tame_refused b _ 0)
 
 -- ---- words
--- words that stand for a state are enough, and its atoms fit their fields
-record Held (w : List ℕ) (s : Builder) : Type 0 where
+-- words that stand for a state are enough, and those of a failure's atoms fit their fields
+record Held (w : List ℕ) : Type 0 where
   enough : 11 ≤ length w
-  closing : leb narrow s.closing ≡ false
-  opening : leb narrow s.opening ≡ false
+  closing : leb narrow (get_or w 9 0) ≡ false
+  opening : leb narrow (get_or w 10 0) ≡ false
 
 -- the state of words, field by field
 abbrev told : List ℕ → Builder
 told w =
-    graph.state (get_or w 0 0) (get_or w 1 0) (get_or w 2 0) (get_or w 3 0) (get_or w 4 0) (get_or w 5 0) (get_or w 6 0) (get_or w 7 0) (eqb (get_or w 8 0) 1) (get_or w 9 0) (get_or w 10 0)
+    graph.state (get_or w 0 0) (get_or w 1 0) (get_or w 2 0) (get_or w 3 0) (get_or w 4 0) (get_or w 5 0) (get_or w 6 0) (get_or w 7 0) (failure_in (get_or w 8 0) (get_or w 9 0) (get_or w 10 0))
 
-clash : {s : Builder} → state.Bad ≡ state.Is s → ⊥
-clash e = let z : ◌≡◌ {A = ℕ} (mark state.Bad) 1 = ap mark e in omega (arith, z) where
-  mark : AsBuilder → ℕ
-  mark (state.Is s) = 1
-  mark state.Bad = 0
+-- what is not none although a test says none
+some_past : (q : Bool) (x : Option Builder) (s : Builder) → pick q None x ≡ Some s → (q ≡ false) × (x ≡ Some s)
+some_past true x s e = absurd (cc)
+some_past false x s e = (refl, e)
 
-of_is : {x y : Builder} → state.Is x ≡ state.Is y → x ≡ y
-of_is {x} e = ap of e where
-  of : AsBuilder → Builder
-  of (state.Is s) = s
-  of state.Bad = x
-
-held_in : (w : List ℕ) (s : Builder) → builder_in w ≡ state.Is s → Held w s
+held_in : (w : List ℕ) (s : Builder) → builder_in w ≡ Some s → Held w
 unfolding builder_in
-held_in w s h = by_length (ltb (length w) builder_size) refl h where
-  by_opening : 11 ≤ length w → leb narrow (get_or w 9 0) ≡ false → (q : Bool) → leb narrow (get_or w 10 0) ≡ q → pick q state.Bad (state.Is (told w)) ≡ state.Is s → Held w s
-  by_opening l c true is z = absurd (clash z)
-  by_opening l c false is z =
-      let x = of_is z in
-      record { enough = l; closing = ap (λ (y : Builder). leb narrow y.closing) (sym x) ∙ c; opening = ap (λ (y : Builder). leb narrow y.opening) (sym x) ∙ is }
-
-  by_closing : 11 ≤ length w → (q : Bool) → leb narrow (get_or w 9 0) ≡ q → pick q state.Bad (pick (leb narrow (get_or w 10 0)) state.Bad (state.Is (told w))) ≡ state.Is s → Held w s
-  by_closing l true is z = absurd (clash z)
-  by_closing l false is z = by_opening l is (leb narrow (get_or w 10 0)) refl z
-
-  by_flag : 11 ≤ length w → (q : Bool) → pick q state.Bad (pick (leb narrow (get_or w 9 0)) state.Bad (pick (leb narrow (get_or w 10 0)) state.Bad (state.Is (told w)))) ≡ state.Is s → Held w s
-  by_flag l true z = absurd (clash z)
-  by_flag l false z = by_closing l (leb narrow (get_or w 9 0)) refl z
-
-  by_refusal : 11 ≤ length w → (q : Bool) → pick q state.Bad (pick (ltb 1 (get_or w 8 0)) state.Bad (pick (leb narrow (get_or w 9 0)) state.Bad (pick (leb narrow (get_or w 10 0)) state.Bad (state.Is (told w))))) ≡ state.Is s → Held w s
-  by_refusal l true z = absurd (clash z)
-  by_refusal l false z = by_flag l (ltb 1 (get_or w 8 0)) z
-
-  by_length : (q : Bool) → ltb (length w) builder_size ≡ q → pick q state.Bad (pick (leb narrow (get_or w 0 0)) state.Bad (pick (ltb 1 (get_or w 8 0)) state.Bad (pick (leb narrow (get_or w 9 0)) state.Bad (pick (leb narrow (get_or w 10 0)) state.Bad (state.Is (told w)))))) ≡ state.Is s → Held w s
-  by_length true is z = absurd (clash z)
-  by_length false is z = by_refusal (ltb-false _ _ is) (leb narrow (get_or w 0 0)) z
+held_in w s h =
+    let enough = some_past _ _ s h in
+    let refusal = some_past _ _ s enough.1 in
+    let failed = some_past _ _ s refusal.1 in
+    let closing = some_past _ _ s failed.1 in
+    let opening = some_past (leb narrow (get_or w 10 0)) (Some (told w)) s closing.1 in
+    record { enough = ltb-false _ _ enough.0; closing = closing.0; opening = opening.0 }
 
 -- what is laid into enough words is what they stand for
-laid_in : (w : List ℕ) (s : Builder) → 11 ≤ length w → leb narrow s.refusal ≡ false → leb narrow s.closing ≡ false → leb narrow s.opening ≡ false → builder_in (sets w 0 (builder_words s)) ≡ state.Is s
-laid_in [] s l x y z = absurd (omega arith)
-laid_in (a ∷ []) s l x y z = absurd (omega arith)
-laid_in (a ∷ b ∷ []) s l x y z = absurd (omega arith)
-laid_in (a ∷ b ∷ c ∷ []) s l x y z = absurd (omega arith)
-laid_in (a ∷ b ∷ c ∷ d ∷ []) s l x y z = absurd (omega arith)
-laid_in (a ∷ b ∷ c ∷ d ∷ e ∷ []) s l x y z = absurd (omega arith)
-laid_in (a ∷ b ∷ c ∷ d ∷ e ∷ f ∷ []) s l x y z = absurd (omega arith)
-laid_in (a ∷ b ∷ c ∷ d ∷ e ∷ f ∷ g ∷ []) s l x y z = absurd (omega arith)
-laid_in (a ∷ b ∷ c ∷ d ∷ e ∷ f ∷ g ∷ h ∷ []) s l x y z = absurd (omega arith)
-laid_in (a ∷ b ∷ c ∷ d ∷ e ∷ f ∷ g ∷ h ∷ i ∷ []) s l x y z = absurd (omega arith)
-laid_in (a ∷ b ∷ c ∷ d ∷ e ∷ f ∷ g ∷ h ∷ i ∷ j ∷ []) s l x y z = absurd (omega arith)
-laid_in (a ∷ b ∷ c ∷ d ∷ e ∷ f ∷ g ∷ h ∷ i ∷ j ∷ k ∷ rest) s l x y z = builder_again a b c d e f g h i j k rest s x y z
+laid_in : (w : List ℕ) (s : Builder) → 11 ≤ length w → leb narrow s.refusal ≡ false → FailureFits s.failed (get_or w 9 0) (get_or w 10 0) → builder_in (sets w 0 (builder_words s)) ≡ Some s
+laid_in [] s l x y = absurd (omega arith)
+laid_in (a ∷ []) s l x y = absurd (omega arith)
+laid_in (a ∷ b ∷ []) s l x y = absurd (omega arith)
+laid_in (a ∷ b ∷ c ∷ []) s l x y = absurd (omega arith)
+laid_in (a ∷ b ∷ c ∷ d ∷ []) s l x y = absurd (omega arith)
+laid_in (a ∷ b ∷ c ∷ d ∷ e ∷ []) s l x y = absurd (omega arith)
+laid_in (a ∷ b ∷ c ∷ d ∷ e ∷ f ∷ []) s l x y = absurd (omega arith)
+laid_in (a ∷ b ∷ c ∷ d ∷ e ∷ f ∷ g ∷ []) s l x y = absurd (omega arith)
+laid_in (a ∷ b ∷ c ∷ d ∷ e ∷ f ∷ g ∷ h ∷ []) s l x y = absurd (omega arith)
+laid_in (a ∷ b ∷ c ∷ d ∷ e ∷ f ∷ g ∷ h ∷ i ∷ []) s l x y = absurd (omega arith)
+laid_in (a ∷ b ∷ c ∷ d ∷ e ∷ f ∷ g ∷ h ∷ i ∷ j ∷ []) s l x y = absurd (omega arith)
+laid_in (a ∷ b ∷ c ∷ d ∷ e ∷ f ∷ g ∷ h ∷ i ∷ j ∷ k ∷ rest) s l x y = builder_again a b c d e f g h i j k rest s.refusal s.carried s.places s.slots s.atoms s.entries s.top s.joins s.failed x y
 
 -- ---- the words and the tables stand for a state
 pub record Stood (c : BuilderCells) : Type 0 where
   pub builder : Builder
-  pub words : builder_in c.state ≡ state.Is builder
+  pub words : builder_in c.state ≡ Some builder
   pub stands : is_state (over c builder) ≡ true
 
 narrow_atom : (b : Bld) → is_state b ≡ true → (n : ℕ) → n < b.st.atoms → leb narrow n ≡ false
 narrow_atom b is n l = let h = (holds b is).keeps in lt-leb narrow n (omega (arith, l, h.within, h.most_places))
 
-after_stood : (c : BuilderCells) (s : Builder) (x : Bld) → Held c.state s → builder_in c.state ≡ state.Is s → is_state (over c s) ≡ true → Tame (over c s) x → is_state x ≡ true → Stood (builder_after c x)
+after_stood : (c : BuilderCells) (s : Builder) (x : Bld) → Held c.state → builder_in c.state ≡ Some s → is_state (over c s) ≡ true → Tame (over c s) x → is_state x ≡ true → Stood (builder_after c x)
 unfolding builder_after builder_kept refuse
 after_stood c s x held in_words_lem was tame is = by_refusal (eqb x.st.refusal 0) refl where
-  narrows : (q : Bool) → x.st.failed ≡ q → (leb narrow x.st.closing ≡ false) × (leb narrow x.st.opening ≡ false)
-  narrows true t = let z = (holds x is).failing t in (narrow_atom x is x.st.closing z.0, narrow_atom x is x.st.opening z.1)
-  narrows false t =
-      let z = tame.kept t in
-      (ap (leb narrow) z.0 ∙ held.closing, ap (leb narrow) z.1 ∙ held.opening)
+  fits : (q : Option FailedJoin) → x.st.failed ≡ q → FailureFits q (get_or c.state 9 0) (get_or c.state 10 0)
+  fits None e = (held.closing, held.opening)
+  fits (Some f) e =
+      let z = (holds x is).failing f e in
+      (narrow_atom x is f.closing z.0, narrow_atom x is f.opening z.1)
 
   by_refusal : (q : Bool) → eqb x.st.refusal 0 ≡ q → Stood (cells_of_builder x.atoms x.entries x.path x.rings (pick q (sets c.state 0 (builder_words x.st)) c.state) (laid_into c.report (of_event x.st)))
   by_refusal true none =
-      let n = narrows x.st.failed refl in
-      record { builder = x.st; words = laid_in c.state x.st held.enough (ap (leb narrow) (eqb-true x.st.refusal 0 none)) n.0 n.1; stands = is }
+      record { builder = x.st; words = laid_in c.state x.st held.enough (ap (leb narrow) (eqb-true x.st.refusal 0 none)) (fits x.st.failed refl); stands = is }
   by_refusal false some =
       let z = tame.same (eqb-false x.st.refusal 0 some) in
       record { builder = s; words = in_words_lem; stands = ap (λ (y : Bld). is_state (bld y.atoms y.entries y.path y.rings s)) z.2 ∙ was }
@@ -195,21 +165,21 @@ unfolding builder_unheard
 unheard_stood c h = record { builder = h.builder; words = h.words; stands = h.stands }
 
 event_stood : (c : BuilderCells) (f : Bld → Bld) → Stood c → ((b : Bld) → is_state b ≡ true → Tame b (f b) × (is_state (f b) ≡ true)) → Stood (builder_event c f)
-unfolding builder_event on_builder
+unfolding builder_event on_state
 event_stood c f h go =
     let s = h.builder in
     let z = go (over c s) h.stands in
     rw h.words (after_stood c s (f (over c s)) (held_in c.state s h.words) h.words h.stands z.0 z.1)
 
-on_atom_lem : (c : BuilderCells) (f : AtomKind → BuilderCells) (q : Loaded) → Stood (builder_unheard c) → ((k : AtomKind) → Stood (f k)) → Stood (on_atom q (builder_unheard c) f)
+on_atom_lem : (c : BuilderCells) (f : AtomKind → BuilderCells) (q : Option AtomKind) → Stood (builder_unheard c) → ((k : AtomKind) → Stood (f k)) → Stood (on_atom q (builder_unheard c) f)
 unfolding on_atom
-on_atom_lem c f (loaded.Held k) none some = some k
-on_atom_lem c f loaded.Bad none some = none
+on_atom_lem c f (Some k) none some = some k
+on_atom_lem c f None none some = none
 
-on_bond_lem : (c : BuilderCells) (f : BondKind → BuilderCells) (q : Coded) → Stood (builder_unheard c) → ((k : BondKind) → Stood (f k)) → Stood (on_bond q (builder_unheard c) f)
+on_bond_lem : (c : BuilderCells) (f : BondKind → BuilderCells) (q : Option BondKind) → Stood (builder_unheard c) → ((k : BondKind) → Stood (f k)) → Stood (on_bond q (builder_unheard c) f)
 unfolding on_bond
-on_bond_lem c f (coded.Kind k) none some = some k
-on_bond_lem c f coded.Bad none some = none
+on_bond_lem c f (Some k) none some = some k
+on_bond_lem c f None none some = none
 
 root_tame : (b : Bld) (k : AtomKind) → Tame b (root_d b k)
 unfolding root_d
@@ -251,20 +221,27 @@ unfolding builder_pop_x
 pop_stood c n h = event_stood c (λ b. pop_d b n) h (λ b is. (pop_tame b n, pop_stands b n is))
 
 -- ---- and so does the start, if it is accepted
-no_failure : (a e p r : List ℕ) → ((start_d a e p r).st.closing ≡ 0) × ((start_d a e p r).st.opening ≡ 0)
+no_failure : (a e p r : List ℕ) → (start_d a e p r).st.failed ≡ None
 unfolding start_d fresh_of rooms_of
-no_failure a e p r =
-    by_test (λ (x : Bld). (x.st.closing ≡ 0) × (x.st.opening ≡ 0)) (is_state (fresh_of a e p r)) (λ t. (refl, refl)) (λ t. (refl, refl))
+no_failure a e p r = by_test (λ (x : Bld). x.st.failed ≡ None) (is_state (fresh_of a e p r)) (λ t. refl) (λ t. refl)
+
+-- words with 0 for a failure's atoms
+forgotten_fits : (w : List ℕ) → 11 ≤ length w → FailureFits None (get_or (sets w 9 (0 ∷ 0 ∷ [])) 9 0) (get_or (sets w 9 (0 ∷ 0 ∷ [])) 10 0)
+forgotten_fits w l = (
+  ap (leb narrow) (get_or-set_other (set w 9 0) 10 9 0 0 (λ e. omega arith) ∙ get_or-set_same w 9 0 0 (omega arith)),
+  ap (leb narrow) (get_or-set_same (set w 9 0) 10 0 0 (rw length-set (omega arith))),
+)
 
 pub start_stood : (c : BuilderCells) → builder_size ≤ length c.state → (start_d c.atoms c.entries c.path c.rings).st.refusal ≡ 0 → Stood (start_x c)
-unfolding start_x builder_after builder_kept
+unfolding start_x builder_begun builder_kept failure_forgotten
 start_stood c room accepted =
     let x = start_d c.atoms c.entries c.path c.rings in
-    let n = no_failure c.atoms c.entries c.path c.rings in
+    let w = sets c.state 9 (0 ∷ 0 ∷ []) in
     rw (le-ltb (length c.state) builder_size room, eq-eqb x.st.refusal 0 accepted)
     (record {
       builder = x.st;
-      words = laid_in c.state x.st room (ap (leb narrow) accepted) (ap (leb narrow) n.0) (ap (leb narrow) n.1);
+      words = laid_in w x.st (rw length-sets room) (ap (leb narrow) accepted)
+          (subst (λ (q : Option FailedJoin). FailureFits q (get_or w 9 0) (get_or w 10 0)) (sym (no_failure c.atoms c.entries c.path c.rings)) (forgotten_fits c.state room));
       stands = started c.atoms c.entries c.path c.rings accepted;
     })
 
@@ -275,22 +252,22 @@ pub record Heard (c d : BuilderCells) : Type 0 where
   pub other : builder.refusal ≢ bad_table
 
 event_heard : (c : BuilderCells) (f : Bld → Bld) → Stood c → ((b : Bld) → is_state b ≡ true → (f b).st.refusal ≢ bad_table) → Heard c (builder_event c f)
-unfolding builder_event on_builder builder_after
+unfolding builder_event on_state builder_after
 event_heard c f h go =
     let s = h.builder in
     rw h.words (record { builder = (f (over c s)).st; told = refl; other = go (over c s) h.stands })
 
-pub root_heard : (c : BuilderCells) (first second : ℕ) (k : AtomKind) → Stood c → load_of first second ≡ loaded.Held k → Heard c (builder_root_x c first second)
+pub root_heard : (c : BuilderCells) (first second : ℕ) (k : AtomKind) → Stood c → load_of first second ≡ Some k → Heard c (builder_root_x c first second)
 unfolding builder_root_x on_atom call_d fits
 root_heard c first second k h is =
     rw is (event_heard c (λ b. root_d b k) h (λ b on. call_other b (Root k) on (only first second k is).0))
 
-pub extend_heard : (c : BuilderCells) (bond first second : ℕ) (e : BondKind) (k : AtomKind) → Stood c → load_of first second ≡ loaded.Held k → kind_of bond ≡ coded.Kind e → Heard c (builder_extend_x c bond first second)
+pub extend_heard : (c : BuilderCells) (bond first second : ℕ) (e : BondKind) (k : AtomKind) → Stood c → load_of first second ≡ Some k → kind_of bond ≡ Some e → Heard c (builder_extend_x c bond first second)
 unfolding builder_extend_x on_atom on_bond call_d fits
 extend_heard c bond first second e k h is like =
     rw (is, like) (event_heard c (λ b. extend_d b e k) h (λ b on. call_other b (Extend e k) on (only first second k is).0))
 
-pub join_heard : (c : BuilderCells) (bond number : ℕ) (e : BondKind) → Stood c → kind_of bond ≡ coded.Kind e → number < ring_number_count → Heard c (builder_join_x c bond number)
+pub join_heard : (c : BuilderCells) (bond number : ℕ) (e : BondKind) → Stood c → kind_of bond ≡ Some e → number < ring_number_count → Heard c (builder_join_x c bond number)
 unfolding builder_join_x on_bond call_d fits
 join_heard c bond number e h like low =
     rw like (event_heard c (λ b. join_d b e number) h (λ b on. call_other b (Join e number) on (lt-ltb number ring_number_count low)))

@@ -12,7 +12,7 @@ use Rattle.desk_builder.specs.Events.{start_d, root_d, extend_d, join_d, pop_d}
 use Rattle.desk_builder.specs.Build.{BuildLeft, build_d}
 use Rattle.export.specs.Given.{on_atom, on_bond}
 use Rattle.desk_report.specs.Report.{bad, of_event, of_left, laid_into}
-use Rattle.desk_report.specs.State.{on_builder, builder_size, builder_in, builder_kept}
+use Rattle.desk_report.specs.State.{on_state, builder_size, builder_in, builder_kept, builder_started}
 
 -- every cell that is lent to an event
 pub record BuilderCells : Type 0 where
@@ -35,6 +35,11 @@ unfoldable pub builder_after : BuilderCells → Bld → BuilderCells
 builder_after c b =
     cells_of_builder b.atoms b.entries b.path b.rings (builder_kept c.state b.st) (laid_into c.report (of_event b.st))
 
+-- the same of a start
+unfoldable pub builder_begun : BuilderCells → Bld → BuilderCells
+builder_begun c b =
+    cells_of_builder b.atoms b.entries b.path b.rings (builder_started c.state b.st) (laid_into c.report (of_event b.st))
+
 -- 17, and nothing else changed
 unfoldable pub builder_unheard : BuilderCells → BuilderCells
 builder_unheard c = cells_of_builder c.atoms c.entries c.path c.rings c.state (laid_into c.report bad)
@@ -43,11 +48,11 @@ builder_unheard c = cells_of_builder c.atoms c.entries c.path c.rings c.state (l
 unfoldable pub start_x : BuilderCells → BuilderCells
 start_x c =
     pick (ltb (length c.state) builder_size) (builder_unheard c)
-    (builder_after c (start_d c.atoms c.entries c.path c.rings))
+    (builder_begun c (start_d c.atoms c.entries c.path c.rings))
 
 -- an event on the state that is handed in
 unfoldable pub builder_event : BuilderCells → (Bld → Bld) → BuilderCells
-builder_event c f = on_builder (builder_in c.state) (builder_unheard c) (λ s. builder_after c (f (over c s)))
+builder_event c f = on_state (builder_in c.state) (builder_unheard c) (λ s. builder_after c (f (over c s)))
 
 unfoldable pub builder_root_x : BuilderCells → ℕ → ℕ → BuilderCells
 builder_root_x c first second = on_atom (load_of first second) (builder_unheard c) (λ k. builder_event c (λ b. root_d b k))
@@ -77,5 +82,5 @@ build_reported t l = made l.atoms l.bonds (laid_into t (of_left l))
 
 unfoldable pub build_x : BuilderCells → List ℕ → Made
 build_x c bonds =
-    on_builder (builder_in c.state) (made (zeroed c.atoms) (zeroed bonds) (laid_into c.report bad))
+    on_state (builder_in c.state) (made (zeroed c.atoms) (zeroed bonds) (laid_into c.report bad))
     (λ s. build_reported c.report (build_d (over c s) bonds))

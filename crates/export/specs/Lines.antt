@@ -12,7 +12,7 @@ use Rattle.writer.specs.Tables.{spoken}
 use Rattle.desk_writer.specs.Pieces.{EventLeft, event_d}
 use Rattle.export.specs.Given.{on_atom, on_bond}
 use Rattle.desk_report.specs.Report.{bad, telling, laid_into}
-use Rattle.desk_report.specs.State.{on_writer, writer_in}
+use Rattle.desk_report.specs.State.{on_state, writer_in}
 
 -- every cell that is lent to an event
 pub record WriterCells : Type 0 where
@@ -34,7 +34,7 @@ writer_unheard c = cells_of_writer c.out c.starts c.state (laid_into c.report ba
 
 -- an event on the state that is handed in, where the numbers of what it says stand for something
 unfoldable pub writer_event : WriterCells → Bool → Event → WriterCells
-writer_event c ok e = on_writer (writer_in c.state) (writer_unheard c) (λ w. writer_after c (event_d ok (spoken w c.out c.starts) e))
+writer_event c ok e = on_state (writer_in c.state) (writer_unheard c) (λ w. writer_after c (event_d ok (spoken w c.out c.starts) e))
 
 unfoldable pub writer_root_x : WriterCells → ℕ → ℕ → WriterCells
 writer_root_x c first second = on_atom (load_of first second) (writer_unheard c) (λ k. writer_event c (in_range k) (Event.Root k))

@@ -4,7 +4,7 @@ use Rattle.std.specs.Prelude.{ℕ, List}
 use Rattle.std.proofs.lemmas.List.Edits.{sets}
 use Rattle.desk_pool.specs.Slots.{Gives, hit_d}
 use Rattle.desk_report.specs.Report.{bad, telling, laid_into}
-use Rattle.desk_report.specs.State.{on_pool, pool_in}
+use Rattle.desk_report.specs.State.{on_state, pool_in}
 
 -- every cell that is lent to a call
 pub record PoolCells : Type 0 where
@@ -21,4 +21,4 @@ pool_after c g = cells_of_pool g.left (sets c.state 0 g.state) (laid_into c.repo
 
 unfoldable pub hit_x : PoolCells → ℕ → ℕ → PoolCells
 hit_x c a b =
-    on_pool (pool_in c.state) (cells_of_pool c.pairs c.state (laid_into c.report bad)) (λ p. pool_after c (hit_d p c.pairs a b))
+    on_state (pool_in c.state) (cells_of_pool c.pairs c.state (laid_into c.report bad)) (λ p. pool_after c (hit_d p c.pairs a b))

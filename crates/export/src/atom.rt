@@ -8,26 +8,24 @@ ghost use Rattle.table.specs.Zeros.{zeros};
 ghost use Rattle.desk_atom.specs.Texts.{kinds_in, rnum_d};
 ghost use Rattle.export.specs.Atom.{reading, read_kind_words, read_atom_x, spelling, text_reported, atom_x, bond_x};
 
-use desk_atom::Begins;
-use desk_report::answer::{lay, of_begins, of_spelt, refuse};
-use feature::bond_kind::{Coded, decode};
-use packing::{Loaded, Pair, kind, words};
+use desk_report::answer::{Report, refuse};
+use feature::atom_kind::AtomKind;
+use feature::bond_kind::decode;
+use packing::{Pair, kind, words};
+use read_token::scanner::Missing;
 use table::{clear, clear_bytes, poke};
 
 // The words of a kind.
 const KIND_WORDS: usize = 2;
 
 // The words of the kind that was read, or zeros.
-fn kind_in(b: Begins) -> Pair
-    ensures { result ≡ read_kind_words (kinds_in b) }
+#[tactic(auto, unfolding(crate::specs::Atom::read_kind_words, desk_atom::specs::Texts::kinds_in))]
+fn kind_in(begins: Result<(AtomKind, usize), Missing>) -> Pair
+    ensures { result ≡ read_kind_words (kinds_in begins) }
 {
-    match b {
-        Begins::Atom(k, _next) => words(k),
-        Begins::EndOfLine => Pair {
-            first: 0,
-            second: 0,
-        },
-        Begins::Character(_place) => Pair {
+    match begins {
+        Ok((k, _next)) => words(k),
+        Err(_why) => Pair {
             first: 0,
             second: 0,
         },
@@ -44,6 +42,7 @@ fn lay_kind(lent: &mut [u32], w: Pair)
 }
 
 // The atom that a text begins with.
+#[tactic(auto, unfolding(crate::specs::Atom::read_atom_x, crate::specs::Atom::taken))]
 #[unsafe(no_mangle)]
 pub extern "C" fn mavisdrok_read_atom(text: &[u8], kind: &mut [u32], report: &mut [u64])
     ensures { reading kind.new report.new
@@ -56,42 +55,43 @@ pub extern "C" fn mavisdrok_read_atom(text: &[u8], kind: &mut [u32], report: &mu
     }
     let found = desk_atom::read_atom(text);
     lay_kind(kind, kind_in(found));
-    lay(report, of_begins(found));
+    Report::from(found).lay(report);
 }
 
 // An atom's text.
+#[tactic(auto, unfolding(crate::specs::Atom::atom_x, crate::specs::Atom::text_reported, crate::specs::Atom::spelling_unheard, crate::specs::Given::on_atom))]
 #[unsafe(no_mangle)]
 pub extern "C" fn mavisdrok_spell_atom(out: &mut [u8], first: u32, second: u32, report: &mut [u64])
     ensures { spelling out.new report.new ≡ atom_x (spelling out.old report.old) first second }
 {
-    let held = kind(first, second);
-    let Loaded::Held(k) = held else {
+    let Some(k) = kind(first, second) else {
         clear_bytes(out);
         refuse(report);
         return;
     };
-    lay(report, of_spelt(desk_atom::spell_atom(out, k)));
+    Report::from(desk_atom::spell_atom(out, k)).lay(report);
 }
 
 // A bond's text: none where it is elided.
+#[tactic(auto, unfolding(crate::specs::Atom::bond_x, crate::specs::Atom::text_reported, crate::specs::Atom::spelling_unheard, crate::specs::Given::on_bond))]
 #[unsafe(no_mangle)]
 pub extern "C" fn mavisdrok_spell_bond(out: &mut [u8], bond: u32, report: &mut [u64])
     ensures { spelling out.new report.new ≡ bond_x (spelling out.old report.old) bond }
 {
-    let coded = decode(bond);
-    let Coded::Kind(k) = coded else {
+    let Some(k) = decode(bond) else {
         clear_bytes(out);
         refuse(report);
         return;
     };
-    lay(report, of_spelt(desk_atom::spell_bond(out, k)));
+    Report::from(desk_atom::spell_bond(out, k)).lay(report);
 }
 
 // A ring number's text.
+#[tactic(auto, unfolding(crate::specs::Atom::text_reported))]
 #[unsafe(no_mangle)]
 pub extern "C" fn mavisdrok_spell_rnum(out: &mut [u8], number: u32, report: &mut [u64])
     ensures { spelling out.new report.new
         ≡ text_reported report.old (rnum_d number (length out.old)) }
 {
-    lay(report, of_spelt(desk_atom::spell_rnum(out, number)));
+    Report::from(desk_atom::spell_rnum(out, number)).lay(report);
 }

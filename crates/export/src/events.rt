@@ -3,15 +3,17 @@
 ghost use Rattle.std.specs.Prelude.{◌≡◌};
 ghost use Rattle.export.specs.Events.{cells_of_builder, start_x, builder_root_x, builder_extend_x, builder_join_x, builder_pop_x, made, build_x};
 
+use builder::builder::Builder;
 use desk_builder::calls;
-use desk_report::answer::{lay, of_built, refuse};
-use desk_report::keep::keep_builder;
-use desk_report::state::{AsBuilder, BUILDER_WORDS, builder_in};
-use feature::bond_kind::{Coded, decode};
-use packing::{Loaded, kind};
+use desk_report::answer::{Report, refuse};
+use desk_report::keep::{keep_builder, keep_start};
+use desk_report::state::{BUILDER_WORDS, StateWords};
+use feature::bond_kind::decode;
+use packing::kind;
 use table::clear;
 
 // A builder that has seen no event, over the tables that its events will be lent: its state, and its ring numbers all free.
+#[tactic(auto, unfolding(crate::specs::Events::start_x, crate::specs::Events::builder_begun, crate::specs::Events::builder_unheard))]
 #[unsafe(no_mangle)]
 pub extern "C" fn mavisdrok_builder_start(
     atoms: &[u32],
@@ -31,10 +33,11 @@ pub extern "C" fn mavisdrok_builder_start(
         refuse(report);
         return;
     }
-    keep_builder(state, report, calls::start(atoms, entries, path, rings));
+    keep_start(state, report, calls::start(atoms, entries, path, rings));
 }
 
 // A first atom of a component.
+#[tactic(auto, unfolding(crate::specs::Events::builder_root_x, crate::specs::Events::builder_event, crate::specs::Events::builder_after, crate::specs::Events::builder_unheard, desk_report::specs::State::on_state, crate::specs::Given::on_atom))]
 #[unsafe(no_mangle)]
 pub extern "C" fn mavisdrok_builder_root(
     atoms: &mut [u32],
@@ -52,13 +55,7 @@ pub extern "C" fn mavisdrok_builder_root(
         (cells_of_builder atoms.old entries.now path.old rings.now
         state.old report.old) first second }
 {
-    let atom = kind(first, second);
-    let Loaded::Held(k) = atom else {
-        refuse(report);
-        return;
-    };
-    let held = builder_in(state);
-    let AsBuilder::Is(b) = held else {
+    let (Some(k), Some(b)) = (kind(first, second), Builder::read(state)) else {
         refuse(report);
         return;
     };
@@ -70,6 +67,7 @@ pub extern "C" fn mavisdrok_builder_root(
 }
 
 // A new atom, bonded to the current one.
+#[tactic(auto, unfolding(crate::specs::Events::builder_extend_x, crate::specs::Events::builder_event, crate::specs::Events::builder_after, crate::specs::Events::builder_unheard, desk_report::specs::State::on_state, crate::specs::Given::on_atom, crate::specs::Given::on_bond))]
 #[unsafe(no_mangle)]
 pub extern "C" fn mavisdrok_builder_extend(
     atoms: &mut [u32],
@@ -88,18 +86,8 @@ pub extern "C" fn mavisdrok_builder_extend(
         (cells_of_builder atoms.old entries.old path.old rings.now
         state.old report.old) bond first second }
 {
-    let atom = kind(first, second);
-    let Loaded::Held(t) = atom else {
-        refuse(report);
-        return;
-    };
-    let coded = decode(bond);
-    let Coded::Kind(k) = coded else {
-        refuse(report);
-        return;
-    };
-    let held = builder_in(state);
-    let AsBuilder::Is(b) = held else {
+    let (Some(t), Some(k), Some(b)) = (kind(first, second), decode(bond), Builder::read(state))
+    else {
         refuse(report);
         return;
     };
@@ -111,6 +99,7 @@ pub extern "C" fn mavisdrok_builder_extend(
 }
 
 // A ring number at the current atom.
+#[tactic(auto, unfolding(crate::specs::Events::builder_join_x, crate::specs::Events::builder_event, crate::specs::Events::builder_after, crate::specs::Events::builder_unheard, desk_report::specs::State::on_state, crate::specs::Given::on_bond))]
 #[unsafe(no_mangle)]
 pub extern "C" fn mavisdrok_builder_join(
     atoms: &[u32],
@@ -128,13 +117,7 @@ pub extern "C" fn mavisdrok_builder_join(
         (cells_of_builder atoms.now entries.old path.now rings.old
         state.old report.old) bond number }
 {
-    let coded = decode(bond);
-    let Coded::Kind(k) = coded else {
-        refuse(report);
-        return;
-    };
-    let held = builder_in(state);
-    let AsBuilder::Is(b) = held else {
+    let (Some(k), Some(b)) = (decode(bond), Builder::read(state)) else {
         refuse(report);
         return;
     };
@@ -146,6 +129,7 @@ pub extern "C" fn mavisdrok_builder_join(
 }
 
 // So many atoms off the path. A pop beyond it empties it.
+#[tactic(auto, unfolding(crate::specs::Events::builder_pop_x, crate::specs::Events::builder_event, crate::specs::Events::builder_after, crate::specs::Events::builder_unheard, desk_report::specs::State::on_state))]
 #[unsafe(no_mangle)]
 pub extern "C" fn mavisdrok_builder_pop(
     atoms: &[u32],
@@ -162,8 +146,7 @@ pub extern "C" fn mavisdrok_builder_pop(
         (cells_of_builder atoms.now entries.now path.now rings.now
         state.old report.old) n }
 {
-    let held = builder_in(state);
-    let AsBuilder::Is(b) = held else {
+    let Some(b) = Builder::read(state) else {
         refuse(report);
         return;
     };
@@ -171,6 +154,7 @@ pub extern "C" fn mavisdrok_builder_pop(
 }
 
 // The graph in its final form. A refused build leaves zeros in both tables.
+#[tactic(auto, using(crate::proofs::Reports::built_told), unfolding(crate::specs::Events::build_x, desk_report::specs::State::on_state))]
 #[unsafe(no_mangle)]
 pub extern "C" fn mavisdrok_builder_build(
     atoms: &mut [u32],
@@ -186,15 +170,11 @@ pub extern "C" fn mavisdrok_builder_build(
         (cells_of_builder atoms.old entries.now path.now rings.now
         state.now report.old) bonds.old }
 {
-    let held = builder_in(state);
-    let AsBuilder::Is(b) = held else {
+    let Some(b) = Builder::read(state) else {
         clear(atoms);
         clear(bonds);
         refuse(report);
         return;
     };
-    lay(
-        report,
-        of_built(calls::build(atoms, bonds, entries, path, rings, b)),
-    );
+    Report::from(calls::build(atoms, bonds, entries, path, rings, b)).lay(report);
 }

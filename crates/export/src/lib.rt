@@ -14,7 +14,7 @@ pub mod rings;
 ghost use Rattle.std.specs.Prelude.{◌≡◌, length};
 ghost use Rattle.export.specs.Calls.{read_cells, read_x, write_cells, write_x, order_cells, order_x};
 
-use desk_report::answer::{lay, of_read, of_written};
+use desk_report::answer::Report;
 
 // Reads a line. The report: the desk's number, and the values that it carries.
 #[unsafe(no_mangle)]
@@ -27,8 +27,7 @@ pub extern "C" fn mavisdrok_read(
     ensures { read_cells atoms.new bonds.new report.new
         ≡ read_x text.now (length atoms.old) (length bonds.old) report.old }
 {
-    let answer = read::read(text, atoms, bonds);
-    lay(report, of_read(answer));
+    Report::from(read::read(text, atoms, bonds)).lay(report);
 }
 
 // Writes the graph of n atoms and m bond entries.
@@ -44,8 +43,7 @@ pub extern "C" fn mavisdrok_write(
     ensures { write_cells out.new report.new
         ≡ write_x (length out.old) atoms.now n bonds.now m report.old }
 {
-    let answer = write::write(atoms, n, bonds, m, out);
-    lay(report, of_written(answer));
+    Report::from(write::write(atoms, n, bonds, m, out)).lay(report);
 }
 
 // The walk order of the graph of n atoms and m bond entries.
@@ -65,5 +63,5 @@ pub extern "C" fn mavisdrok_order(
         bonds.now m report.old }
 {
     let answer = write::order::order(atoms, n, bonds, m, walked, number, back);
-    lay(report, of_written(answer));
+    Report::from(answer).lay(report);
 }

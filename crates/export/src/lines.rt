@@ -5,11 +5,13 @@ ghost use Rattle.export.specs.Lines.{cells_of_writer, writer_root_x, writer_exte
 
 use desk_report::answer::refuse;
 use desk_report::keep::keep_writer;
-use desk_report::state::{AsWriter, writer_in};
-use feature::bond_kind::{Coded, decode};
-use packing::{Loaded, kind};
+use desk_report::state::StateWords;
+use feature::bond_kind::decode;
+use packing::kind;
+use writer::{Line, Writer};
 
 // A first atom of a component.
+#[tactic(auto, unfolding(crate::specs::Lines::writer_root_x, crate::specs::Lines::writer_event, crate::specs::Lines::writer_after, crate::specs::Lines::writer_unheard, desk_report::specs::State::on_state, crate::specs::Given::on_atom))]
 #[unsafe(no_mangle)]
 pub extern "C" fn mavisdrok_writer_root(
     out: &mut [u8],
@@ -22,20 +24,16 @@ pub extern "C" fn mavisdrok_writer_root(
     ensures { cells_of_writer out.new starts.new state.new report.new
         ≡ writer_root_x (cells_of_writer out.old starts.old state.old report.old) first second }
 {
-    let atom = kind(first, second);
-    let Loaded::Held(k) = atom else {
+    let (Some(k), Some(w)) = (kind(first, second), Writer::read(state)) else {
         refuse(report);
         return;
     };
-    let held = writer_in(state);
-    let AsWriter::Is(w) = held else {
-        refuse(report);
-        return;
-    };
-    keep_writer(state, report, desk_writer::root(out, starts, w, k));
+    let mut line = Line { at: w, out, starts };
+    keep_writer(state, report, desk_writer::root(&mut line, k));
 }
 
 // An atom bonded to the one before.
+#[tactic(auto, unfolding(crate::specs::Lines::writer_extend_x, crate::specs::Lines::writer_event, crate::specs::Lines::writer_after, crate::specs::Lines::writer_unheard, desk_report::specs::State::on_state, crate::specs::Given::on_atom, crate::specs::Given::on_bond))]
 #[unsafe(no_mangle)]
 pub extern "C" fn mavisdrok_writer_extend(
     out: &mut [u8],
@@ -49,25 +47,17 @@ pub extern "C" fn mavisdrok_writer_extend(
     ensures { cells_of_writer out.new starts.new state.new report.new
         ≡ writer_extend_x (cells_of_writer out.old starts.old state.old report.old) bond first second }
 {
-    let atom = kind(first, second);
-    let Loaded::Held(t) = atom else {
+    let (Some(t), Some(k), Some(w)) = (kind(first, second), decode(bond), Writer::read(state))
+    else {
         refuse(report);
         return;
     };
-    let coded = decode(bond);
-    let Coded::Kind(k) = coded else {
-        refuse(report);
-        return;
-    };
-    let held = writer_in(state);
-    let AsWriter::Is(w) = held else {
-        refuse(report);
-        return;
-    };
-    keep_writer(state, report, desk_writer::extend(out, starts, w, k, t));
+    let mut line = Line { at: w, out, starts };
+    keep_writer(state, report, desk_writer::extend(&mut line, k, t));
 }
 
 // A ring number at the last piece.
+#[tactic(auto, unfolding(crate::specs::Lines::writer_join_x, crate::specs::Lines::writer_event, crate::specs::Lines::writer_after, crate::specs::Lines::writer_unheard, desk_report::specs::State::on_state, crate::specs::Given::on_bond))]
 #[unsafe(no_mangle)]
 pub extern "C" fn mavisdrok_writer_join(
     out: &mut [u8],
@@ -80,20 +70,16 @@ pub extern "C" fn mavisdrok_writer_join(
     ensures { cells_of_writer out.new starts.new state.new report.new
         ≡ writer_join_x (cells_of_writer out.old starts.old state.old report.old) bond number }
 {
-    let coded = decode(bond);
-    let Coded::Kind(k) = coded else {
+    let (Some(k), Some(w)) = (decode(bond), Writer::read(state)) else {
         refuse(report);
         return;
     };
-    let held = writer_in(state);
-    let AsWriter::Is(w) = held else {
-        refuse(report);
-        return;
-    };
-    keep_writer(state, report, desk_writer::join(out, starts, w, k, number));
+    let mut line = Line { at: w, out, starts };
+    keep_writer(state, report, desk_writer::join(&mut line, k, number));
 }
 
 // The last pieces, so many, put in brackets onto the piece before.
+#[tactic(auto, unfolding(crate::specs::Lines::writer_pop_x, crate::specs::Lines::writer_event, crate::specs::Lines::writer_after, crate::specs::Lines::writer_unheard, desk_report::specs::State::on_state))]
 #[unsafe(no_mangle)]
 pub extern "C" fn mavisdrok_writer_pop(
     out: &mut [u8],
@@ -105,10 +91,10 @@ pub extern "C" fn mavisdrok_writer_pop(
     ensures { cells_of_writer out.new starts.new state.new report.new
         ≡ writer_pop_x (cells_of_writer out.old starts.old state.old report.old) n }
 {
-    let held = writer_in(state);
-    let AsWriter::Is(w) = held else {
+    let Some(w) = Writer::read(state) else {
         refuse(report);
         return;
     };
-    keep_writer(state, report, desk_writer::pop(out, starts, w, n));
+    let mut line = Line { at: w, out, starts };
+    keep_writer(state, report, desk_writer::pop(&mut line, n));
 }

@@ -3,11 +3,13 @@
 ghost use Rattle.std.specs.Prelude.{◌≡◌};
 ghost use Rattle.export.specs.Rings.{cells_of_pool, hit_x};
 
-use desk_report::answer::{lay, of_handed, refuse};
-use desk_report::keep::keep_pool_state;
-use desk_report::state::{AsPool, pool_in};
+use desk_report::answer::refuse;
+use desk_report::keep::keep_pool;
+use desk_report::state::StateWords;
+use join_pool::Pool;
 
 // A call for the pair of two atoms: the first opens a number for it, the next closes it.
+#[tactic(auto, unfolding(crate::specs::Rings::hit_x, crate::specs::Rings::pool_after, desk_report::specs::State::on_state))]
 #[unsafe(no_mangle)]
 pub extern "C" fn mavisdrok_pool_hit(
     pairs: &mut [u32],
@@ -19,12 +21,9 @@ pub extern "C" fn mavisdrok_pool_hit(
     ensures { cells_of_pool pairs.new state.new report.new
         ≡ hit_x (cells_of_pool pairs.old state.old report.old) a b }
 {
-    let held = pool_in(state);
-    let AsPool::Is(p) = held else {
+    let Some(p) = Pool::read(state) else {
         refuse(report);
         return;
     };
-    let handed = desk_pool::hit(pairs, p, a, b);
-    keep_pool_state(state, handed);
-    lay(report, of_handed(handed, a, b));
+    keep_pool(state, report, desk_pool::hit(pairs, p, a, b), a, b);
 }

@@ -2,20 +2,19 @@
 use Prim.Native.Nat.{ℕ}
 use mathlib.Core.Path.{◌≡◌, refl, ◌∙◌, ap, sym}
 use mathlib.Core.Bool.{Bool, true, false, true≢false}
+use Rattle.std.specs.Prelude.{◌≢◌}
 use lib.Dec.{eqb}
 use borrow.Author.Tests.{eqb-true, eq-eqb, ne_eqb}
 use Rattle.feature.specs.Pick.{pick}
 use Rattle.feature.specs.Bonds.{code_of, kind_of, same_kind, is_directional, reverse_of, reconcile_of, sure_kind}
 use Rattle.feature.specs.declared.bond_kind.BondKind.{BondKind}
 use Rattle.feature.specs.declared.bond_kind.BondKind.TheVariants.{Elided, Single, Double, Triple, Quadruple, Aromatic, Up, Down}
-use Rattle.feature.specs.declared.bond_kind.Coded.TheVariants.{Kind}
-use Rattle.feature.specs.declared.bond_kind.Reconciled.{Reconciled}
-use Rattle.feature.specs.declared.bond_kind.Reconciled.TheVariants.{Both, Fails}
+use Rattle.std.specs.Prelude.{None, Option, Some}
 use Rattle.feature.proofs.Cases.{by_eq}
 
 -- ---- numbers
 -- a kind's number stands for it
-pub kind_back : (k : BondKind) → kind_of (code_of k) ≡ Kind k
+pub kind_back : (k : BondKind) → kind_of (code_of k) ≡ Some k
 unfolding kind_of code_of
 kind_back Elided = refl
 kind_back Single = refl
@@ -33,6 +32,14 @@ sure_code k = ap sure_kind (kind_back k)
 -- so no two kinds have one number
 pub same_code : (j k : BondKind) → code_of j ≡ code_of k → j ≡ k
 same_code j k e = sym (sure_code j) ∙ ap (λ (c : ℕ). sure_kind (kind_of c)) e ∙ sure_code k
+
+-- one kind has one number
+pub alike : (j k : BondKind) → j ≡ k → same_kind j k ≡ true
+alike j k e = eq-eqb (code_of j) (code_of k) (ap code_of e)
+
+-- and kinds that differ have different numbers
+pub apart : (j k : BondKind) → j ≢ k → same_kind j k ≡ false
+apart j k n = ne_eqb (code_of j) (code_of k) (λ e. n (same_code j k e))
 
 -- ---- reverses
 pub reverse_twice : (k : BondKind) → reverse_of (reverse_of k) ≡ k
@@ -71,15 +78,15 @@ same_reverse j k =
 
 -- ---- the two ends of a ring bond
 -- the second kind is the reverse of the first
-abbrev pub Reversed : Reconciled → Type 0
-Reversed Fails = Unit {0}
-Reversed (Both l r) = r ≡ reverse_of l
+abbrev pub Reversed : Option (BondKind × BondKind) → Type 0
+Reversed None = Unit {0}
+Reversed (Some (l, r)) = r ≡ reverse_of l
 
 -- reconciled kinds are
 pub reconciled : (l r : BondKind) → Reversed (reconcile_of l r)
 unfolding reconcile_of
 reconciled l r = split (eqb (code_of l) (code_of r)) (eqb (code_of l) (code_of (reverse_of r))) (eqb (code_of l) (code_of Elided)) (eqb (code_of r) (code_of Elided)) (is_directional l) refl refl refl where
-  split : (p q e f d : Bool) → eqb (code_of l) (code_of r) ≡ p → eqb (code_of l) (code_of (reverse_of r)) ≡ q → is_directional l ≡ d → Reversed (pick p (pick d Fails (Both l r)) (pick q (Both l r) (pick e (Both (reverse_of r) r) (pick f (Both l (reverse_of l)) Fails))))
+  split : (p q e f d : Bool) → eqb (code_of l) (code_of r) ≡ p → eqb (code_of l) (code_of (reverse_of r)) ≡ q → is_directional l ≡ d → Reversed (pick p (pick d None (Some (l, r))) (pick q (Some (l, r)) (pick e (Some (reverse_of r, r)) (pick f (Some (l, reverse_of l)) None))))
   split true q e f true i j g = tt
   split true q e f false i j g = sym (same_code l r (eqb-true _ _ i)) ∙ own_reverse l g
   split false true e f d i j g = sym (reverse_twice r) ∙ ap reverse_of (sym (same_code l (reverse_of r) (eqb-true _ _ j)))

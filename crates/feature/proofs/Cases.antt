@@ -1,6 +1,7 @@
 -- Tests and choices: what a test says, and what holds of the outcome that it picks. Assumes nothing.
 use Prim.Native.Nat.{ℕ}
-use mathlib.Core.Path.{◌≡◌, refl, sym, ◌∙◌}
+use mathlib.Core.Path.{◌≡◌, refl, sym, ◌∙◌, ap}
+use Rattle.std.specs.Prelude.{Option, Some, Result, Ok}
 use mathlib.Core.Logic.{◌≢◌}
 use mathlib.Core.Bool.{Bool, true, false, true≢false, false≢true}
 use native.Mathlib.Decide.{ℕ_discrete}
@@ -54,3 +55,19 @@ both_true a b h = (both_first a b h, both_second a b h)
 
 pub both_pass : {a b : Bool} → a ≡ true → b ≡ true → both a b ≡ true
 both_pass e f = rw e f
+
+-- ---- pairs
+-- equal pairs have equal parts
+pub parts : {A B : Type 0} {a c : A} {b d : B} → ◌≡◌ {A = A × B} (a, b) (c, d) → (a ≡ c) × (b ≡ d)
+parts e = (ap (λ p. p.0) e, ap (λ p. p.1) e)
+
+-- and so have those of which there is some
+pub some_parts : {A B : Type 0} {a c : A} {b d : B} → ◌≡◌ {A = Option (A × B)} (Some (a, b)) (Some (c, d)) → (a ≡ c) × (b ≡ d)
+some_parts e = parts cc
+
+-- and those that a reader answers
+pub ok_parts : {A B E : Type 0} {a c : A} {b d : B} → ◌≡◌ {A = Result (A × B) E} (Ok (a, b)) (Ok (c, d)) → (a ≡ c) × (b ≡ d)
+ok_parts e = parts cc
+
+pub found_parts : {A B E : Type 0} {a c : A} {b d : B} → ◌≡◌ {A = Result (Option (A × B)) E} (Ok (Some (a, b))) (Ok (Some (c, d))) → (a ≡ c) × (b ≡ d)
+found_parts e = parts cc

@@ -5,4 +5,5 @@ pub mod Ranges
 pub mod Lists
 pub mod Cases
 pub mod Every
+pub mod AllBelow
 pub mod Bonds

@@ -8,12 +8,13 @@ use native.Mathlib.Nat.{le_of_suc-le-suc, not-suc-le-zero, zero-lt-suc, le_of_lt
 use lib.ListN.{length, get_or, length-map, get_or-map, get_or-eq_default}
 use lib.Dec.{T, ltb, ltb→lt, eqb}
 use borrow.Author.Tests.{eq-eqb, ne_eqb, lt-ltb, le-ltb, ltb-true, ltb-false, eqb-true, eqb-false}
-use Rattle.feature.specs.Pick.{both, either}
-use Rattle.feature.specs.Text.{byte, letter_step, one_letter, two_letters}
-use Rattle.feature.specs.Names.{symbols, names, place_of, begins, named_of}
+use Rattle.std.specs.Prelude.{Some, None}
+use Rattle.feature.specs.Pick.{both, either, pick}
+use Rattle.feature.specs.Text.{byte, letter_step, no_letter, one_letter, two_letters}
+use Rattle.feature.specs.Names.{symbols, names, place_of, symbol_at, begins, named_of}
 use Rattle.feature.specs.declared.element.Named.TheVariants.{Two, One, Begins, Nothing}
 use Rattle.feature.specs.Steps.{first_bytes, head_of}
-use Rattle.feature.proofs.Cases.{by_test}
+use Rattle.feature.proofs.Cases.{by_test, impossible}
 use Rattle.feature.proofs.Table.{at, both_left, both_right, rising, every_entry, NoneAmong, among, apart}
 
 pub names_length : length names ≡ symbols
@@ -171,19 +172,25 @@ module _ (key : ℕ) where
   before_head j h e = head_before (key / letter_step) j h (ap (λ (x : ℕ). x / letter_step) e)
 
   module _ (r : ℕ) (before : (j : ℕ) → j < r → get_or names j 0 ≡ key → ⊥) where
-    pub found : r < symbols → get_or names r 0 ≡ key → r ≡ place_of key names
-    found l e = sym (place_here key names r (omega (arith, names_length)) e before)
+    at_place : r < symbols → get_or names r 0 ≡ key → r ≡ place_of key names
+    at_place l e = sym (place_here key names r (omega (arith, names_length)) e before)
 
-    pub missed : r < symbols → key < get_or names r 0 → symbols ≡ place_of key names
-    missed l n = sym (place_none key names no ∙ names_length) where
+    pub found : r < symbols → get_or names r 0 ≡ key → Some r ≡ symbol_at (place_of key names)
+    unfolding symbol_at
+    found l e = simp (← at_place l e, lt-ltb r symbols l)
+
+    pub missed : r < symbols → key < get_or names r 0 → None ≡ symbol_at (place_of key names)
+    unfolding symbol_at
+    missed l n = simp (place_none key names no, names_length) where
       no : (j : ℕ) → j < length names → get_or names j 0 ≡ key → ⊥
       no j h e = cases (ltb j r) refl where
         cases : (b : Bool) → ltb j r ≡ b → ⊥
         cases true p = before j (ltb-true j r p) e
         cases false p = omega (arith, n, e, ordered_le r j (ltb-false j r p) (omega (arith, names_length)))
 
-    pub passed : symbols ≤ r → symbols ≡ place_of key names
-    passed l = sym (place_none key names (λ j h. before j (omega (arith, names_length))) ∙ names_length)
+    pub passed : symbols ≤ r → None ≡ symbol_at (place_of key names)
+    unfolding symbol_at
+    passed l = simp (place_none key names (λ j h. before j (omega (arith, names_length))), names_length)
 
 -- ---- the letters of a name are bytes
 letters : ℕ → ℕ → Bool
@@ -211,19 +218,43 @@ lettered_at : (y : ℕ) → y < symbols → T (lettered y (get_or names y 0))
 unfolding names lettered
 lettered_at y h = at lettered names tt y h
 
-pub no_second : (a d : ℕ) → d < byte "a" → symbols ≡ place_of (two_letters a d) names
-unfolding lettered
-no_second a d low = sym (place_none (two_letters a d) names no ∙ names_length) where
+pub no_second : (a d : ℕ) → d < byte "a" → None ≡ symbol_at (place_of (two_letters a d) names)
+unfolding lettered symbol_at
+no_second a d low = simp (place_none (two_letters a d) names no, names_length) where
   no : (j : ℕ) → j < length names → get_or names j 0 ≡ two_letters a d → ⊥
   no j h e = go (eqb (get_or names j 0 % letter_step) 0) refl (lettered_at j (omega (arith, names_length))) where
     go : (q : Bool) → eqb (get_or names j 0 % letter_step) 0 ≡ q → T (either q (ltb (byte "a") (get_or names j 0 % letter_step))) → ⊥
     go true z t = omega (arith, e, eqb-true (get_or names j 0 % letter_step) 0 z)
     go false z t = omega (arith, e, ltb→lt (byte "a") (get_or names j 0 % letter_step) t)
 
+-- so what ends a line is the second letter of none
+pub no_end : (a : ℕ) → None ≡ symbol_at (place_of (two_letters a no_letter) names)
+unfolding symbol_at
+no_end a = simp (place_none (two_letters a no_letter) names no, names_length) where
+  no : (j : ℕ) → j < length names → get_or names j 0 ≡ two_letters a no_letter → ⊥
+  no j h e = omega (arith, e, second_small j (omega (arith, names_length)))
+
 -- ---- what the names say of two bytes
-pub two_named : (a d t : ℕ) → t ≡ place_of (two_letters a d) names → t < symbols → Two t ≡ named_of a d
+-- a place at which there is a symbol is that symbol's, and one at which there is none is past the table
+symbol_there : (p t : ℕ) → Some t ≡ symbol_at p → (p ≡ t) × (t < symbols)
+unfolding symbol_at
+symbol_there p t = cases (ltb p symbols) refl where
+  cases : (b : Bool) → ltb p symbols ≡ b → Some t ≡ pick b (Some p) None → (p ≡ t) × (t < symbols)
+  cases true e h = let same : p ≡ t = cc in (same, omega (arith, same, ltb-true p symbols e))
+  cases false e h = impossible cc
+
+past_table : (p : ℕ) → None ≡ symbol_at p → symbols ≤ p
+unfolding symbol_at
+past_table p = cases (ltb p symbols) refl where
+  cases : (b : Bool) → ltb p symbols ≡ b → None ≡ pick b (Some p) None → symbols ≤ p
+  cases true e h = impossible cc
+  cases false e h = ltb-false p symbols e
+
+pub two_named : (a d t : ℕ) → Some t ≡ symbol_at (place_of (two_letters a d) names) → Two t ≡ named_of a d
 unfolding named_of
-two_named a d t e h = simp (← e, lt-ltb t symbols h)
+two_named a d t e =
+    let there = symbol_there (place_of (two_letters a d) names) t e in
+    simp (there.0, lt-ltb t symbols there.1)
 
 module _ (a head : ℕ) (is : head ≡ head_of a) where
   in_table : head < symbols
@@ -248,16 +279,16 @@ module _ (a head : ℕ) (is : head ≡ head_of a) where
         no_name : (k : ℕ) → k / letter_step ≡ a → (j : ℕ) → j < symbols → get_or names j 0 ≡ k → ⊥
         no_name k first j l e = none j l (ap (λ (x : ℕ). x / letter_step) e ∙ first)
 
-  module _ (d : ℕ) (alone : symbols ≤ place_of (two_letters a d) names) where
+  module _ (d : ℕ) (alone : None ≡ symbol_at (place_of (two_letters a d) names)) where
     two_none : ltb (place_of (two_letters a d) names) symbols ≡ false
-    two_none = le-ltb (place_of (two_letters a d) names) symbols alone
+    two_none = le-ltb (place_of (two_letters a d) names) symbols (past_table _ alone)
 
     pub one_named : get_or names head 0 ≡ one_letter a → One head ≡ named_of a d
     unfolding named_of
     one_named e = simp (two_none, ← here, lt-ltb head symbols in_table) where
       here : head ≡ place_of (one_letter a) names
       here =
-          found (one_letter a) head (λ j l same. omega (arith, same, e, ordered j head l in_table)) in_table e
+          at_place (one_letter a) head (λ j l same. omega (arith, same, e, ordered j head l in_table)) in_table e
 
     pub begins_named : get_or names head 0 / letter_step ≡ a → (get_or names head 0 ≡ one_letter a → ⊥) → Begins ≡ named_of a d
     unfolding named_of

@@ -5,10 +5,7 @@ use Rattle.std.specs.Prelude.{ℕ, ◌≤◌, ◌≡◌, Bool, true, false, eqb}
 use Rattle.feature.specs.Pick.{pick}
 use Rattle.feature.specs.declared.bond_kind.BondKind.{BondKind}
 use Rattle.feature.specs.declared.bond_kind.BondKind.TheVariants.{Elided, Single, Double, Triple, Quadruple, Aromatic, Up, Down}
-use Rattle.feature.specs.declared.bond_kind.Coded.{Coded}
-use Rattle.feature.specs.declared.bond_kind.Coded.TheVariants.{Kind, Bad}
-use Rattle.feature.specs.declared.bond_kind.Reconciled.{Reconciled}
-use Rattle.feature.specs.declared.bond_kind.Reconciled.TheVariants.{Both, Fails}
+use Rattle.std.specs.Prelude.{None, Option, Some}
 
 unfoldable pub reverse_of : BondKind → BondKind
 reverse_of Elided = Elided
@@ -47,30 +44,30 @@ pub record NumberOf (k : BondKind) (r : ℕ) : Type 0 where
   pub most : r ≤ 8
 
 -- what a number stands for
-unfoldable pub kind_of : ℕ → Coded
+unfoldable pub kind_of : ℕ → Option BondKind
 kind_of n =
-    pick (eqb n 1) (Kind Elided)
-    (pick (eqb n 2) (Kind Single)
-    (pick (eqb n 3) (Kind Double)
-    (pick (eqb n 4) (Kind Triple)
-    (pick (eqb n 5) (Kind Quadruple)
-    (pick (eqb n 6) (Kind Aromatic)
-    (pick (eqb n 7) (Kind Up)
-    (pick (eqb n 8) (Kind Down)
-    Bad)))))))
+    pick (eqb n 1) (Some Elided)
+    (pick (eqb n 2) (Some Single)
+    (pick (eqb n 3) (Some Double)
+    (pick (eqb n 4) (Some Triple)
+    (pick (eqb n 5) (Some Quadruple)
+    (pick (eqb n 6) (Some Aromatic)
+    (pick (eqb n 7) (Some Up)
+    (pick (eqb n 8) (Some Down)
+    None)))))))
 
 -- the kind, and an elided bond for none
-unfoldable pub sure_kind : Coded → BondKind
-sure_kind (Kind k) = k
-sure_kind Bad = Elided
+unfoldable pub sure_kind : Option BondKind → BondKind
+sure_kind (Some k) = k
+sure_kind None = Elided
 
 abbrev pub same_kind : BondKind → BondKind → Bool
 same_kind j k = eqb (code_of j) (code_of k)
 
-unfoldable pub reconcile_of : BondKind → BondKind → Reconciled
+unfoldable pub reconcile_of : BondKind → BondKind → Option (BondKind × BondKind)
 reconcile_of l r =
-    pick (same_kind l r) (pick (is_directional l) Fails (Both l r))
-    (pick (same_kind l (reverse_of r)) (Both l r)
-    (pick (same_kind l Elided) (Both (reverse_of r) r)
-    (pick (same_kind r Elided) (Both l (reverse_of l))
-    Fails)))
+    pick (same_kind l r) (pick (is_directional l) None (Some (l, r)))
+    (pick (same_kind l (reverse_of r)) (Some (l, r))
+    (pick (same_kind l Elided) (Some (reverse_of r, r))
+    (pick (same_kind r Elided) (Some (l, reverse_of l))
+    None)))

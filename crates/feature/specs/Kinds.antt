@@ -5,8 +5,7 @@ use Rattle.feature.specs.Names.{symbols}
 use Rattle.feature.specs.declared.atom_kind.BracketAtom.{BracketAtom}
 use Rattle.feature.specs.declared.atom_kind.AtomKind.{AtomKind}
 use Rattle.feature.specs.declared.atom_kind.AtomKind.TheVariants.{Star, Aliphatic, Aromatic, Bracket}
-use Rattle.feature.specs.declared.atom_kind.Inverted.{Inverted}
-use Rattle.feature.specs.declared.atom_kind.Inverted.TheVariants.{Turned, Refused}
+use Rattle.std.specs.Prelude.{None, Option, Some}
 
 abbrev pub aliphatic_count : ℕ
 aliphatic_count = 12
@@ -74,22 +73,22 @@ abbrev pub with_configuration : BracketAtom → ℕ → BracketAtom
 with_configuration b c = bracket_of_six b.isotope b.symbol c b.hydrogens b.charge b.map
 
 -- a mark on an atom that bears hydrogen is turned: TH1 and TH2 are each other's, and any other can't be
-unfoldable pub invert_bracket : BracketAtom → Inverted
+unfoldable pub invert_bracket : BracketAtom → Option AtomKind
 invert_bracket b =
-    pick (eqb b.configuration no_configuration) (Turned (Bracket b))
-    (pick (eqb b.hydrogens no_hydrogens) (Turned (Bracket b))
-    (pick (eqb b.hydrogens 0) (Turned (Bracket b))
-    (pick (eqb b.configuration th1) (Turned (Bracket (with_configuration b th2)))
-    (pick (eqb b.configuration th2) (Turned (Bracket (with_configuration b th1)))
-    Refused))))
+    pick (eqb b.configuration no_configuration) (Some (Bracket b))
+    (pick (eqb b.hydrogens no_hydrogens) (Some (Bracket b))
+    (pick (eqb b.hydrogens 0) (Some (Bracket b))
+    (pick (eqb b.configuration th1) (Some (Bracket (with_configuration b th2)))
+    (pick (eqb b.configuration th2) (Some (Bracket (with_configuration b th1)))
+    None))))
 
-unfoldable pub invert_of : AtomKind → Inverted
-invert_of Star = Turned Star
-invert_of (Aliphatic n) = Turned (Aliphatic n)
-invert_of (Aromatic n) = Turned (Aromatic n)
+unfoldable pub invert_of : AtomKind → Option AtomKind
+invert_of Star = Some Star
+invert_of (Aliphatic n) = Some (Aliphatic n)
+invert_of (Aromatic n) = Some (Aromatic n)
 invert_of (Bracket b) = invert_bracket b
 
 -- the kind with its mark turned, or as it is where the mark can't be
-unfoldable pub turned_or : AtomKind → Inverted → AtomKind
-turned_or k (Turned t) = t
-turned_or k Refused = k
+unfoldable pub turned_or : AtomKind → Option AtomKind → AtomKind
+turned_or k (Some t) = t
+turned_or k None = k

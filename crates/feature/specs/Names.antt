@@ -1,6 +1,6 @@
 -- The names that a bracket atom can have: the star, the 118 elements, and the aromatic as b c n o p s se. They are in
 -- the order of a dictionary; a symbol is the place of its name.
-use Rattle.std.specs.Prelude.{ℕ, suc, ◌/◌, List, [], ◌∷◌, ◌++◌, Bool, false, eqb, ltb}
+use Rattle.std.specs.Prelude.{ℕ, suc, ◌/◌, List, [], ◌∷◌, ◌++◌, Bool, false, eqb, ltb, Option, Some, None}
 use Rattle.feature.specs.Pick.{pick, either}
 use Rattle.feature.specs.Text.{letter_step, columns, one_letter, two_letters}
 use Rattle.feature.specs.declared.element.Named.{Named}
@@ -62,6 +62,10 @@ aromatic_elements = sym_as ∷ sym_b ∷ sym_c ∷ sym_n ∷ sym_o ∷ sym_p ∷
 unfoldable pub place_of : ℕ → List ℕ → ℕ
 place_of k [] = 0
 place_of k (x ∷ xs) = pick (eqb x k) 0 (suc (place_of k xs))
+
+-- the symbol at a place of the table, and none past its end
+unfoldable pub symbol_at : ℕ → Option ℕ
+symbol_at p = pick (ltb p symbols) (Some p) None
 
 -- whether some name of a list begins with a byte
 unfoldable pub begins : ℕ → List ℕ → Bool

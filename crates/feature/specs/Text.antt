@@ -16,6 +16,10 @@ bytes (c ∷ s) = list.◌∷◌ (code c) (bytes s)
 abbrev pub letter_step : ℕ
 letter_step = 512
 
+-- what stands in the place of a second byte where the line ends
+abbrev pub no_letter : ℕ
+no_letter = 256
+
 abbrev pub one_letter : ℕ → ℕ
 one_letter a = a * letter_step
 

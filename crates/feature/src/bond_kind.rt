@@ -2,7 +2,7 @@
 ghost use Rattle.std.specs.Prelude.{◌≡◌};
 ghost use Rattle.feature.specs.Bonds.{reverse_of, is_directional, NumberOf, kind_of, reconcile_of, sure_kind};
 
-#[derive(Clone, Copy)]
+#[derive(Clone, Copy, Debug, PartialEq, Eq)]
 pub enum BondKind {
     Elided,
     Single,
@@ -14,21 +14,8 @@ pub enum BondKind {
     Down,
 }
 
-// What a number stands for.
-#[derive(Clone, Copy)]
-pub enum Coded {
-    Kind(BondKind),
-    Bad,
-}
-
-// The kinds that a ring bond has at its opening and at its closing atom, or none where the two do not agree.
-#[derive(Clone, Copy)]
-pub enum Reconciled {
-    Both(BondKind, BondKind),
-    Fails,
-}
-
 // The kind as seen from the other end.
+#[tactic(auto, unfolding(crate::specs::Bonds::reverse_of))]
 pub fn reverse(k: BondKind) -> BondKind
     ensures { result ≡ reverse_of k }
 {
@@ -44,7 +31,9 @@ pub fn reverse(k: BondKind) -> BondKind
     }
 }
 
-// A kind's number in a table, from 1: a table of zeros holds no bond.
+// A kind's number in a table, from 1: a table of zeros holds no bond. Two functions and not From and TryFrom: whoever stores a kind
+// has to know that its number is 1 to 8, which `NumberOf` says, and whoever looks has none where the number is no kind's.
+#[tactic(auto, unfolding(crate::specs::Bonds::code_of))]
 pub fn code(k: BondKind) -> u32
     ensures { NumberOf k result }
 {
@@ -60,83 +49,59 @@ pub fn code(k: BondKind) -> u32
     }
 }
 
-pub fn decode(n: u32) -> Coded
+// The kind that a number stands for, if it stands for one.
+#[tactic(auto, unfolding(crate::specs::Bonds::kind_of))]
+pub fn decode(n: u32) -> Option<BondKind>
     ensures { result ≡ kind_of n }
 {
-    if n == 1 {
-        return Coded::Kind(BondKind::Elided);
+    match n {
+        1 => Some(BondKind::Elided),
+        2 => Some(BondKind::Single),
+        3 => Some(BondKind::Double),
+        4 => Some(BondKind::Triple),
+        5 => Some(BondKind::Quadruple),
+        6 => Some(BondKind::Aromatic),
+        7 => Some(BondKind::Up),
+        8 => Some(BondKind::Down),
+        _ => None,
     }
-    if n == 2 {
-        return Coded::Kind(BondKind::Single);
-    }
-    if n == 3 {
-        return Coded::Kind(BondKind::Double);
-    }
-    if n == 4 {
-        return Coded::Kind(BondKind::Triple);
-    }
-    if n == 5 {
-        return Coded::Kind(BondKind::Quadruple);
-    }
-    if n == 6 {
-        return Coded::Kind(BondKind::Aromatic);
-    }
-    if n == 7 {
-        return Coded::Kind(BondKind::Up);
-    }
-    if n == 8 {
-        return Coded::Kind(BondKind::Down);
-    }
-    Coded::Bad
 }
 
 // The kind, and an elided bond for none.
+#[tactic(auto, unfolding(crate::specs::Bonds::sure_kind))]
 pub fn sure_kind(n: u32) -> BondKind
     ensures { result ≡ sure_kind (kind_of n) }
 {
-    match decode(n) {
-        Coded::Kind(k) => k,
-        Coded::Bad => BondKind::Elided,
-    }
+    decode(n).unwrap_or(BondKind::Elided)
 }
 
+#[tactic(auto, unfolding(crate::specs::Bonds::is_directional))]
 fn is_directional(k: BondKind) -> bool
     ensures { result ≡ is_directional k }
 {
-    match k {
-        BondKind::Elided => false,
-        BondKind::Single => false,
-        BondKind::Double => false,
-        BondKind::Triple => false,
-        BondKind::Quadruple => false,
-        BondKind::Aromatic => false,
-        BondKind::Up => true,
-        BondKind::Down => true,
-    }
+    matches!(k, BondKind::Up | BondKind::Down)
 }
 
-// What the kinds at the two ends of a ring bond come to, the opening end first.
-pub fn reconcile(left: BondKind, right: BondKind) -> Reconciled
+// What the kinds at the two ends of a ring bond come to, the opening end first, or none where the two do not agree.
+#[tactic(auto, using(crate::proofs::Bonds::alike, crate::proofs::Bonds::apart), unfolding(crate::specs::Bonds::reconcile_of))]
+pub fn reconcile(left: BondKind, right: BondKind) -> Option<(BondKind, BondKind)>
     ensures { result ≡ reconcile_of left right }
 {
-    let l = code(left);
-    let r = code(right);
-    let elided = code(BondKind::Elided);
-    if l == r {
-        if is_directional(left) {
-            return Reconciled::Fails;
-        }
-        return Reconciled::Both(left, right);
-    }
     let back = reverse(right);
-    if l == code(back) {
-        return Reconciled::Both(left, right);
+    if left == right {
+        if is_directional(left) {
+            return None;
+        }
+        return Some((left, right));
     }
-    if l == elided {
-        return Reconciled::Both(back, right);
+    if left == back {
+        return Some((left, right));
     }
-    if r == elided {
-        return Reconciled::Both(left, reverse(left));
+    if left == BondKind::Elided {
+        return Some((back, right));
     }
-    Reconciled::Fails
+    if right == BondKind::Elided {
+        return Some((left, reverse(left)));
+    }
+    None
 }

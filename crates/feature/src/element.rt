@@ -1,8 +1,8 @@
 // The names that a bracket atom can have: the star, the 118 elements and the eight aromatic ones, in one ordered table.
-ghost use Rattle.std.specs.Prelude.{◌≡◌, ◌/◌, ◌≤◌, get_or};
-ghost use Rattle.feature.specs.Names.{names, place_of, named_of};
+ghost use Rattle.std.specs.Prelude.{◌≡◌, ◌/◌, get_or, unwrap_or};
+ghost use Rattle.feature.specs.Names.{names, place_of, symbol_at, named_of};
 ghost use Rattle.feature.specs.Steps.{head_of};
-ghost use Rattle.feature.specs.Text.{letter_step, two_letters};
+ghost use Rattle.feature.specs.Text.{letter_step, no_letter, two_letters};
 
 // How many names there are. A symbol is the place of its name, from 0.
 pub const SYMBOLS: u32 = 127;
@@ -37,7 +37,7 @@ pub const SE: u32 = 96;
 pub const AROMATIC: u32 = 119;
 
 // What the names say of two bytes that follow each other.
-#[derive(Clone, Copy)]
+#[derive(Clone, Copy, Debug, PartialEq, Eq)]
 pub enum Named {
     // Both together are the name of this symbol.
     Two(u32),
@@ -49,8 +49,10 @@ pub enum Named {
     Nothing,
 }
 
-// A symbol's name, or 0 where the number is no symbol. The arms of the match become a constant table; the words of an array
+// A symbol's name, or 0 where the number is no symbol, as the definition has it: whoever asks holds a symbol, and would test an
+// Option in vain. The arms of the match become a constant table; the words of an array
 // would be stored again at each call.
+#[tactic(auto, unfolding(crate::specs::Names::names))]
 pub fn name(symbol: u32) -> u32
     ensures { result ≡ get_or names symbol 0 }
 {
@@ -187,6 +189,7 @@ pub fn name(symbol: u32) -> u32
 }
 
 // The first of the names that begin with a byte, or the star where none does: an index into the table, for speed.
+#[tactic(auto, unfolding(crate::specs::Names::names, crate::specs::Names::place_of, crate::specs::Steps::first_bytes, crate::specs::Steps::head_of))]
 fn first_of(byte: u32) -> u32
     ensures { result ≡ head_of byte }
 {
@@ -226,60 +229,59 @@ fn first_of(byte: u32) -> u32
     }
 }
 
-// The symbol that has a name's number, or SYMBOLS where none has it: a pass from the first name with its first byte on. The
-// names are in order, so it ends at one that is beyond the number.
-fn find_from(head: u32, key: u32) -> u32
+// The symbol that has a name's number, if one has: a pass from the first name with its first byte on. The names are in order, so
+// it ends at one that is beyond the number.
+fn find_from(head: u32, key: u32) -> Option<u32>
     requires { head ≡ head_of (key / letter_step) }
-    ensures { result ≡ place_of key names }
+    ensures { result ≡ symbol_at (place_of key names) }
 {
-    let mut place = head;
-    while place < SYMBOLS {
+    for place in head..SYMBOLS {
         let here = name(place);
         if here == key {
-            return place;
+            return Some(place);
         }
         if key < here {
-            return SYMBOLS;
+            return None;
         }
-        place += 1;
     }
-    SYMBOLS
+    None
 }
 
-// The symbol that has a name's number, or SYMBOLS where none has it.
-pub fn find(key: u32) -> u32
-    ensures { result ≡ place_of key names }
+// The symbol that has a name's number, if one has.
+pub fn find(key: u32) -> Option<u32>
+    ensures { result ≡ symbol_at (place_of key names) }
 {
     find_from(first_of(key / LETTER), key)
 }
 
-// The symbol whose name these two letters are, or SYMBOLS where there is none. No name has a second letter below "a", so
-// there is no pass then.
-fn two_letters(head: u32, first: u32, second: u32) -> u32
-    requires { (head ≡ head_of first) × (first ≤ 255) × (second ≤ 256) }
-    ensures { result ≡ place_of (two_letters first second) names }
+// The symbol whose name these two letters are, if one has it. No name has a second letter below "a", so there is no pass then.
+#[tactic(auto, using(crate::proofs::Names::no_second, crate::proofs::Names::no_end))]
+fn two_letters(head: u32, first: u8, second: Option<u8>) -> Option<u32>
+    requires { head ≡ head_of first }
+    ensures { result ≡ symbol_at (place_of (two_letters first (unwrap_or second no_letter)) names) }
 {
-    if second < b'a' as u32 {
-        return SYMBOLS;
+    let second = second?;
+    if second < b'a' {
+        return None;
     }
-    find_from(head, first * LETTER + second + 1)
+    find_from(head, u32::from(first) * LETTER + u32::from(second) + 1)
 }
 
-// What the names say of a byte and the one after it, which is 256 at the end of a line: one pass over the names that begin
-// with the byte. Of these its own name, where it has one, is the first.
-pub fn look_up(first: u32, second: u32) -> Named
-    requires { second ≤ 256 }
-    ensures { result ≡ named_of first second }
+// What the names say of a byte and the one after it, of which there is none at the end of a line: one pass over the names that
+// begin with the byte. Of these its own name, where it has one, is the first.
+#[tactic(auto, using(crate::proofs::Names::head_byte, crate::proofs::Names::nothing_named, crate::proofs::Names::two_named, crate::proofs::Names::one_named, crate::proofs::Names::begins_named))]
+pub fn look_up(first: u8, second: Option<u8>) -> Named
+    ensures { result ≡ named_of first (unwrap_or second no_letter) }
 {
-    let head = first_of(first);
-    if name(head) / LETTER != first {
+    let first_byte = u32::from(first);
+    let head = first_of(first_byte);
+    if name(head) / LETTER != first_byte {
         return Named::Nothing;
     }
-    let two = two_letters(head, first, second);
-    if two < SYMBOLS {
+    if let Some(two) = two_letters(head, first, second) {
         return Named::Two(two);
     }
-    if name(head) == first * LETTER {
+    if name(head) == first_byte * LETTER {
         return Named::One(head);
     }
     Named::Begins

@@ -15,12 +15,11 @@ use Rattle.feature.specs.Kinds as kinds
 use Rattle.read_token.specs.Scan.{part, peek_at, digit_at, digit_step, number_at, missing_at, symbol_at, symbol_of, short_at, late_at, long_at, allene_at, octahedral_at, square_at, trigonal_at, configuration_at, hydrogens_at, fifteen_at, signed_at, charge_at, map_at, close_at, after_map, after_charge, after_hydrogens, after_configuration, configured, after_symbol}
 use Rattle.read_token.specs.Scan as scan
 use Rattle.read_token.specs.declared.scanner.Part as scanned
-use Rattle.read_token.specs.declared.scanner.Step.{Step}
-use Rattle.read_token.specs.declared.scanner.Step.TheVariants.{Got, Stop}
+use Rattle.std.specs.Prelude.{Err, Ok, Some}
+use Rattle.read_token.specs.Scan.{Step}
+use Rattle.read_token.specs.Scan.{Found}
 use Rattle.read_token.specs.declared.scanner.Missing.{Missing}
 use Rattle.read_token.specs.declared.scanner.Missing.TheVariants.{EndOfLine, Character}
-use Rattle.read_token.specs.declared.scanner.Found.{Found}
-use Rattle.read_token.specs.declared.scanner.Found.TheVariants.{Atom, Lacks}
 use Rattle.grammar.specs.Names.{has1, has2}
 use Rattle.grammar.specs.Grammar.{Digit, d0, d1, d2, d3, d4, d5, d6, d7, d8, d9, value, digit_s, worth, Symbol, short, long, symbol_names, symbol_k, Isotope, isotope_k, Chiral, flat, at, atat, code1, code2, Class, Th, AL, SP, TB, OH, most, valid1, valid2, class1, base, chiral_k, Hcount, bald, H, Hn, hcount_k, Head, head, Sign, plus, minus, sign_s, okay1, okay2, Charge, neutral, sign, twice, num1, num2, signed, charge_k, Map, nomap, m1, m2, m3, map_k, bracket_k, atom_k}
 use Rattle.grammar.specs.Grammar as grammar
@@ -43,8 +42,8 @@ lacked true n (b ∷ bs) = Character (n + 1)
 lacked false n bs = Character n
 
 unfoldable pub stopped : Option grammar.Atom → ℕ → Missing → Found
-stopped none n m = Lacks m
-stopped (some a) n m = Atom (atom_k a) n
+stopped none n m = Err m
+stopped (some a) n m = Ok (Some (atom_k a, n))
 
 unfoldable pub part_run : Part → ℕ → List ℕ → Found
 part_run q n [] = stopped (part_end q) n EndOfLine
@@ -52,7 +51,7 @@ part_run q n (b ∷ bs) = on (part_step q b) (λ r. part_run r (n + 1) bs) (stop
 
 -- after a step, or what is refused there
 abbrev pub stepped : Option Part → ℕ → List ℕ → Found
-stepped o n bs = on o (λ r. part_run r (n + 1) bs) (Lacks (Character n))
+stepped o n bs = on o (λ r. part_run r (n + 1) bs) (Err (Character n))
 
 -- ---- guards on both sides
 pub guard2 : {X Y : Type 0} (P : X → Y → Type 0) (a b : ℕ) (x y : X) (u v : Y) → (a ≡ b → P x u) → (eqb a b ≡ false → P y v) → P (pick (eqb a b) x y) (pick (eqb a b) u v)
@@ -99,7 +98,7 @@ pub over_none : (s : List ℕ) (v n : ℕ) → digit_at s n ≡ 10 → digit_ste
 unfolding digit_step
 over_none s v n e = rw e
 
-pub over_grows : (s : List ℕ) (p : scanned.Part) → p.next ≤ (digit_step s p).next
+pub over_grows : (s : List ℕ) (p : scanned.Part ℕ) → p.next ≤ (digit_step s p).next
 unfolding digit_step
 over_grows s p = by (ltb (digit_at s p.next) 10)
   where
@@ -242,7 +241,7 @@ end_unsign plus = refl
 end_unsign minus = refl
 
 -- ---- the end of a bracket
-closed_run : (x : Head) (q : Charge) (m : Map) (n : ℕ) (bs : List ℕ) → part_run (closed x q m) n bs ≡ Atom (bracket_k x q m) n
+closed_run : (x : Head) (q : Charge) (m : Map) (n : ℕ) (bs : List ℕ) → part_run (closed x q m) n bs ≡ Ok (Some (bracket_k x q m, n))
 unfolding part_run stopped part_end part_step atom_k
 closed_run x q m n [] = refl
 closed_run x q m n (b ∷ bs) = refl
@@ -259,7 +258,7 @@ module _ (s : List ℕ) (i : Isotope) (y : Symbol) (c : Chiral) (h : Hcount) whe
   close_byte q m n b bs e =
       rw (here_byte e, here_character e) (guard2 (λ (x : Found) (o : Option Part). x ≡ stepped o n bs) b (byte "]") _ _ _ _ (λ g. sym (closed_run hd q m (n + 1) bs)) (λ g. refl))
 
-  close_nil : (q m n : ℕ) → Here s n [] → shut q m n ≡ Lacks EndOfLine
+  close_nil : (q m n : ℕ) → Here s n [] → shut q m n ≡ Err EndOfLine
   unfolding close_at
   close_nil q m n e = rw (here_end e, here_missing e)
 
@@ -295,12 +294,12 @@ module _ (s : List ℕ) (i : Isotope) (y : Symbol) (c : Chiral) (h : Hcount) whe
   mapped q r = after_map s (isotope_k i) (symbol_k y) (chiral_k c) (hcount_k h) q r
 
   colon_run : (q : Charge) (n : ℕ) (bs : List ℕ) → Here s n bs
-      → mapped (charge_k q) (pick (eqb (number_at s n).next n) (Stop n) (Got (number_at s n).value (number_at s n).next)) ≡ part_run (colon hd q) n bs
+      → mapped (charge_k q) (pick (eqb (number_at s n).next n) (Err n) (Ok ((number_at s n).value, (number_at s n).next))) ≡ part_run (colon hd q) n bs
   unfolding part_run part_step part_end stopped late_part lacked worth worth_of number_at after_map
   colon_run q n [] e = let g = over_none s 0 n (digit_end e) in rw (g, g, g, eq-eqb n n refl, here_missing e)
   colon_run q n (x ∷ bs) e = by (digit_of x) refl
     where
-      by : (o : Option Digit) → digit_of x ≡ o → mapped (charge_k q) (pick (eqb (number_at s n).next n) (Stop n) (Got (number_at s n).value (number_at s n).next))
+      by : (o : Option Digit) → digit_of x ≡ o → mapped (charge_k q) (pick (eqb (number_at s n).next n) (Err n) (Ok ((number_at s n).value, (number_at s n).next)))
           ≡ stepped (on o (λ d. some (map1 hd q d)) none) n bs
       by none g = let f = over_none s 0 n (digit_here e ∙ ap worth_of g) in rw (f, f, f, eq-eqb n n refl, here_character e)
       by (some d) g =
@@ -316,7 +315,7 @@ module _ (s : List ℕ) (i : Isotope) (y : Symbol) (c : Chiral) (h : Hcount) whe
   map_byte q n b bs e =
       rw (here_byte e) (guard2 (λ (x : Step) (o : Option Part). mapped (charge_k q) x ≡ stepped o n bs) b (byte ":") _ _ _ _ (λ g. colon_run q (n + 1) bs (here_next e)) (λ g. close_byte q nomap n b bs e))
 
-  map_nil : (q n : ℕ) → Here s n [] → mapped q (map_at s n) ≡ Lacks EndOfLine
+  map_nil : (q n : ℕ) → Here s n [] → mapped q (map_at s n) ≡ Err EndOfLine
   unfolding map_at after_map
   map_nil q n e = rw (here_end e) (close_nil q no_number n e)
 
@@ -345,10 +344,10 @@ module _ (s : List ℕ) (i : Isotope) (y : Symbol) (c : Chiral) (h : Hcount) whe
   digit_unmap q d9 = refl
 
   -- no map begins with a digit
-  map_digit : (q : Charge) (n b : ℕ) (bs : List ℕ) (d : Digit) → Here s n (b ∷ bs) → digit_of b ≡ some d → mapped (charge_k q) (map_at s n) ≡ Lacks (Character n)
+  map_digit : (q : Charge) (n b : ℕ) (bs : List ℕ) (d : Digit) → Here s n (b ∷ bs) → digit_of b ≡ some d → mapped (charge_k q) (map_at s n) ≡ Err (Character n)
   map_digit q n b bs d e g = map_byte q n b bs e ∙ ap (λ (o : Option Part). stepped o n bs) (ap (λ (x : ℕ). to_map hd q x) (digit_is b d g) ∙ digit_unmap q d)
 
-  abbrev charged : Sign → scanned.Part → Found
+  abbrev charged : Sign → scanned.Part ℕ → Found
   charged g p = mapped (signed g p.value) (map_at s p.next)
 
   charge1_run : (g : Sign) (d : Digit) (p : T (okay1 d)) (n : ℕ) (bs : List ℕ) → digit_at s n ≡ value d → Here s (n + 1) bs → charged g (fifteen_at s n) ≡ part_run (charge1 hd g d p) (n + 1) bs
@@ -373,7 +372,7 @@ module _ (s : List ℕ) (i : Isotope) (y : Symbol) (c : Chiral) (h : Hcount) whe
       by : (o : Option Digit) → digit_of x ≡ o
           → charged g (signed_at s (sign_s g) n) ≡ stepped (on o (λ d. test (okay1 d) (λ p. some (charge1 hd g d p)) none) (pick (eqb x (sign_s g)) (some (doubled hd g)) (to_map hd (sign g) x))) n bs
       by none k = rw (fifteen_none s n (digit_here e ∙ ap worth_of k), here_byte e)
-          (guard2 (λ (p : scanned.Part) (o : Option Part). charged g p ≡ stepped o n bs) x (sign_s g) _ _ _ _ (λ z. doubled_run g (n + 1) bs (here_next e)) (λ z. map_byte (sign g) n x bs e))
+          (guard2 (λ (p : scanned.Part ℕ) (o : Option Part). charged g p ≡ stepped o n bs) x (sign_s g) _ _ _ _ (λ z. doubled_run g (n + 1) bs (here_next e)) (λ z. map_byte (sign g) n x bs e))
       by (some d) k =
           let v : digit_at s n ≡ value d = digit_here e ∙ ap worth_of k in
           either_way (λ (o : Option Part). charged g (signed_at s (sign_s g) n) ≡ stepped o n bs) (okay1 d) _ _
@@ -384,12 +383,12 @@ module _ (s : List ℕ) (i : Isotope) (y : Symbol) (c : Chiral) (h : Hcount) whe
       → after_charge s (isotope_k i) (symbol_k y) (chiral_k c) (hcount_k h) (charge_at s n) ≡ stepped (to_charge hd b) n bs
   unfolding after_charge charge_at to_charge sign_of
   charge_byte n b bs e =
-      let P : scanned.Part → Option Sign → Type 0 = λ p o. after_charge s (isotope_k i) (symbol_k y) (chiral_k c) (hcount_k h) p ≡ stepped (on o (λ g. some (machine.signed hd g)) (to_map hd neutral b)) n bs in
+      let P : scanned.Part ℕ → Option Sign → Type 0 = λ p o. after_charge s (isotope_k i) (symbol_k y) (chiral_k c) (hcount_k h) p ≡ stepped (on o (λ g. some (machine.signed hd g)) (to_map hd neutral b)) n bs in
       rw (here_byte e)
       (guard2 P b (byte "+") _ _ _ _ (λ z. unfold signed sign_s in signed_run plus (n + 1) bs (here_next e))
       (λ z. guard2 P b (byte "-") _ _ _ _ (λ z. unfold signed sign_s in signed_run minus (n + 1) bs (here_next e)) (λ z. unfold charge_k in map_byte neutral n b bs e)))
 
-  charge_nil : (n : ℕ) → Here s n [] → after_charge s (isotope_k i) (symbol_k y) (chiral_k c) (hcount_k h) (charge_at s n) ≡ Lacks EndOfLine
+  charge_nil : (n : ℕ) → Here s n [] → after_charge s (isotope_k i) (symbol_k y) (chiral_k c) (hcount_k h) (charge_at s n) ≡ Err EndOfLine
   unfolding after_charge charge_at
   charge_nil n e = rw (here_end e) (map_nil _ n e)
 
@@ -400,7 +399,7 @@ module _ (s : List ℕ) (i : Isotope) (y : Symbol) (c : Chiral) where
   hcount_n_run d n [] e = charge_nil s i y c (Hn d) n e
   hcount_n_run d n (x ∷ bs) e = charge_byte s i y c (Hn d) n x bs e
 
-  abbrev hydrated : scanned.Part → Found
+  abbrev hydrated : scanned.Part ℕ → Found
   hydrated p = after_hydrogens s (isotope_k i) (symbol_k y) (chiral_k c) p
 
   hcount_run : (n : ℕ) (bs : List ℕ) → Here s n bs → hydrated (pick (ltb (digit_at s n) 10) (part (digit_at s n) (n + 1)) (part 1 n)) ≡ part_run (hcount i y c) n bs
@@ -417,10 +416,10 @@ module _ (s : List ℕ) (i : Isotope) (y : Symbol) (c : Chiral) where
   unfolding after_configuration hydrogens_at to_hcount
   hcount_byte n b bs e =
       rw (here_byte e, two_up n)
-      (guard2 (λ (p : scanned.Part) (o : Option Part). hydrated p ≡ stepped o n bs) b (byte "H") _ _ _ _
+      (guard2 (λ (p : scanned.Part ℕ) (o : Option Part). hydrated p ≡ stepped o n bs) b (byte "H") _ _ _ _
       (λ z. hcount_run (n + 1) bs (here_next e)) (λ z. unfold after_hydrogens hcount_k in charge_byte s i y c bald n b bs e))
 
-  hcount_nil : (n : ℕ) → Here s n [] → after_configuration s (isotope_k i) (symbol_k y) (chiral_k c) n ≡ Lacks EndOfLine
+  hcount_nil : (n : ℕ) → Here s n [] → after_configuration s (isotope_k i) (symbol_k y) (chiral_k c) n ≡ Err EndOfLine
   unfolding after_configuration hydrogens_at after_hydrogens
   hcount_nil n e = rw (here_end e) (unfold hcount_k in charge_nil s i y c bald n e)
 
@@ -437,7 +436,7 @@ module _ (s : List ℕ) (i : Isotope) (y : Symbol) (c : Chiral) where
   digit_unhydrogen d8 = refl
   digit_unhydrogen d9 = refl
 
-  hcount_digit : (n b : ℕ) (bs : List ℕ) (d : Digit) → Here s n (b ∷ bs) → digit_of b ≡ some d → after_configuration s (isotope_k i) (symbol_k y) (chiral_k c) n ≡ Lacks (Character n)
+  hcount_digit : (n b : ℕ) (bs : List ℕ) (d : Digit) → Here s n (b ∷ bs) → digit_of b ≡ some d → after_configuration s (isotope_k i) (symbol_k y) (chiral_k c) n ≡ Err (Character n)
   hcount_digit n b bs d e g = hcount_byte n b bs e ∙ ap (λ (o : Option Part). stepped o n bs) (ap (λ (x : ℕ). to_hcount i y c x) (digit_is b d g) ∙ digit_unhydrogen d)
 
 -- ---- the mark
@@ -517,24 +516,24 @@ module _ (s : List ℕ) (i : Isotope) (y : Symbol) where
           (λ p. let w = valid_yes k d p in rw (v, ne_eqb (value d) 0 (λ q. omega (arith, w.0)), le-ltb (most k) (value d) w.1) (coded1_run k d p few (n + 1) bs (here_next e)))
           (λ p. rw v (none_here (eqb (value d) 0) refl p))
         where
-          none_here : (t : Bool) → eqb (value d) 0 ≡ t → valid1 k d ≡ false → marked (pick t (Stop n) (pick (ltb (most k) (value d)) (Stop n) (Got (base k + value d) (n + 1)))) ≡ Lacks (Character n)
+          none_here : (t : Bool) → eqb (value d) 0 ≡ t → valid1 k d ≡ false → marked (pick t (Err n) (pick (ltb (most k) (value d)) (Err n) (Ok (base k + value d, n + 1)))) ≡ Err (Character n)
           none_here true q p = rw (here_character e)
           none_here false q p = rw (lt-ltb (most k) (value d) (valid_no k d p (pos_of_ne-zero (eqb-false (value d) 0 q))), here_character e)
 
   -- a template of more than nine: one digit or two
   coded1_long : (k : Class) (d : Digit) (p : T (valid1 k d)) (n : ℕ) (bs : List ℕ) → Here s n bs
-      → marked (pick (eqb (digit_at s n) 10) (Got (base k + value d) n) (pick (ltb (most k) (value d * 10 + digit_at s n)) (Got (base k + value d) n) (Got (base k + (value d * 10 + digit_at s n)) (n + 1))))
+      → marked (pick (eqb (digit_at s n) 10) (Ok (base k + value d, n)) (pick (ltb (most k) (value d * 10 + digit_at s n)) (Ok (base k + value d, n)) (Ok (base k + (value d * 10 + digit_at s n), n + 1))))
       ≡ part_run (coded1 i y k d p) n bs
   unfolding part_run part_step part_end stopped late_part lacked worth_of configured chiral_k
   coded1_long k d p n [] e = rw (digit_end e) (hcount_nil s i y (code1 k d p) n e)
   coded1_long k d p n (x ∷ bs) e = by (digit_of x) refl
     where
       by : (o : Option Digit) → digit_of x ≡ o
-          → marked (pick (eqb (digit_at s n) 10) (Got (base k + value d) n) (pick (ltb (most k) (value d * 10 + digit_at s n)) (Got (base k + value d) n) (Got (base k + (value d * 10 + digit_at s n)) (n + 1))))
+          → marked (pick (eqb (digit_at s n) 10) (Ok (base k + value d, n)) (pick (ltb (most k) (value d * 10 + digit_at s n)) (Ok (base k + value d, n)) (Ok (base k + (value d * 10 + digit_at s n), n + 1))))
           ≡ stepped (on o (λ f. test (valid2 k d f) (λ q. some (coded2 i y k d f q)) none) (to_hcount i y (code1 k d p) x)) n bs
       by none z = rw (digit_here e ∙ ap worth_of z) (hcount_byte s i y (code1 k d p) n x bs e)
       by (some f) z = rw (digit_here e ∙ ap worth_of z, ne_eqb (value f) 10 (λ q. omega (arith, value_small f)))
-          (either_way (λ (o : Option Part). marked (pick (ltb (most k) (value d * 10 + value f)) (Got (base k + value d) n) (Got (base k + (value d * 10 + value f)) (n + 1))) ≡ stepped o n bs) (valid2 k d f) _ _
+          (either_way (λ (o : Option Part). marked (pick (ltb (most k) (value d * 10 + value f)) (Ok (base k + value d, n)) (Ok (base k + (value d * 10 + value f), n + 1))) ≡ stepped o n bs) (valid2 k d f) _ _
           (λ q. rw (le-ltb (most k) (value d * 10 + value f) (over_yes k d f p q)) (coded2_run k d f q (n + 1) bs (here_next e)))
           (λ q. rw (lt-ltb (most k) (value d * 10 + value f) (over_no k d f p q)) (hcount_digit s i y (code1 k d p) n x bs f e z)))
 
@@ -544,18 +543,18 @@ module _ (s : List ℕ) (i : Isotope) (y : Symbol) where
   class_long k many late n (x ∷ bs) e = rw late (by (digit_of x) refl)
     where
       by : (o : Option Digit) → digit_of x ≡ o
-          → marked (long_at s n (base k) (most k)) ≡ on (on o (λ d. test (valid1 k d) (λ p. some (coded1 i y k d p)) none) none) (λ r. part_run r (n + 1) bs) (Lacks (lacked (ltb x 128) n bs))
+          → marked (long_at s n (base k) (most k)) ≡ on (on o (λ d. test (valid1 k d) (λ p. some (coded1 i y k d p)) none) none) (λ r. part_run r (n + 1) bs) (Err (lacked (ltb x 128) n bs))
       by none z = rw (digit_here e ∙ ap worth_of z, late_missing_lem s n x bs e)
       by (some d) z =
           let v : digit_at s n ≡ value d = digit_here e ∙ ap worth_of z in
-          either_way (λ (o : Option Part). marked (long_at s n (base k) (most k)) ≡ on o (λ r. part_run r (n + 1) bs) (Lacks (lacked (ltb x 128) n bs))) (valid1 k d) _ _
+          either_way (λ (o : Option Part). marked (long_at s n (base k) (most k)) ≡ on o (λ r. part_run r (n + 1) bs) (Err (lacked (ltb x 128) n bs))) (valid1 k d) _ _
           (λ p. let w = valid_yes k d p in rw (v, ne_eqb (value d) 0 (λ q. omega (arith, w.0)), ne_eqb (value d) 10 (λ q. omega (arith, value_small d)), two_up n) (coded1_long k d p (n + 1) bs (here_next e)))
           (λ p. rw v (none_here (eqb (value d) 0) refl p))
         where
           none_here : (t : Bool) → eqb (value d) 0 ≡ t → valid1 k d ≡ false
-              → marked (pick t (Stop (late_at s n)) (pick (eqb (value d) 10) (Stop (late_at s n))
-              (pick (eqb (digit_at s (n + 1)) 10) (Got (base k + value d) (n + 1)) (pick (ltb (most k) (value d * 10 + digit_at s (n + 1))) (Got (base k + value d) (n + 1)) (Got (base k + (value d * 10 + digit_at s (n + 1))) (n + 2))))))
-              ≡ Lacks (lacked (ltb x 128) n bs)
+              → marked (pick t (Err (late_at s n)) (pick (eqb (value d) 10) (Err (late_at s n))
+              (pick (eqb (digit_at s (n + 1)) 10) (Ok (base k + value d, n + 1)) (pick (ltb (most k) (value d * 10 + digit_at s (n + 1))) (Ok (base k + value d, n + 1)) (Ok (base k + (value d * 10 + digit_at s (n + 1)), n + 2))))))
+              ≡ Err (lacked (ltb x 128) n bs)
           none_here true q p = rw (late_missing_lem s n x bs e)
           none_here false q p = absurd (omega (arith, value_small d, valid_no k d p (pos_of_ne-zero (eqb-false (value d) 0 q))))
 
@@ -593,12 +592,12 @@ module _ (s : List ℕ) (i : Isotope) (y : Symbol) where
   -- after "@"
   abbrev after_at : ℕ → Step
   after_at n =
-      pick (eqb (peek_at s n) (byte "@")) (Got th2 (n + 1))
+      pick (eqb (peek_at s n) (byte "@")) (Ok (th2, n + 1))
       (pick (eqb (peek_at s n) (byte "A")) (allene_at s (n + 1))
       (pick (eqb (peek_at s n) (byte "O")) (octahedral_at s (n + 1))
       (pick (eqb (peek_at s n) (byte "S")) (square_at s (n + 1))
       (pick (eqb (peek_at s n) (byte "T")) (trigonal_at s (n + 1))
-      (Got th1 n)))))
+      (Ok (th1, n))))))
 
   chiral1_run : (n : ℕ) (bs : List ℕ) → Here s n bs → marked (after_at n) ≡ part_run (chiral1 i y) n bs
   unfolding part_run part_step part_end stopped late_part lacked configured fam_of chiral_k
@@ -621,7 +620,7 @@ module _ (s : List ℕ) (i : Isotope) (y : Symbol) where
       (guard2 (λ (r : Step) (o : Option Part). marked r ≡ stepped o n bs) b (byte "@") _ _ _ _
       (λ z. chiral1_run (n + 1) bs (here_next e)) (λ z. unfold configured chiral_k in hcount_byte s i y flat n b bs e))
 
-  chiral_nil : (n : ℕ) → Here s n [] → marked (configuration_at s n) ≡ Lacks EndOfLine
+  chiral_nil : (n : ℕ) → Here s n [] → marked (configuration_at s n) ≡ Err EndOfLine
   unfolding configuration_at configured
   chiral_nil n e = rw (here_end e) (unfold chiral_k in hcount_nil s i y flat n e)
 
@@ -649,10 +648,10 @@ module _ (s : List ℕ) (i : Isotope) where
   lead_run a p n [] small e = rw (here_end e, ne_eqb a 256 (λ z. omega arith), two_in a 256 (omega arith), no_end a, one_in a, begins_in a, true_of (leads a symbol_names) p)
       (by (has1 a symbol_names) refl)
     where
-      by : (t : Bool) → has1 a symbol_names ≡ t → symboled (pick t (Got (place_of (one_letter (scan.slip a)) feature.names) (n + 1)) (Stop (n + 1))) ≡ Lacks EndOfLine
+      by : (t : Bool) → has1 a symbol_names ≡ t → symboled (pick t (Ok (place_of (one_letter (scan.slip a)) feature.names, n + 1)) (Err (n + 1))) ≡ Err EndOfLine
       by true h = chiral_nil_by (subst T (sym h) tt)
         where
-          chiral_nil_by : T (has1 a symbol_names) → configured s (isotope_k i) (place_of (one_letter (scan.slip a)) feature.names) (configuration_at s (n + 1)) ≡ Lacks EndOfLine
+          chiral_nil_by : T (has1 a symbol_names) → configured s (isotope_k i) (place_of (one_letter (scan.slip a)) feature.names) (configuration_at s (n + 1)) ≡ Err EndOfLine
           chiral_nil_by q = unfold scan.slip symbol_k in chiral_nil s i (short a q) (n + 1) e
       by false h = rw (here_missing e)
   lead_run a p n (x ∷ bs) small e =
@@ -664,10 +663,10 @@ module _ (s : List ℕ) (i : Isotope) where
       (λ z. rw (z, here_character e)))))
     where
       one_way : Bool → Step
-      one_way t = pick t (Got (place_of (one_letter (scan.slip a)) feature.names) (n + 1)) (Stop (n + 1))
+      one_way t = pick t (Ok (place_of (one_letter (scan.slip a)) feature.names, n + 1)) (Err (n + 1))
 
       two_way : Bool → Step
-      two_way t = pick t (Got (place_of (two_letters a x) feature.names) (n + 2)) (one_way (has1 a symbol_names))
+      two_way t = pick t (Ok (place_of (two_letters a x) feature.names, n + 2)) (one_way (has1 a symbol_names))
 
   pub symbol_byte : (n b : ℕ) (bs : List ℕ) → Here s n (b ∷ bs) → symboled (symbol_at s n) ≡ stepped (to_symbol i b) n bs
   unfolding symbol_at to_symbol
@@ -677,10 +676,10 @@ module _ (s : List ℕ) (i : Isotope) where
       (λ p. lead_run b p n bs (here_small e) (here_next e))
       (λ z. none_here z bs e))
     where
-      none_here : leads b symbol_names ≡ false → (bs : List ℕ) → Here s n (b ∷ bs) → symboled (symbol_of b (peek_at s (n + 1)) n) ≡ Lacks (Character n)
+      none_here : leads b symbol_names ≡ false → (bs : List ℕ) → Here s n (b ∷ bs) → symboled (symbol_of b (peek_at s (n + 1)) n) ≡ Err (Character n)
       none_here z bs e = by (peek_at s (n + 1)) (peek_small s (n + 1) bs (here_next e))
         where
-          by : (d : ℕ) → d < 511 → symboled (symbol_of b d n) ≡ Lacks (Character n)
+          by : (d : ℕ) → d < 511 → symboled (symbol_of b d n) ≡ Err (Character n)
           by d h = unfold symbol_of after_symbol in
               rw (
                 ne_eqb b 256 (λ y. omega (arith, here_small e)),
@@ -693,11 +692,11 @@ module _ (s : List ℕ) (i : Isotope) where
                 here_character e,
               )
 
-  pub symbol_nil : (n : ℕ) → Here s n [] → symboled (symbol_at s n) ≡ Lacks EndOfLine
+  pub symbol_nil : (n : ℕ) → Here s n [] → symboled (symbol_at s n) ≡ Err EndOfLine
   unfolding symbol_at symbol_of after_symbol
   symbol_nil n e = rw (here_end e, here_missing e)
 
-  pub symbol_digit : (n b : ℕ) (bs : List ℕ) (d : Digit) → Here s n (b ∷ bs) → digit_of b ≡ some d → symboled (symbol_at s n) ≡ Lacks (Character n)
+  pub symbol_digit : (n b : ℕ) (bs : List ℕ) (d : Digit) → Here s n (b ∷ bs) → digit_of b ≡ some d → symboled (symbol_at s n) ≡ Err (Character n)
   unfolding to_symbol
   symbol_digit n b bs d e g = symbol_byte n b bs e ∙ ap (λ (o : Option Part). stepped o n bs) (test_not (leads b symbol_names) _ _ (undigit (leads b symbol_names) refl))
     where

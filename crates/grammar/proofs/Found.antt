@@ -13,8 +13,8 @@ use Rattle.feature.specs.declared.atom_kind.AtomKind.{AtomKind}
 use Rattle.feature.specs.declared.atom_kind.AtomKind.TheVariants.{Star, Aliphatic, Aromatic}
 use Rattle.read_token.specs.Scan.{part, peek_at, digit_step, number_at, missing_at, isotope_at, after_isotope, inside_at, bracket_at, organic_at, optional_at, wanted_at, other_at, or_else, atom_at, star_at, aromatic_of, aliphatic_of}
 use Rattle.read_token.specs.declared.scanner.Missing.TheVariants.{Character}
-use Rattle.read_token.specs.declared.scanner.Found.{Found}
-use Rattle.read_token.specs.declared.scanner.Found.TheVariants.{Atom, Nothing, Lacks}
+use Rattle.std.specs.Prelude.{Err, None, Ok, Some}
+use Rattle.read_token.specs.Scan.{Found}
 use Rattle.grammar.specs.Names.{has1, has2, place1, place2}
 use Rattle.grammar.specs.Grammar.{Digit, worth, Organic, bare1, bare2, organics, aliphatics, aromatics, organic_k, iso0, iso1, iso2, iso3, isotope_k, organic, atom_k}
 use Rattle.grammar.proofs.Machine.{leads, on, digit_of, bare, whole, isotope, begins, grow, to_symbol, part_step, part_end}
@@ -70,8 +70,8 @@ module _ (s : List ℕ) where
 -- ---- atoms
 -- what the machine comes to at a place: no atom, or what becomes of the one that begins there
 unfoldable pub found_run : ℕ → List ℕ → Found
-found_run n [] = Nothing
-found_run n (b ∷ bs) = on (begins b) (λ q. part_run q (n + 1) bs) Nothing
+found_run n [] = (Ok None)
+found_run n (b ∷ bs) = on (begins b) (λ q. part_run q (n + 1) bs) (Ok None)
 
 -- a byte is this one, or another
 letter_or : (P : ℕ → Type 0) (b x : ℕ) → P x → (eqb b x ≡ false → P b) → P b
@@ -81,13 +81,13 @@ letter_or P b x p q = by (eqb b x) refl
     by true e = subst P (sym (eqb-true b x e)) p
     by false e = q e
 
-or_nothing : (f : Found) → or_else f Nothing ≡ f
+or_nothing : (f : Found) → or_else f (Ok None) ≡ f
 unfolding or_else
-or_nothing (Atom k n) = refl
-or_nothing Nothing = refl
-or_nothing (Lacks m) = refl
+or_nothing (Ok (Some (k, n))) = refl
+or_nothing (Ok None) = refl
+or_nothing (Err m) = refl
 
-whole_run : (o : Organic) (n : ℕ) (bs : List ℕ) → part_run (whole o) n bs ≡ Atom (organic_k o) n
+whole_run : (o : Organic) (n : ℕ) (bs : List ℕ) → part_run (whole o) n bs ≡ Ok (Some (organic_k o, n))
 unfolding part_run part_step part_end stopped atom_k
 whole_run o n [] = refl
 whole_run o n (b ∷ bs) = refl
@@ -111,7 +111,7 @@ bare_grows a p x q = test_yes (has2 a x organics) q (λ q. some (whole (bare2 a 
 
 -- a letter that no other prolongs
 single_run : (a : ℕ) (p : T (leads a organics)) (q : T (has1 a organics)) (k : AtomKind) → ((x : ℕ) → has2 a x organics ≡ false) → organic_k (bare1 a q) ≡ k
-    → (m : ℕ) (bs : List ℕ) → Atom k m ≡ part_run (bare a p) m bs
+    → (m : ℕ) (bs : List ℕ) → Ok (Some (k, m)) ≡ part_run (bare a p) m bs
 unfolding part_run stopped atom_k late_part lacked
 single_run a p q k f g m [] = rw (bare_ends a p q, g)
 single_run a p q k f g m (x ∷ bs) = rw (bare_stays a p x (f x), bare_ends a p q, g)
@@ -123,13 +123,13 @@ module _ (s : List ℕ) (m : ℕ) where
       → (bs : List ℕ) → Here s m bs → optional_at s m l two one ≡ part_run (bare a p) m bs
   unfolding part_run stopped atom_k late_part lacked optional_at
   optional_run a l two one p q z f g h [] e = rw (here_end e, z, bare_ends a p q, g)
-  optional_run a l two one p q z f g h (x ∷ bs) e = rw (here_byte e) (letter_or (λ y. pick (eqb y l) (Atom (Aliphatic two) (m + 1)) (Atom (Aliphatic one) m)
+  optional_run a l two one p q z f g h (x ∷ bs) e = rw (here_byte e) (letter_or (λ y. pick (eqb y l) (Ok (Some (Aliphatic two, m + 1))) (Ok (Some (Aliphatic one, m)))
       ≡ on (part_step (bare a p) y) (λ r. part_run r (m + 1) bs) (stopped (part_end (bare a p)) m (lacked false m bs))) x l (longer (f l ∙ eq-eqb l l refl)) shorter)
     where
-      longer : has2 a l organics ≡ true → pick (eqb l l) (Atom (Aliphatic two) (m + 1)) (Atom (Aliphatic one) m) ≡ on (part_step (bare a p) l) (λ r. part_run r (m + 1) bs) (stopped (part_end (bare a p)) m (lacked false m bs))
+      longer : has2 a l organics ≡ true → pick (eqb l l) (Ok (Some (Aliphatic two, m + 1))) (Ok (Some (Aliphatic one, m))) ≡ on (part_step (bare a p) l) (λ r. part_run r (m + 1) bs) (stopped (part_end (bare a p)) m (lacked false m bs))
       longer y = let r : T (has2 a l organics) = subst T (sym y) tt in rw (eq-eqb l l refl, bare_grows a p l r) (sym (whole_run (bare2 a l r) (m + 1) bs ∙ rw (h r)))
 
-      shorter : eqb x l ≡ false → pick (eqb x l) (Atom (Aliphatic two) (m + 1)) (Atom (Aliphatic one) m) ≡ on (part_step (bare a p) x) (λ r. part_run r (m + 1) bs) (stopped (part_end (bare a p)) m (lacked false m bs))
+      shorter : eqb x l ≡ false → pick (eqb x l) (Ok (Some (Aliphatic two, m + 1))) (Ok (Some (Aliphatic one, m))) ≡ on (part_step (bare a p) x) (λ r. part_run r (m + 1) bs) (stopped (part_end (bare a p)) m (lacked false m bs))
       shorter y = rw (y, bare_stays a p x (f x ∙ y), bare_ends a p q, g)
 
   -- a letter that another has to prolong
@@ -138,20 +138,20 @@ module _ (s : List ℕ) (m : ℕ) where
       → (bs : List ℕ) → Here s m bs → wanted_at s m l two ≡ part_run (bare a p) m bs
   unfolding part_run stopped atom_k late_part lacked wanted_at
   wanted_run a l two p q z f h [] e = rw (here_end e, z, bare_open a p q, here_missing e)
-  wanted_run a l two p q z f h (x ∷ bs) e = rw (here_byte e, here_character e) (letter_or (λ y. pick (eqb y l) (Atom (Aliphatic two) (m + 1)) (Lacks (Character m))
+  wanted_run a l two p q z f h (x ∷ bs) e = rw (here_byte e, here_character e) (letter_or (λ y. pick (eqb y l) (Ok (Some (Aliphatic two, m + 1))) (Err (Character m))
       ≡ on (part_step (bare a p) y) (λ r. part_run r (m + 1) bs) (stopped (part_end (bare a p)) m (lacked false m bs))) x l (longer (f l ∙ eq-eqb l l refl)) shorter)
     where
-      longer : has2 a l organics ≡ true → pick (eqb l l) (Atom (Aliphatic two) (m + 1)) (Lacks (Character m)) ≡ on (part_step (bare a p) l) (λ r. part_run r (m + 1) bs) (stopped (part_end (bare a p)) m (lacked false m bs))
+      longer : has2 a l organics ≡ true → pick (eqb l l) (Ok (Some (Aliphatic two, m + 1))) (Err (Character m)) ≡ on (part_step (bare a p) l) (λ r. part_run r (m + 1) bs) (stopped (part_end (bare a p)) m (lacked false m bs))
       longer y = let r : T (has2 a l organics) = subst T (sym y) tt in rw (eq-eqb l l refl, bare_grows a p l r) (sym (whole_run (bare2 a l r) (m + 1) bs ∙ rw (h r)))
 
-      shorter : eqb x l ≡ false → pick (eqb x l) (Atom (Aliphatic two) (m + 1)) (Lacks (Character m)) ≡ on (part_step (bare a p) x) (λ r. part_run r (m + 1) bs) (stopped (part_end (bare a p)) m (lacked false m bs))
+      shorter : eqb x l ≡ false → pick (eqb x l) (Ok (Some (Aliphatic two, m + 1))) (Err (Character m)) ≡ on (part_step (bare a p) x) (λ r. part_run r (m + 1) bs) (stopped (part_end (bare a p)) m (lacked false m bs))
       shorter y = rw (y, bare_stays a p x (f x ∙ y), bare_open a p q)
 
   optional_is : (l two one : ℕ) (f : Found) → or_else (optional_at s m l two one) f ≡ optional_at s m l two one
   unfolding optional_at or_else
   optional_is l two one f = by (eqb (peek_at s m) l)
     where
-      by : (t : Bool) → or_else (pick t (Atom (Aliphatic two) (m + 1)) (Atom (Aliphatic one) m)) f ≡ pick t (Atom (Aliphatic two) (m + 1)) (Atom (Aliphatic one) m)
+      by : (t : Bool) → or_else (pick t (Ok (Some (Aliphatic two, m + 1))) (Ok (Some (Aliphatic one, m)))) f ≡ pick t (Ok (Some (Aliphatic two, m + 1))) (Ok (Some (Aliphatic one, m)))
       by true = refl
       by false = refl
 
@@ -159,7 +159,7 @@ module _ (s : List ℕ) (m : ℕ) where
   unfolding wanted_at or_else
   wanted_is l two f = by (eqb (peek_at s m) l)
     where
-      by : (t : Bool) → or_else (pick t (Atom (Aliphatic two) (m + 1)) (Lacks (missing_at s m))) f ≡ pick t (Atom (Aliphatic two) (m + 1)) (Lacks (missing_at s m))
+      by : (t : Bool) → or_else (pick t (Ok (Some (Aliphatic two, m + 1))) (Err (missing_at s m))) f ≡ pick t (Ok (Some (Aliphatic two, m + 1))) (Err (missing_at s m))
       by true = refl
       by false = refl
 
@@ -225,19 +225,19 @@ module _ (s : List ℕ) (n : ℕ) (bs : List ℕ) where
 
   at_cap-C : Right (byte "C")
   unfolding leads organics has1 has2 aromatics aliphatics place1 place2 organic_k found_run begins atom_at organic_at or_else aromatic_of aliphatic_of other_at bracket_at star_at
-  at_cap-C e = rw (here_byte e) (optional_is s (n + 1) (byte "l") 7 1 Nothing ∙ optional_run s (n + 1) (byte "C") (byte "l") 7 1 tt tt refl (λ x. same_test (eqb x (byte "l"))) refl (λ r. refl) bs (here_next e))
+  at_cap-C e = rw (here_byte e) (optional_is s (n + 1) (byte "l") 7 1 (Ok None) ∙ optional_run s (n + 1) (byte "C") (byte "l") 7 1 tt tt refl (λ x. same_test (eqb x (byte "l"))) refl (λ r. refl) bs (here_next e))
 
   at_cap-B : Right (byte "B")
   unfolding leads organics has1 has2 aromatics aliphatics place1 place2 organic_k found_run begins atom_at organic_at or_else aromatic_of aliphatic_of other_at bracket_at star_at
-  at_cap-B e = rw (here_byte e) (optional_is s (n + 1) (byte "r") 8 0 Nothing ∙ optional_run s (n + 1) (byte "B") (byte "r") 8 0 tt tt refl (λ x. same_test (eqb x (byte "r"))) refl (λ r. refl) bs (here_next e))
+  at_cap-B e = rw (here_byte e) (optional_is s (n + 1) (byte "r") 8 0 (Ok None) ∙ optional_run s (n + 1) (byte "B") (byte "r") 8 0 tt tt refl (λ x. same_test (eqb x (byte "r"))) refl (λ r. refl) bs (here_next e))
 
   at_cap-A : Right (byte "A")
   unfolding leads organics has1 has2 aromatics aliphatics place1 place2 organic_k found_run begins atom_at organic_at or_else aromatic_of aliphatic_of other_at bracket_at star_at
-  at_cap-A e = rw (here_byte e) (wanted_is s (n + 1) (byte "t") 10 Nothing ∙ wanted_run s (n + 1) (byte "A") (byte "t") 10 tt refl refl (λ x. same_test (eqb x (byte "t"))) (λ r. refl) bs (here_next e))
+  at_cap-A e = rw (here_byte e) (wanted_is s (n + 1) (byte "t") 10 (Ok None) ∙ wanted_run s (n + 1) (byte "A") (byte "t") 10 tt refl refl (λ x. same_test (eqb x (byte "t"))) (λ r. refl) bs (here_next e))
 
   at_cap-T : Right (byte "T")
   unfolding leads organics has1 has2 aromatics aliphatics place1 place2 organic_k found_run begins atom_at organic_at or_else aromatic_of aliphatic_of other_at bracket_at star_at
-  at_cap-T e = rw (here_byte e) (wanted_is s (n + 1) (byte "s") 11 Nothing ∙ wanted_run s (n + 1) (byte "T") (byte "s") 11 tt refl refl (λ x. same_test (eqb x (byte "s"))) (λ r. refl) bs (here_next e))
+  at_cap-T e = rw (here_byte e) (wanted_is s (n + 1) (byte "s") 11 (Ok None) ∙ wanted_run s (n + 1) (byte "T") (byte "s") 11 tt refl refl (λ x. same_test (eqb x (byte "s"))) (λ r. refl) bs (here_next e))
 
   at_bracket : Right (byte "[")
   unfolding leads organics has1 has2 aromatics aliphatics place1 place2 organic_k found_run begins atom_at organic_at or_else aromatic_of aliphatic_of other_at bracket_at star_at
@@ -257,11 +257,11 @@ unfolding leads organics
 none_leads b x0 x1 x2 x3 x4 x5 x6 x7 x8 x9 x10 x11 x12 x13 x14 x15 x16 = rw (x0, x1, x2, x3, x4, x5, x6, x7, x8, x9, x10, x11, x12, x13, x14, x15, x16)
 
 none_organic : (s : List ℕ) (n b : ℕ) → peek_at s n ≡ b → eqb b 256 ≡ false → aromatic_of b ≡ 6 → aliphatic_of b ≡ 12 → eqb b (byte "C") ≡ false → eqb b (byte "B") ≡ false → eqb b (byte "A") ≡ false → eqb b (byte "T") ≡ false
-    → organic_at s n ≡ Nothing
+    → organic_at s n ≡ (Ok None)
 unfolding organic_at
 none_organic s n b e z r l x1 x0 x8 x9 = rw (e, z, r, l, x1, x0, x8, x9)
 
-none_other : (s : List ℕ) (n b : ℕ) → peek_at s n ≡ b → eqb b (byte "[") ≡ false → eqb b (byte "*") ≡ false → other_at s n ≡ Nothing
+none_other : (s : List ℕ) (n b : ℕ) → peek_at s n ≡ b → eqb b (byte "[") ≡ false → eqb b (byte "*") ≡ false → other_at s n ≡ (Ok None)
 unfolding other_at bracket_at star_at or_else
 none_other s n b e x y = rw (e, x, y)
 

@@ -18,13 +18,12 @@ use Rattle.read_token.specs.Scan.{digit_at, missing_at, bond_at, mark_width, rnu
 use Rattle.read_token.specs.Scan as scan
 use Rattle.read_token.specs.declared.scanner.Missing.{Missing}
 use Rattle.read_token.specs.declared.scanner.Missing.TheVariants.{EndOfLine, Character}
-use Rattle.read_token.specs.declared.scanner.Found.TheVariants as found
-use Rattle.read_token.specs.declared.read_rnum.Ring.{Ring}
-use Rattle.read_token.specs.declared.read_rnum.Ring.TheVariants as rnum
+use Rattle.std.specs.Prelude.{Err, None, Ok, Some}
+use Rattle.read_token.specs.Scan.{Ring}
 use Rattle.table.specs.Limits.{branch_limit}
 use Rattle.read_line.specs.declared.lead.Lead.{Lead}
 use Rattle.read_line.specs.declared.lead.Lead.TheVariants as lead
-use Rattle.read_line.specs.declared.lead.Led.{Led}
+use Rattle.read_token.specs.declared.scanner.Part as scanned
 use Rattle.read_line.specs.Events.{ReadEvent, Enter, Join, Pop, Miss, Nest}
 use Rattle.read_line.specs.declared.lead.Body.{Body}
 use Rattle.read_line.specs.declared.lead.Body.TheVariants as begun
@@ -237,8 +236,8 @@ bond_wide up = refl
 bond_wide down = refl
 
 -- ---- what leads an atom in
-abbrev led : Lead → ℕ → Led
-led l n = record { lead = l; next = n }
+abbrev led : Lead → ℕ → scanned.Part Lead
+led l n = record { value = l; next = n }
 
 module _ {s : List ℕ} {n : ℕ} where
   led_end : Here s n [] → led_at s n ≡ led (lead.Bond kind.Elided) n
@@ -258,7 +257,7 @@ module _ {s : List ℕ} {n : ℕ} where
   led_bond {b} x e g = rw (here_byte e, ap (λ (y : ℕ). eqb y (byte ".")) (bond_is b x g) ∙ bond_undot x, bond_worth b (here_small e), g, bond_wide x)
 
   -- ---- ring numbers
-  ring_digit : {b : ℕ} {bs : List ℕ} (d : Digit) → Here s n (b ∷ bs) → digit_of b ≡ some d → rnum_at s n ≡ rnum.Number (value d) (n + 1)
+  ring_digit : {b : ℕ} {bs : List ℕ} (d : Digit) → Here s n (b ∷ bs) → digit_of b ≡ some d → rnum_at s n ≡ Ok (Some (value d, n + 1))
   unfolding rnum_at worth_of
   ring_digit d e g = rw (digit_here e ∙ ap worth_of g, lt-ltb (value d) 10 (value_small d))
 
@@ -266,11 +265,11 @@ module _ {s : List ℕ} {n : ℕ} where
   unfolding rnum_at digit_of worth_of
   ring_percent e = rw (digit_here e, here_byte e)
 
-  ring_none : {b : ℕ} {bs : List ℕ} → Here s n (b ∷ bs) → digit_of b ≡ none → eqb b (byte "%") ≡ false → rnum_at s n ≡ rnum.Nothing
+  ring_none : {b : ℕ} {bs : List ℕ} → Here s n (b ∷ bs) → digit_of b ≡ none → eqb b (byte "%") ≡ false → rnum_at s n ≡ (Ok None)
   unfolding rnum_at worth_of
   ring_none e g p = rw (digit_here e ∙ ap worth_of g, here_byte e, p)
 
-  ring_end : Here s n [] → rnum_at s n ≡ rnum.Nothing
+  ring_end : Here s n [] → rnum_at s n ≡ (Ok None)
   unfolding rnum_at
   ring_end e = rw (digit_end e, here_end e)
 
@@ -320,7 +319,7 @@ module _ (s : List ℕ) where
   enter_list w g m n [] h ok l e p = rw (found_run_lem s n [] e, here_missing e)
   enter_list w g m n (b ∷ bs) h ok l e p = rw (found_run_lem s n (b ∷ bs) e, h b) (by (begins b) (begins_ok b))
     where
-      by : (o : Option Part) → Grew [] b o → told_where w ++ found_p s n (link_k (link_of w)) (put_before w) g (on o (λ q. part_run q (n + 1) bs) found.Nothing)
+      by : (o : Option Part) → Grew [] b o → told_where w ++ found_p s n (link_k (link_of w)) (put_before w) g (on o (λ q. part_run q (n + 1) bs) (Ok None))
           ≡ onward (from_part w o) (told_where w ++ (Miss (Character n) ∷ [])) (told_where w ++ (Nest n ∷ [])) (λ t. full t (n + 1) bs)
       by none r = rw (here_character e)
       by (some q) r = run_full s w (link_k (link_of w)) n (put_before w) g m (enter_ok w g m n ok p) bs q (n + 1) (omega arith) (here_next e)
@@ -334,7 +333,7 @@ module _ (s : List ℕ) where
     abbrev ringed : Ring → List ReadEvent
     ringed r = told_line a c ++ ring_p s j (bond?k x) (atoms c) g r
 
-    ring_ok : (r : Rnum) (bs : List ℕ) (n : ℕ) → length bs < m → Here s n bs → n ≡ length (around_s a ++ spell (ring c x r)) → ringed (rnum.Number (rnum_k r) n) ≡ full (body a (ring c x r)) n bs
+    ring_ok : (r : Rnum) (bs : List ℕ) (n : ℕ) → length bs < m → Here s n bs → n ≡ length (around_s a ++ spell (ring c x r)) → ringed (Ok (Some (rnum_k r, n))) ≡ full (body a (ring c x r)) n bs
     unfolding ring_p BodiesOk atoms join_event
     ring_ok r bs n l e p =
         rw at (sym (append_assoc (told_line a c) (Join (bond?k x) (rnum_k r) (length (around_s a ++ (spell c ++ bond?s x))) ∷ []) (g n (atoms c)))
@@ -344,13 +343,13 @@ module _ (s : List ℕ) where
     step_r o n bs = onward o (told_line a c ++ (Miss (Character n) ∷ [])) (told_line a c ++ (Nest n ∷ [])) (λ t. full t (n + 1) bs)
 
     percent1_list : (d : Digit) (bs : List ℕ) (n : ℕ) → length bs < m → Here s n bs → n ≡ j + 2
-        → ringed (pick (eqb (digit_at s n) 10) (rnum.Lacks (missing_at s n)) (rnum.Number (value d * 10 + digit_at s n) (n + 1))) ≡ full (percent1 a c x d) n bs
+        → ringed (pick (eqb (digit_at s n) 10) (Err (missing_at s n)) (Ok (Some (value d * 10 + digit_at s n, n + 1)))) ≡ full (percent1 a c x d) n bs
     unfolding full step told ending halt onward deep refusal late lacked ring_p worth_of spell rnum_s rnum_k
     percent1_list d [] n l e q = rw (digit_end e, here_missing e)
     percent1_list d (b ∷ bs) n l e q = rw (digit_here e) (by (digit_of b) refl)
       where
         by : (o : Option Digit) → digit_of b ≡ o
-            → ringed (pick (eqb (worth_of o) 10) (rnum.Lacks (missing_at s n)) (rnum.Number (value d * 10 + worth_of o) (n + 1))) ≡ step_r (on o (λ f. some (body a (ring c x (ring2 d f)))) none) n bs
+            → ringed (pick (eqb (worth_of o) 10) (Err (missing_at s n)) (Ok (Some (value d * 10 + worth_of o, n + 1)))) ≡ step_r (on o (λ f. some (body a (ring c x (ring2 d f)))) none) n bs
         by none z = rw (here_character e)
         by (some f) z = rw (ne_eqb (value f) 10 (λ y. omega (arith, value_small f)))
             (ring_ok (ring2 d f) bs (n + 1) (omega arith) (here_next e) (further (around_s a) (spell c) (bond?s x) (byte "%" ∷ digit_s d ∷ digit_s f ∷ []) j (n + 1) at (omega arith)))
@@ -361,7 +360,7 @@ module _ (s : List ℕ) where
     percent_list (b ∷ bs) n l e q = rw (digit_here e, two_up n) (by (digit_of b) refl)
       where
         by : (o : Option Digit) → digit_of b ≡ o
-            → ringed (pick (eqb (worth_of o) 10) (rnum.Lacks (missing_at s n)) (pick (eqb (digit_at s (n + 1)) 10) (rnum.Lacks (missing_at s (n + 1))) (rnum.Number (worth_of o * 10 + digit_at s (n + 1)) (n + 1 + 1))))
+            → ringed (pick (eqb (worth_of o) 10) (Err (missing_at s n)) (pick (eqb (digit_at s (n + 1)) 10) (Err (missing_at s (n + 1))) (Ok (Some (worth_of o * 10 + digit_at s (n + 1), n + 1 + 1)))))
             ≡ step_r (on o (λ d. some (percent1 a c x d)) none) n bs
         by none z = rw (here_character e)
         by (some d) z = rw (ne_eqb (value d) 10 (λ y. omega (arith, value_small d))) (percent1_list d bs (n + 1) (omega arith) (here_next e) (omega arith))
@@ -403,7 +402,7 @@ module _ (s : List ℕ) where
       ∙ run_full s (after a c l) (link_k l) n (atoms c) g m (enter_ok (after a c l) g m n ok p) bs q (n + 1) h (here_next e) (placed (around_s a ++ (spell c ++ link_s l)) [] (part_s q) b n (rw append-nil p) r)
 
   union_none : (a : Around) (c : Line) (x : Option BondSign) (g : Rest) (n b : ℕ) (bs : List ℕ) → Here s n (b ∷ bs) → digit_of b ≡ none → eqb b (byte "%") ≡ false
-      → told_line a c ++ union_by s n (bond?k x) (atoms c) g found.Nothing ≡ told_line a c ++ (Miss (Character n) ∷ [])
+      → told_line a c ++ union_by s n (bond?k x) (atoms c) g (Ok None) ≡ told_line a c ++ (Miss (Character n) ∷ [])
   unfolding union_by ring_p miss_p
   union_none a c x g n b bs e z y = rw (ring_none e z y, here_character e)
 
@@ -416,26 +415,26 @@ module _ (s : List ℕ) where
       union_byte a c (some x) g m ok n p b bs (from_part (after a c (bond x)) (begins b)) (omega arith) e (λ z y. rw (found_run_lem s n (b ∷ bs) e) (by z y (begins b) (begins_ok b)))
     where
       by : digit_of b ≡ none → eqb b (byte "%") ≡ false → (o : Option Part) → Grew [] b o
-          → told_line a c ++ union_by s n (bond_k x) (atoms c) g (on o (λ q. part_run q (n + 1) bs) found.Nothing) ≡ step_l a c (from_part (after a c (bond x)) o) n bs
+          → told_line a c ++ union_by s n (bond_k x) (atoms c) g (on o (λ q. part_run q (n + 1) bs) (Ok None)) ≡ step_l a c (from_part (after a c (bond x)) o) n bs
       by z y none r = unfold onward from_part in union_none a c (some x) g n b bs e z y
       by z y (some q) r = unfold onward from_part deep in union_atom a c (bond x) (some x) g m n b bs refl ok (omega arith) e p q r
 
   -- after "("
   open_list : (a : Around) (c : Line) (g : Rest) (m n : ℕ) (bs : List ℕ) → ltb branch_limit (height a + 1) ≡ false → ((l : Link) → BodiesOk (inside a c l) g m) → length bs < suc m → Here s n bs
       → n ≡ length (around_s a ++ (spell c ++ (byte "(" ∷ [])))
-      → told_line a c ++ atom_p s (led_at s n).next (led_at s n).lead 0 g ≡ full (want (begin (inside a c elided))) n bs
+      → told_line a c ++ atom_p s (led_at s n).next (led_at s n).value 0 g ≡ full (want (begin (inside a c elided))) n bs
   unfolding full told told_where told_around told_line ending halt step want_step onward deep height refusal late lacked from_part link_k link_of entry put_before where_s around_s link_s around Grew
   open_list a c g m n [] shallow ok l e p = rw (led_end e) (unfold atom_p found_p found_run miss_p in rw (found_run_lem s n [] e, here_missing e))
   open_list a c g m n (b ∷ bs) shallow ok l e p = by (bond_of b) (eqb b (byte ".")) refl refl
     where
       at_part : (o : Option Part) → Grew [] b o
-          → told_line a c ++ found_p s n (lead.Bond kind.Elided) 0 g (on o (λ q. part_run q (n + 1) bs) found.Nothing) ≡ step_l a c (from_part (begin (inside a c elided)) o) n bs
+          → told_line a c ++ found_p s n (lead.Bond kind.Elided) 0 g (on o (λ q. part_run q (n + 1) bs) (Ok None)) ≡ step_l a c (from_part (begin (inside a c elided)) o) n bs
       at_part none r = unfold found_p miss_p in rw (here_character e)
       at_part (some q) r = run_full s (begin (inside a c elided)) (lead.Bond kind.Elided) n 0 g m (enter_ok (begin (inside a c elided)) g m n (ok elided) p) bs q (n + 1) (omega arith) (here_next e)
           (placed (around_s a ++ (spell c ++ (byte "(" ∷ []))) [] (part_s q) b n (rw append-nil p) r)
 
       by : (i : Option BondSign) (t : Bool) → bond_of b ≡ i → eqb b (byte ".") ≡ t
-          → told_line a c ++ atom_p s (led_at s n).next (led_at s n).lead 0 g
+          → told_line a c ++ atom_p s (led_at s n).next (led_at s n).value 0 g
           ≡ step_l a c (on i (λ x. some (want (begin (inside a c (bond x))))) (pick t (some (want (begin (inside a c dot)))) (from_part (begin (inside a c elided)) (begins b)))) n bs
       by (some x) t z y = rw (led_bond x e z, shallow)
           (enter_list (begin (inside a c (bond x))) g m (n + 1) bs (λ b. refl) (ok (bond x)) (omega arith) (here_next e) (further (around_s a) (spell c) (byte "(" ∷ []) (bond_s x ∷ []) n (n + 1) p (omega arith)))
@@ -518,7 +517,7 @@ module _ (s : List ℕ) where
     unit_open z = by (eqb room 0) refl
       where
         by : (t : Bool) → eqb room 0 ≡ t
-            → told_line a c ++ pick t (Nest n ∷ []) (atom_p s (led_at s (n + 1)).next (led_at s (n + 1)).lead 0 (λ at' n'. more (room - 1) at' n' (close_p s (λ at. g at (atoms c)))))
+            → told_line a c ++ pick t (Nest n ∷ []) (atom_p s (led_at s (n + 1)).next (led_at s (n + 1)).value 0 (λ at' n'. more (room - 1) at' n' (close_p s (λ at. g at (atoms c)))))
             ≡ pick (ltb branch_limit (height a + 1)) (told_line a c ++ (Nest n ∷ [])) (full (want (begin (inside a c elided))) (n + 1) bs)
         by true y = rw (lt-ltb branch_limit (height a + 1) (omega (arith, eqb-true room 0 y)))
         by false y =

@@ -1,6 +1,6 @@
 -- A number's three words, the search for a pair over them, and the counter. Assumes nothing.
 use Prim.Native.Nat.{ℕ, ◌+◌, ◌*◌, ◌<◌, ◌≤◌, zero, suc}
-use mathlib.Core.Path.{◌≡◌, refl, ap, ◌∙◌}
+use mathlib.Core.Path.{◌≡◌, refl, sym, ap, ◌∙◌}
 use mathlib.Core.List.{List, [], ◌∷◌}
 use mathlib.Core.Bool.{Bool, true, false}
 use mathlib.Core.Logic.{◌≢◌, inl, inr}
@@ -10,8 +10,9 @@ use lib.Seq.{sets, length-sets}
 use lib.Dec.{ltb, eqb}
 use borrow.Author.Tests.{ltb-true, ltb-false, eqb-true}
 use Rattle.table.proofs.Stores.{sets_beside, sets_in, sets_first}
+use Rattle.std.specs.Prelude.{Some, None}
 use Rattle.join_pool.specs.Pairs.{slot_words, slot, highest, opens, open_number, counter_next, counter_of}
-use Rattle.feature.proofs.Cases.{by_test, clash, both_first, both_second}
+use Rattle.feature.proofs.Cases.{by_test, clash, both_first, both_second, impossible}
 use Rattle.feature.specs.Pick.{pick}
 use Rattle.join_pool.specs.declared.Pool.{Pool}
 
@@ -59,24 +60,27 @@ words_of pairs n lo hi h =
 
 -- ---- the search
 -- the number that it finds is open for the pair
-pub found : (pairs : List ℕ) (lo hi n : ℕ) → (open_number pairs lo hi n ≡ 0 → ⊥) → (open_number pairs lo hi n ≤ n) × (opens pairs (open_number pairs lo hi n) lo hi ≡ true)
+pub found : (pairs : List ℕ) (lo hi n r : ℕ) → open_number pairs lo hi n ≡ Some r → (0 < r) × (r ≤ n) × (opens pairs r lo hi ≡ true)
 unfolding open_number
-found pairs lo hi zero h = absurd (h refl)
-found pairs lo hi (suc n) h = go (opens pairs (suc n) lo hi) refl h (found pairs lo hi n) where
-  go : (q : Bool) → opens pairs (suc n) lo hi ≡ q → (pick q (suc n) (open_number pairs lo hi n) ≡ 0 → ⊥) → ((open_number pairs lo hi n ≡ 0 → ⊥) → (open_number pairs lo hi n ≤ n) × (opens pairs (open_number pairs lo hi n) lo hi ≡ true)) → (pick (opens pairs (suc n) lo hi) (suc n) (open_number pairs lo hi n) ≤ suc n) × (opens pairs (pick (opens pairs (suc n) lo hi) (suc n) (open_number pairs lo hi n)) lo hi ≡ true)
-  go true q k ih = rw q (omega arith, q)
-  go false q k ih = let i = ih k in rw q (omega (arith, i.0), i.1)
+found pairs lo hi zero r h = absurd (let y : None ≡ Some r = h in impossible cc)
+found pairs lo hi (suc n) r h = go (opens pairs (suc n) lo hi) refl h (found pairs lo hi n r) where
+  go : (q : Bool) → opens pairs (suc n) lo hi ≡ q → pick q (Some (suc n)) (open_number pairs lo hi n) ≡ Some r → (open_number pairs lo hi n ≡ Some r → (0 < r) × (r ≤ n) × (opens pairs r lo hi ≡ true)) → (0 < r) × (r ≤ suc n) × (opens pairs r lo hi ≡ true)
+  go true q k ih =
+      let z : suc n ≡ r = cc in
+      (omega (arith, z), omega (arith, z), sym (ap (λ (i : ℕ). opens pairs i lo hi) z) ∙ q)
+  go false q k ih = let i = ih k in (i.0, omega (arith, i.1), i.2)
 
 -- and it finds one where a number is open for the pair
-pub finds : (pairs : List ℕ) (lo hi c n : ℕ) → 0 < n → n ≤ c → opens pairs n lo hi ≡ true → open_number pairs lo hi c ≡ 0 → ⊥
+pub finds : (pairs : List ℕ) (lo hi c n : ℕ) → 0 < n → n ≤ c → opens pairs n lo hi ≡ true → (r : ℕ) × (open_number pairs lo hi c ≡ Some r)
 unfolding open_number
-finds pairs lo hi zero n z l o e = omega arith
-finds pairs lo hi (suc c) n z l o e = go (opens pairs (suc c) lo hi) refl (finds pairs lo hi c n z) e where
-  go : (q : Bool) → opens pairs (suc c) lo hi ≡ q → (n ≤ c → opens pairs n lo hi ≡ true → open_number pairs lo hi c ≡ 0 → ⊥) → pick q (suc c) (open_number pairs lo hi c) ≡ 0 → ⊥
-  go true q ih k = omega arith
-  go false q ih k =
+finds pairs lo hi zero n z l o = absurd (omega arith)
+finds pairs lo hi (suc c) n z l o = go (opens pairs (suc c) lo hi) refl (finds pairs lo hi c n z) where
+  go : (q : Bool) → opens pairs (suc c) lo hi ≡ q → (n ≤ c → opens pairs n lo hi ≡ true → (r : ℕ) × (open_number pairs lo hi c ≡ Some r)) → (r : ℕ) × (pick (opens pairs (suc c) lo hi) (Some (suc c)) (open_number pairs lo hi c) ≡ Some r)
+  go true q ih = (suc c, ap (λ (b : Bool). pick b (Some (suc c)) (open_number pairs lo hi c)) q)
+  go false q ih =
       let other : n ≢ suc c = λ s. clash o (ap (λ (i : ℕ). opens pairs i lo hi) s ∙ q) in
-      ih (omega (arith, l, other)) o k
+      let i = ih (omega (arith, l, other)) o in
+      (i.0, ap (λ (b : Bool). pick b (Some (suc c)) (open_number pairs lo hi c)) q ∙ i.1)
 
 -- ---- the counter
 -- the counter does not fall, and goes no further than one past the highest number

@@ -1,14 +1,21 @@
--- A call of the pool with its answer apart from the pool: the number, or that there is none, and then the pool stays as it was.
+-- A call of a pool that is changed in place: the pool after it, which stays as it was where no number is left; the number, or that
+-- there is none; and the words that it leaves.
+use Rattle.std.specs.Prelude.{ℕ, List, Option, Some, None}
 use Rattle.join_pool.specs.declared.Pool.{Pool}
-use Rattle.join_pool.specs.declared.Given.{Given}
-use Rattle.join_pool.specs.declared.Given.TheVariants.{Number, Full}
-use Rattle.join_pool.specs.declared.lent.Told.{Told}
-use Rattle.join_pool.specs.declared.lent.Told.TheVariants as told
-use Rattle.join_pool.specs.declared.lent.PoolAnswer.{PoolAnswer}
+use Rattle.join_pool.specs.Pairs.{Hits}
 
-abbrev pub with_answer : Pool → Told → PoolAnswer
-with_answer p t = record { pool = p; told = t }
+pub record Call : Type 0 where
+  pub pool : Pool
+  pub number : Option ℕ
+  pub left : List ℕ
 
-unfoldable pub answer_apart : Pool → Given → PoolAnswer
-answer_apart p (Number q n) = with_answer q (told.Number n)
-answer_apart p Full = with_answer p told.Full
+abbrev pub called : Pool → Option ℕ → List ℕ → Call
+called p r pairs = record { pool = p; number = r; left = pairs }
+
+unfoldable pub answer_apart : Pool → Option (Pool × ℕ) → List ℕ → Call
+answer_apart p (Some (q, n)) pairs = called q (Some n) pairs
+answer_apart p None pairs = called p None pairs
+
+-- the call that answers and leaves this
+abbrev pub call_of : Pool → Hits → Call
+call_of p h = answer_apart p h.answer h.left

@@ -3,12 +3,10 @@
 -- It holds a counter from 1 that stops at 100, and at most one spare. Opening takes the spare, else the counter, which
 -- then grows by 1; a number over 99 is refused. Closing r: without a spare the counter grows by 1; any old spare is lost; r
 -- becomes the spare.
-use Rattle.std.specs.Prelude.{ℕ, zero, suc, ◌+◌, ◌*◌, List, [], ◌∷◌, Bool, get_or, ltb, eqb}
+use Rattle.std.specs.Prelude.{ℕ, zero, suc, ◌+◌, ◌*◌, List, [], ◌∷◌, Bool, get_or, ltb, eqb, Option, Some, None}
 use Rattle.std.proofs.lemmas.List.Edits.{sets}
 use Rattle.feature.specs.Pick.{pick, both}
 use Rattle.join_pool.specs.declared.Pool.{Pool}
-use Rattle.join_pool.specs.declared.Given.{Given}
-use Rattle.join_pool.specs.declared.Given.TheVariants.{Number, Full}
 
 -- the highest ring number
 abbrev pub highest : ℕ
@@ -31,10 +29,10 @@ opens pairs n lo hi =
     both (eqb (get_or pairs (n * slot_words) 0) 1)
     (both (eqb (get_or pairs (n * slot_words + 1) 0) lo) (eqb (get_or pairs (n * slot_words + 2) 0) hi))
 
--- the number up to n that is open for the pair, 0 for none
-unfoldable pub open_number : List ℕ → ℕ → ℕ → ℕ → ℕ
-open_number pairs lo hi zero = 0
-open_number pairs lo hi (suc n) = pick (opens pairs (suc n) lo hi) (suc n) (open_number pairs lo hi n)
+-- the number up to n that is open for the pair, if any
+unfoldable pub open_number : List ℕ → ℕ → ℕ → ℕ → Option ℕ
+open_number pairs lo hi zero = None
+open_number pairs lo hi (suc n) = pick (opens pairs (suc n) lo hi) (Some (suc n)) (open_number pairs lo hi n)
 
 -- other words for the number n
 unfoldable pub slot : List ℕ → ℕ → ℕ → ℕ → ℕ → List ℕ
@@ -51,24 +49,26 @@ counter_of p = pick (eqb p.spare 0) (counter_next p.counter) p.counter
 unfoldable pub next_of : Pool → ℕ
 next_of p = pick (eqb p.spare 0) p.counter p.spare
 
--- what a call answers, and the words it leaves
+-- what a call answers, the pool after it and the number, or none where the number would exceed the highest; and the words it leaves
 pub record Hits : Type 0 where
-  pub answer : Given
+  pub answer : Option (Pool × ℕ)
   pub left : List ℕ
 
-abbrev pub hits : Given → List ℕ → Hits
+abbrev pub hits : Option (Pool × ℕ) → List ℕ → Hits
 hits r pairs = record { answer = r; left = pairs }
 
 unfoldable pub open_of : Pool → List ℕ → ℕ → ℕ → Hits
 open_of p pairs lo hi =
-    pick (ltb highest (next_of p)) (hits Full pairs)
-    (hits (Number (pool (counter_of p) 0) (next_of p)) (slot pairs (next_of p) 1 lo hi))
+    pick (ltb highest (next_of p)) (hits None pairs)
+    (hits (Some (pool (counter_of p) 0, next_of p)) (slot pairs (next_of p) 1 lo hi))
 
 unfoldable pub close_of : Pool → List ℕ → ℕ → Hits
-close_of p pairs r = hits (Number (pool (counter_of p) r) r) (slot pairs r 0 0 0)
+close_of p pairs r = hits (Some (pool (counter_of p) r, r)) (slot pairs r 0 0 0)
 
-unfoldable pub open_or_close : Pool → List ℕ → ℕ → ℕ → ℕ → Hits
-open_or_close p pairs lo hi r = pick (eqb r 0) (open_of p pairs lo hi) (close_of p pairs r)
+-- by the number that is open for the pair
+unfoldable pub open_or_close : Pool → List ℕ → ℕ → ℕ → Option ℕ → Hits
+open_or_close p pairs lo hi None = open_of p pairs lo hi
+open_or_close p pairs lo hi (Some r) = close_of p pairs r
 
 unfoldable pub hit_pair : Pool → List ℕ → ℕ → ℕ → Hits
 hit_pair p pairs lo hi = open_or_close p pairs lo hi (open_number pairs lo hi p.counter)

@@ -1,22 +1,18 @@
 // The answer to a text: the desk's number, a tab, and what the command has to say; or what `check` says in words; or a line of
 // a tray.
-ghost use Rattle.std.specs.Prelude.{◌≡◌, ◌≤◌, length};
-
 use crate::command::Command;
-use answer_text::desk::{print_number, print_refusal};
-use answer_text::order::print_order;
-use answer_text::tables::{least, print_graph};
-use desk_answer::{of_read, of_written};
-use desk_numbers::{DONE, Said};
-use label_text::counted::put_counted;
+use answer_text::desk::Refusal;
+use answer_text::order::{Order, put_order};
+use answer_text::tables::{Graph, put_graph};
+use desk_answer::{of_read, of_written, with_one};
+use desk_numbers::{DONE, Said, TEXT_TOO_LONG};
+use label_text::counted::Counted;
 use label_text::looks::{Looks, looks_like};
-use label_text::lost::{Lost, find_lost, nothing_lost};
-use label_text::rings::{Places, nowhere};
-use label_text::run::put_run;
-use label_text::why::{places, put_comment, put_why};
-use oracle_form::byte::{put, put_word};
-use oracle_form::number;
-use read::{Answer, read};
+use label_text::lost::{Lost, find_lost};
+use label_text::why::{Places, Why, places_of, put_comment};
+use oracle_form::output::Output;
+use read::read;
+use std::fmt::Write;
 use table::limits::{ATOMS, BONDS, TEXT};
 use table::{ATOM_WORDS, BOND_WORDS};
 use write::order::order;
@@ -44,57 +40,35 @@ const ATOM_LINE: usize = 24;
 
 const ENTRY_LINE: usize = 4;
 
-const LINE: usize = ATOM_LINE * ATOMS + ENTRY_LINE * BONDS;
+// What comes before an answer that is no refusal: DONE, and a tab.
+const DONE_MARK: &[u8] = b"0\t";
 
-// What was told: the output's place after it; whether it is a refusal, and what the text looks like then; whether the text was
-// passed on as it is; the places in the text to be marked; the atoms that are not kept.
+// A text that has ended: how many bytes of it came, and those of them that there was room for.
 #[derive(Clone, Copy)]
-pub struct Told {
-    pub at: usize,
-    pub is_refusal: bool,
-    pub looks: Looks,
-    pub is_passed: bool,
-    pub places: Places,
-    pub lost: Lost,
+pub struct Text<'a> {
+    pub held: &'a [u8],
+    pub size: usize,
 }
 
-fn done(at: usize, lost: Lost) -> Told
-    ensures { result.at ≡ at }
-{
-    Told {
-        at,
-        is_refusal: false,
-        looks: Looks::Text,
-        is_passed: false,
-        places: nowhere(),
-        lost,
-    }
+// Room for the tables of a text.
+#[derive(Drop)]
+pub struct Tables<'a> {
+    pub atoms: &'a mut [u32],
+    pub bonds: &'a mut [u32],
 }
 
-pub fn refused(at: usize, looks: Looks, places: Places) -> Told
-    ensures { result.at ≡ at }
-{
-    Told {
-        at,
-        is_refusal: true,
-        looks,
-        is_passed: false,
-        places,
-        lost: nothing_lost(),
-    }
-}
-
-fn passed(at: usize) -> Told
-    ensures { result.at ≡ at }
-{
-    Told {
-        at,
-        is_refusal: false,
-        looks: Looks::Text,
-        is_passed: true,
-        places: nowhere(),
-        lost: nothing_lost(),
-    }
+// What was told of a text.
+#[derive(Clone, Copy)]
+pub enum Told {
+    // What was asked, and which atoms are not kept where it was written.
+    Done(Option<Lost>),
+    // Why not. What the text looks like if it is none, and the places in it to be marked.
+    Refused {
+        looks: Option<Looks>,
+        places: Option<Places>,
+    },
+    // The text, as it is.
+    Passed,
 }
 
 // The most bytes that the answer to a text of so many bytes has.
@@ -102,218 +76,169 @@ pub fn room_for(size: usize) -> usize {
     if TEXT < size {
         return WORDS + LONGEST;
     }
-    WORDS + least(BYTE_BYTES * size, LONGEST)
+    WORDS + LONGEST.min(BYTE_BYTES * size)
 }
 
-// What the read call says of a text. Of one that was too long for its room, only the length is known. No more of the tables
+// What was said, where it is no refusal.
+fn done(said: Said) -> Result<Said, Said> {
+    if said.no == DONE { Ok(said) } else { Err(said) }
+}
+
+// The graph of a text, or why it has none. Of one that was too long for its room, only the size is known. No more of the tables
 // is lent than a text of so many bytes can need, an atom and two bond entries for each.
-fn read_text(text: &[u8], size: usize, atoms: &mut [u32], bonds: &mut [u32]) -> Answer {
-    if text.len() < size {
-        return Answer::TextTooLong(size);
+fn read_text<'a>(text: Text, tables: &'a mut Tables) -> Result<Graph<'a>, Said> {
+    let size = text.size;
+    if text.held.len() < size || TEXT < size {
+        return Err(with_one(TEXT_TOO_LONG, size));
     }
-    if TEXT < size {
-        return Answer::TextTooLong(size);
-    }
-    let a = least(size * ATOM_WORDS, atoms.len());
-    let b = least(size * ENDS * BOND_WORDS, bonds.len());
-    read(&text[0..size], &mut atoms[0..a], &mut bonds[0..b])
+    let a = tables.atoms.len().min(size * ATOM_WORDS);
+    let b = tables.bonds.len().min(size * ENDS * BOND_WORDS);
+    let said = done(of_read(read(
+        &text.held[..size],
+        &mut tables.atoms[..a],
+        &mut tables.bonds[..b],
+    )))?;
+    Ok(Graph {
+        atoms: tables.atoms,
+        atom_count: said.first,
+        bonds: tables.bonds,
+        bond_count: said.second,
+    })
 }
 
-// The longest line that a graph of n atoms and m bond entries is written as.
-fn line_room(n: usize, m: usize) -> usize {
-    if ATOMS < n {
-        return LINE;
-    }
-    if BONDS < m {
-        return LINE;
-    }
-    ATOM_LINE * n + ENTRY_LINE * m
+// The longest line that a graph is written as.
+fn line_room(graph: Graph) -> usize {
+    ATOM_LINE * graph.atom_count.min(ATOMS) + ENTRY_LINE * graph.bond_count.min(BONDS)
 }
 
-// The graph written from a place of the output on, and what the write call says of it.
-fn write_at(out: &mut [u8], at: usize, atoms: &[u32], n: usize, bonds: &[u32], m: usize) -> Said
-    requires { at ≤ length out.old }
-{
-    let room = least(line_room(n, m), out.len() - at);
-    of_written(write(atoms, n, bonds, m, &mut out[at..at + room]))
+// A graph written behind what was laid and so many bytes that are still to come, and the bytes that it took.
+fn write_behind(out: &mut Output, bytes: usize, graph: Graph) -> Result<usize, Said> {
+    let room = &mut out.room[out.end..];
+    let begin = bytes.min(room.len());
+    let end = begin + line_room(graph).min(room.len() - begin);
+    let written = write(
+        graph.atoms,
+        graph.atom_count,
+        graph.bonds,
+        graph.bond_count,
+        &mut room[begin..end],
+    );
+    Ok(done(of_written(written))?.first)
 }
 
-// A line of a tray that is no text: a blank one or a comment is passed on.
-fn tell_tray(out: &mut [u8], at: usize, s: Said, text: &[u8], l: Looks) -> Told
-    ensures { result.at ≤ length out.new }
-{
-    match l {
-        Looks::Blank | Looks::Comment => passed(put_run(out, at, text)),
-        _ => refused(put_comment(out, at, s, text), l, nowhere()),
-    }
+// The line that a graph is written as, behind some bytes.
+fn put_line(out: &mut Output, begin: &[u8], graph: Graph) -> Result<(), Said> {
+    let bytes = write_behind(out, begin.len(), graph)?;
+    out.put_all(begin);
+    out.end += bytes.min(out.room.len() - out.end);
+    Ok(())
 }
 
-fn tell_people(out: &mut [u8], at: usize, s: Said, text: &[u8], l: Looks) -> Told
-    ensures { result.at ≤ length out.new }
-{
-    let p = places(s, text, l);
-    refused(put_why(out, at, s, l, p), l, p)
-}
-
-// What a command has to say of a text that is refused.
-fn tell_refusal(
-    out: &mut [u8],
-    at: usize,
-    command: Command,
-    s: Said,
-    text: &[u8],
-    has_name: bool,
-) -> Told
-    ensures { result.at ≤ length out.new }
-{
-    let l = looks_like(text, s.no, has_name);
-    match command {
-        Command::Check => tell_people(out, at, s, text, l),
-        Command::Smi => tell_tray(out, at, s, text, l),
-        _ => refused(print_refusal(out, at, s), l, nowhere()),
-    }
-}
-
-// The graph of n atoms and m bond entries, with these counts.
-fn print_counted(
-    out: &mut [u8],
-    at: usize,
-    atoms: &[u32],
-    n: usize,
-    bonds: &[u32],
-    m: usize,
-) -> usize
-    ensures { result ≤ length out.new }
-{
-    let at = print_number(out, at, DONE);
-    let at = number::print(out, at, n);
-    let at = put(out, at, b' ');
-    let at = number::print(out, at, m);
-    let at = put(out, at, b' ');
-    print_graph(out, at, atoms, bonds, n)
-}
-
-// What comes before a written line: nothing in a tray.
-fn print_begin(out: &mut [u8], at: usize, command: Command) -> usize
-    ensures { result ≤ length out.new }
-{
-    match command {
-        Command::Smi => least(at, out.len()),
-        _ => print_number(out, at, DONE),
-    }
-}
-
-// The line that it is written as.
-fn print_rewritten(
-    out: &mut [u8],
-    at: usize,
-    command: Command,
-    text: &[u8],
-    atoms: &[u32],
-    n: usize,
-    bonds: &[u32],
-    m: usize,
-) -> Told
-    ensures { result.at ≤ length out.new }
-{
-    let begin = print_begin(out, at, command);
-    let s = write_at(out, begin, atoms, n, bonds, m);
-    if s.no != DONE {
-        return tell_refusal(out, at, command, s, text, true);
-    }
-    let room = out.len() - begin;
-    done(begin + least(s.first, room), find_lost(atoms, n))
-}
-
-// The order in which it is walked.
-fn print_walked(out: &mut [u8], at: usize, atoms: &[u32], n: usize, bonds: &[u32], m: usize) -> Told
-    ensures { result.at ≤ length out.new }
-{
+// The order in which a graph is walked.
+fn put_walked(out: &mut Output, graph: Graph) -> Result<(), Said> {
     let mut walked = [0u32; ATOMS];
     let mut number = [0u32; ATOMS];
     let mut back = [0u32; ATOMS];
-    let w = order(atoms, n, bonds, m, &mut walked, &mut number, &mut back);
-    let s = of_written(w);
-    if s.no != DONE {
-        return refused(print_refusal(out, at, s), Looks::Text, nowhere());
-    }
-    let at = print_number(out, at, DONE);
-    let at = print_order(out, at, atoms, n, &walked, &number, &back);
-    done(at, find_lost(atoms, n))
+    let told = order(
+        graph.atoms,
+        graph.atom_count,
+        graph.bonds,
+        graph.bond_count,
+        &mut walked,
+        &mut number,
+        &mut back,
+    );
+    done(of_written(told))?;
+    out.put_all(DONE_MARK);
+    let order = Order {
+        walked: &walked,
+        number: &number,
+        back: &back,
+    };
+    put_order(out, graph.atoms, graph.atom_count, order);
+    Ok(())
 }
 
-fn print_counts(out: &mut [u8], at: usize, atoms: usize, bonds: usize, bytes: usize) -> usize
-    ensures { result ≤ length out.new }
-{
-    let at = put_word(out, at, b"done: ");
-    let at = put_counted(out, at, atoms, b" atom");
-    let at = put_word(out, at, b", ");
-    let at = put_counted(out, at, bonds, b" bond");
-    let at = put_word(out, at, b", written in ");
-    put_counted(out, at, bytes, b" byte")
+// A graph with the counts of its atoms and of its bond entries.
+fn put_counted(out: &mut Output, graph: Graph) {
+    out.put_all(DONE_MARK);
+    let _ = write!(out, "{} {} ", graph.atom_count, graph.bond_count);
+    put_graph(out, graph);
 }
 
-// Whether it can be written, and what it counts. The line itself is written over by the words.
-fn print_checked(
-    out: &mut [u8],
-    at: usize,
-    text: &[u8],
-    atoms: &[u32],
-    n: usize,
-    bonds: &[u32],
-    m: usize,
-) -> Told
-    ensures { result.at ≤ length out.new }
-{
-    let at = least(at, out.len());
-    let s = write_at(out, at, atoms, n, bonds, m);
-    if s.no != DONE {
-        return tell_people(out, at, s, text, Looks::Text);
-    }
-    let at = print_counts(out, at, n, m / ENDS, s.first);
-    done(at, find_lost(atoms, n))
+// Whether a graph can be written, and what it counts. The line itself is written over by the words.
+fn put_checked(out: &mut Output, graph: Graph) -> Result<(), Said> {
+    let bytes = write_behind(out, 0, graph)?;
+    let atoms = Counted(graph.atom_count, "atom");
+    let bonds = Counted(graph.bond_count / ENDS, "bond");
+    let bytes = Counted(bytes, "byte");
+    let _ = write!(out, "done: {atoms}, {bonds}, written in {bytes}");
+    Ok(())
 }
 
-// What a command has to say of the tables of a text that was read.
-fn print_read(
-    out: &mut [u8],
-    at: usize,
+// What a command has to say of a text that can be read and written, and which atoms are not kept; or why it cannot.
+fn try_tell(
+    out: &mut Output,
     command: Command,
-    s: Said,
-    text: &[u8],
-    atoms: &[u32],
-    bonds: &[u32],
-) -> Told
-    ensures { result.at ≤ length out.new }
-{
+    text: Text,
+    tables: &mut Tables,
+) -> Result<Option<Lost>, Said> {
+    let graph = read_text(text, tables)?;
     match command {
-        Command::Order => print_walked(out, at, atoms, s.first, bonds, s.second),
+        Command::Order => put_walked(out, graph)?,
         Command::Graph => {
-            let at = print_counted(out, at, atoms, s.first, bonds, s.second);
-            done(at, nothing_lost())
+            put_counted(out, graph);
+            return Ok(None);
         }
-        Command::Check => print_checked(out, at, text, atoms, s.first, bonds, s.second),
-        _ => print_rewritten(out, at, command, text, atoms, s.first, bonds, s.second),
+        Command::Check => put_checked(out, graph)?,
+        Command::Rewrite => put_line(out, DONE_MARK, graph)?,
+        Command::Smi => put_line(out, b"", graph)?,
     }
+    Ok(find_lost(graph.atoms, graph.atom_count))
 }
 
-// Lays a command's answer to a text of so many bytes, of which `text` holds all that it has room for. The tables are
-// room to work in.
-pub fn print_answer(
-    out: &mut [u8],
-    at: usize,
+// What a command has to say of a text that is refused. In a tray a blank line or a comment is passed on.
+fn tell_refusal(
+    out: &mut Output,
     command: Command,
+    said: Said,
     text: &[u8],
-    size: usize,
     has_name: bool,
-    atoms: &mut [u32],
-    bonds: &mut [u32],
-) -> Told
-    ensures { result.at ≤ length out.new }
-{
-    let s = of_read(read_text(text, size, atoms, bonds));
-    if s.no != DONE {
-        return tell_refusal(out, at, command, s, text, has_name);
+) -> Told {
+    let looks = looks_like(text, said.no, has_name);
+    let mut places = None;
+    match (command, looks) {
+        (Command::Smi, Some(Looks::Blank | Looks::Comment)) => {
+            out.put_all(text);
+            return Told::Passed;
+        }
+        (Command::Smi, _) => put_comment(out, said, text),
+        (Command::Check, _) => {
+            places = places_of(said, text, looks);
+            let why = Why {
+                said,
+                looks,
+                places,
+            };
+            let _ = write!(out, "{why}");
+        }
+        _ => {
+            let _ = write!(out, "{}", Refusal(said));
+        }
     }
-    print_read(out, at, command, s, text, atoms, bonds)
+    Told::Refused { looks, places }
+}
+
+// Lays a command's answer to a text, which a name follows or not.
+pub fn tell(
+    out: &mut Output,
+    command: Command,
+    text: Text,
+    has_name: bool,
+    tables: &mut Tables,
+) -> Told {
+    match try_tell(out, command, text, tables) {
+        Ok(lost) => Told::Done(lost),
+        Err(said) => tell_refusal(out, command, said, text.held, has_name),
+    }
 }

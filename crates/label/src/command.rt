@@ -1,18 +1,16 @@
 // What may be asked of the lines, and what the arguments ask for.
-use oracle_form::byte::after;
-use oracle_form::list::number_of;
 use program_io::arguments;
 use program_io::arguments::{WORD, word};
-use program_io::failure::say;
 use std::env::Env;
 use std::io::Stderr;
 
-// The statuses.
-pub const ALL_DONE: i32 = 0;
-
-pub const SOME_REFUSED: i32 = 1;
-
-pub const NOT_DONE: i32 = 2;
+// With which status the program is to end.
+#[derive(Clone, Copy)]
+pub enum Status {
+    AllDone = 0,
+    SomeRefused = 1,
+    NotDone = 2,
+}
 
 #[derive(Clone, Copy)]
 pub enum Command {
@@ -26,113 +24,82 @@ pub enum Command {
 // What the arguments ask for.
 #[derive(Clone, Copy)]
 pub struct Asked {
-    pub command: Command,
-    // Whether a word named it.
-    is_named: bool,
+    // If a word named it.
+    pub command: Option<Command>,
     // Whether no word tells that the next one is a file, so that one that names none is a slip.
     pub is_guess: bool,
     // Whether a count is to be said from time to time.
     pub has_progress: bool,
     // The first file's number among the arguments.
     pub first: usize,
-    // Whether all words before it were looked at, and whether they were understood.
-    is_over: bool,
-    pub is_understood: bool,
 }
 
-const COMMANDS: usize = 5;
-
-// The command of a number in the list of words.
-fn command_of(n: usize) -> Command {
-    match n {
-        0 => Command::Rewrite,
-        1 => Command::Order,
-        2 => Command::Graph,
-        3 => Command::Check,
-        _ => Command::Smi,
-    }
-}
-
-// A word that is no option: a command, once, or the first file.
-fn take_plain(a: Asked, i: usize, word: &[u8]) -> Asked {
-    let n = number_of(b"rewrite;order;graph;check;smi;", word);
-    if COMMANDS <= n || a.is_named {
-        let mut a = a;
-        a.is_over = true;
-        return a;
-    }
-    Asked {
-        command: command_of(n),
-        is_named: true,
-        is_guess: false,
-        has_progress: a.has_progress,
-        first: after(i),
-        is_over: false,
-        is_understood: true,
-    }
-}
-
-// A word that begins as an option does.
-fn take_option(a: Asked, i: usize, word: &[u8]) -> Asked {
-    let mut a = a;
-    a.first = after(i);
-    match number_of(b"--progress;--;", word) {
-        0 => a.has_progress = true,
-        1 => {
-            a.is_over = true;
-            a.is_guess = false;
-        }
-        _ => {
-            a.is_over = true;
-            a.is_understood = false;
-        }
-    }
-    a
+// What a word before the first file is.
+#[derive(Clone, Copy)]
+enum Word {
+    Command(Command),
+    Progress,
+    // The words after it are files, whatever they look like.
+    EndOfOptions,
+    UnknownOption,
+    Other,
 }
 
 // A `-` alone is no option, but the standard input.
-fn is_option(word: &[u8]) -> bool {
-    if word.len() < 2 {
-        return false;
+fn word_of(word: &[u8]) -> Word {
+    match word {
+        b"rewrite" => Word::Command(Command::Rewrite),
+        b"order" => Word::Command(Command::Order),
+        b"graph" => Word::Command(Command::Graph),
+        b"check" => Word::Command(Command::Check),
+        b"smi" => Word::Command(Command::Smi),
+        b"--progress" => Word::Progress,
+        b"--" => Word::EndOfOptions,
+        [b'-', _, ..] => Word::UnknownOption,
+        _ => Word::Other,
     }
-    word[0] == b'-'
 }
 
-// The argument numbered i, if it comes before the first file.
-fn take_argument(rt: &impl Env, a: Asked, i: usize) -> Asked {
-    if a.is_over {
-        return a;
-    }
+// The argument numbered i.
+fn word_at(rt: &impl Env, i: usize) -> Word {
     let mut room = [0u8; WORD];
     let n = word(rt, i, &mut room);
-    let word = &room[..n];
-    if is_option(word) {
-        return take_option(a, i, word);
-    }
-    take_plain(a, i, word)
+    word_of(&room[..n])
 }
 
-// What all arguments before the first file ask for.
-pub fn read_arguments(rt: &impl Env) -> Asked {
-    let mut a = Asked {
-        command: Command::Rewrite,
-        is_named: false,
+// What all arguments before the first file ask for, or nothing where one is not understood.
+pub fn read_arguments(rt: &impl Env) -> Option<Asked> {
+    let count = arguments::count(rt);
+    let mut asked = Asked {
+        command: None,
         is_guess: true,
         has_progress: false,
-        first: 1,
-        is_over: false,
-        is_understood: true,
+        first: count,
     };
-    for i in 1..arguments::count(rt) {
-        a = take_argument(rt, a, i);
+    for i in 1..count {
+        match word_at(rt, i) {
+            Word::Command(command) if asked.command.is_none() => {
+                asked.command = Some(command);
+                asked.is_guess = false;
+            }
+            Word::Progress => asked.has_progress = true,
+            Word::EndOfOptions => {
+                return Some(Asked {
+                    is_guess: false,
+                    first: i + 1,
+                    ..asked
+                });
+            }
+            Word::UnknownOption => return None,
+            Word::Command(_) | Word::Other => return Some(Asked { first: i, ..asked }),
+        }
     }
-    a
+    Some(asked)
 }
 
 // How to ask, for one who did not.
 pub fn print_usage(errors: Stderr) {
-    say(
-        &errors,
-        b"usage: label [--proved] [--progress] [rewrite|order|graph|check|smi|help] [--] [FILE ..]\n",
+    let _ = eprintln!(errors;
+        "usage: label [--proved] [--progress] [rewrite|order|graph|check|smi|help] [--] [FILE ..]"
     );
 }

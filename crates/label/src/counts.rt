@@ -1,16 +1,12 @@
 // What came of all lines.
-ghost use Rattle.std.specs.Prelude.{◌≤◌, length};
-
-use crate::command::{ALL_DONE, NOT_DONE, SOME_REFUSED};
-use crate::output::say;
-use label_text::counted::put_counted;
+use crate::answer::Told;
+use crate::command::Status;
+use label_text::counted::Counted;
 use label_text::looks::Looks;
-use oracle_form::byte::{after, put_word};
-use oracle_form::list::put_nth;
-use oracle_form::number;
-use std::io::Stderr;
+use std::fmt;
+use std::fmt::Write;
 
-#[derive(Clone, Copy)]
+#[derive(Clone, Copy, Default)]
 pub struct Counts {
     pub lines: usize,
     refused: usize,
@@ -23,119 +19,69 @@ pub struct Counts {
     passed: usize,
     lost: usize,
     // Whether something was not read to its end.
-    has_unread: bool,
+    pub has_unread: bool,
 }
 
-pub fn no_counts() -> Counts {
-    Counts {
-        lines: 0,
-        refused: 0,
-        blank: 0,
-        comments: 0,
-        headers: 0,
-        identifiers: 0,
-        passed: 0,
-        lost: 0,
-        has_unread: false,
+fn count_one(n: &mut usize) {
+    *n = n.saturating_add(1);
+}
+
+impl Counts {
+    // One line more.
+    pub fn count(&mut self, told: Told) {
+        count_one(&mut self.lines);
+        match told {
+            Told::Done(None) => {}
+            Told::Done(Some(_)) => count_one(&mut self.lost),
+            Told::Refused { looks, .. } => self.count_refused(looks),
+            Told::Passed => count_one(&mut self.passed),
+        }
+    }
+
+    fn count_refused(&mut self, looks: Option<Looks>) {
+        count_one(&mut self.refused);
+        match looks {
+            None => {}
+            Some(Looks::Blank) => count_one(&mut self.blank),
+            Some(Looks::Comment) => count_one(&mut self.comments),
+            Some(Looks::Header) => count_one(&mut self.headers),
+            Some(Looks::Identifier) => count_one(&mut self.identifiers),
+        }
+    }
+
+    // The status that they come to.
+    pub fn status(&self) -> Status {
+        if self.has_unread {
+            Status::NotDone
+        } else if self.refused > 0 {
+            Status::SomeRefused
+        } else {
+            Status::AllDone
+        }
     }
 }
 
-// The same, where something was not read to its end.
-pub fn unread(c: Counts) -> Counts {
-    let mut c = c;
-    c.has_unread = true;
-    c
-}
-
-// One more that was refused.
-fn count_refused(c: Counts, looks: Looks) -> Counts {
-    let mut c = c;
-    c.refused = after(c.refused);
-    match looks {
-        Looks::Text => {}
-        Looks::Blank => c.blank = after(c.blank),
-        Looks::Comment => c.comments = after(c.comments),
-        Looks::Header => c.headers = after(c.headers),
-        Looks::Identifier => c.identifiers = after(c.identifiers),
+// The counts of all, but for those that are 0.
+impl fmt::Display for Counts {
+    fn fmt<W: fmt::Write>(&self, f: &mut fmt::Formatter<W>) -> fmt::Result {
+        write!(
+            f,
+            "{}, {} refused",
+            Counted(self.lines, "line"),
+            self.refused
+        )?;
+        for (n, words) in [
+            (self.blank, "of them blank"),
+            (self.comments, "of them like a comment"),
+            (self.headers, "of them like a header"),
+            (self.identifiers, "of them like an identifier"),
+            (self.passed, "passed on"),
+            (self.lost, "with atoms that are not kept"),
+        ] {
+            if n > 0 {
+                write!(f, ", {n} {words}")?;
+            }
+        }
+        Ok(())
     }
-    c
-}
-
-// One line more: whether it was refused, and what it looks like then; whether it was passed on, and whether atoms are lost.
-pub fn count(c: Counts, is_refusal: bool, looks: Looks, is_passed: bool, has_lost: bool) -> Counts {
-    let mut c = c;
-    c.lines = after(c.lines);
-    if has_lost {
-        c.lost = after(c.lost);
-    }
-    if is_passed {
-        c.passed = after(c.passed);
-        return c;
-    }
-    if is_refusal {
-        return count_refused(c, looks);
-    }
-    c
-}
-
-// A number that is not 0, and the words for it.
-fn put_more(out: &mut [u8], at: usize, n: usize, words: usize) -> usize
-    requires { at ≤ length out.old }
-    ensures { result ≤ length out.new }
-{
-    if n == 0 {
-        return at;
-    }
-    let at = put_word(out, at, b", ");
-    let at = number::print(out, at, n);
-    let at = put_word(out, at, b" ");
-    put_nth(
-        out,
-        at,
-        b"of them blank;\
-            of them like a comment;\
-            of them like a header;\
-            of them like an identifier;\
-            passed on;\
-            with atoms that are not kept;",
-        words,
-    )
-}
-
-// So many lines, for one who waits.
-pub fn say_progress(errors: Stderr, lines: usize) {
-    let mut message = [0u8; 64];
-    let n = put_word(&mut message, 0, b"label: ");
-    let n = put_counted(&mut message, n, lines, b" line");
-    let n = put_word(&mut message, n, b"\n");
-    say(errors, &message, n);
-}
-
-// The counts of all.
-pub fn say_counts(errors: Stderr, c: Counts) {
-    let mut message = [0u8; 512];
-    let n = put_word(&mut message, 0, b"label: ");
-    let n = put_counted(&mut message, n, c.lines, b" line");
-    let n = put_word(&mut message, n, b", ");
-    let n = number::print(&mut message, n, c.refused);
-    let n = put_word(&mut message, n, b" refused");
-    let n = put_more(&mut message, n, c.blank, 0);
-    let n = put_more(&mut message, n, c.comments, 1);
-    let n = put_more(&mut message, n, c.headers, 2);
-    let n = put_more(&mut message, n, c.identifiers, 3);
-    let n = put_more(&mut message, n, c.passed, 4);
-    let n = put_more(&mut message, n, c.lost, 5);
-    let n = put_word(&mut message, n, b"\n");
-    say(errors, &message, n);
-}
-
-// The status that they come to.
-pub fn status(c: Counts) -> i32 {
-    if c.has_unread {
-        return NOT_DONE;
-    }
-    if c.refused > 0 {
-        return SOME_REFUSED;
-    }
-    ALL_DONE
 }

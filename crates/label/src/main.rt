@@ -17,7 +17,7 @@
 // command: the commands, and what the arguments ask for.
 // answer: the answer to a text; its words are in `label_text`.
 // counts: what came of all lines.
-// output: what is written, gathered in a buffer.
+// output: what is written, gathered in a room.
 // line: a line, piece by piece.
 // tray: all lines of all inputs.
 #![tactic(auto)]
@@ -29,16 +29,20 @@ mod line;
 mod output;
 mod tray;
 
+use command::Status;
+
 // Answers what is asked, and with which status the program is to end: 0 if all lines were done, 1 if some were refused, 2 if
 // something was not read, not written or not understood. This main answers nothing, so it drops the status; where `./label`
-// compiles the program, its start ends with it.
+// compiles the program, its start calls this and ends with the status, so it stays a function of this name and type.
 fn run(rt: &HostRuntime) -> i32 {
-    let asked = command::read_arguments(rt);
-    if asked.is_understood {
-        return tray::answer_all(rt, asked);
-    }
-    command::print_usage(rt.stderr());
-    command::NOT_DONE
+    let status = match command::read_arguments(rt) {
+        Some(asked) => tray::answer_all(rt, rt.stdout(), rt.stderr(), asked),
+        None => {
+            command::print_usage(rt.stderr());
+            Status::NotDone
+        }
+    };
+    status as i32
 }
 
 fn main(rt: HostRuntime) {

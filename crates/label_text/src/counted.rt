@@ -1,25 +1,15 @@
 // A number and what it counts, in the singular or in the plural.
-ghost use Rattle.std.specs.Prelude.{◌≤◌, length};
+use std::fmt;
+use std::fmt::Write;
 
-use oracle_form::byte::{put, put_word};
-use oracle_form::number;
+// The number, and the word for one.
+#[derive(Clone, Copy)]
+pub struct Counted<'a>(pub usize, pub &'a str);
 
-// An `s` but after one.
-fn put_plural(out: &mut [u8], at: usize, n: usize) -> usize
-    requires { at ≤ length out.old }
-    ensures { result ≤ length out.new }
-{
-    if n == 1 {
-        return at;
+impl fmt::Display for Counted<'_> {
+    fn fmt<W: fmt::Write>(&self, f: &mut fmt::Formatter<W>) -> fmt::Result {
+        let Counted(n, what) = *self;
+        let plural = if n == 1 { "" } else { "s" };
+        write!(f, "{n} {what}{plural}")
     }
-    put(out, at, b's')
-}
-
-// A number, and what it counts, in the singular.
-pub fn put_counted(out: &mut [u8], at: usize, n: usize, what: &[u8]) -> usize
-    ensures { result ≤ length out.new }
-{
-    let at = number::print(out, at, n);
-    let at = put_word(out, at, what);
-    put_plural(out, at, n)
 }

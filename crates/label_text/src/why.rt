@@ -1,148 +1,113 @@
 // A text that is refused: in words for people, with the places that they are about, or behind a `#`.
-ghost use Rattle.std.specs.Prelude.{◌≤◌, length};
+ghost use Rattle.std.specs.Prelude.{◌≡◌, IsNone};
 
 use crate::looks::Looks;
-use crate::rings::{Places, Wanted, find, nowhere, only};
-use crate::run::put_run;
-use answer_text::desk::print_named;
-use answer_text::words::{place_of, print_caret, print_shown, print_words};
+use crate::rings::{find_bond, find_use};
+use answer_text::desk::Named;
+use answer_text::words::{Words, place, put_caret, put_shown};
 use desk_numbers::{JOIN, RNUM, Said};
-use oracle_form::byte::{NOWHERE, put, put_word};
-use oracle_form::list::put_nth;
-use oracle_form::number;
+use oracle_form::output::Output;
+use std::fmt;
+use std::fmt::Write;
 use table::limits::TEXT;
 
 const LINE_END: u8 = b'\n';
 // What comes before a text that is shown, and before the marks below it.
-const INDENT: [u8; 4] = *b"    ";
+const INDENT: &[u8] = b"    ";
 // The bytes of both lines, the longest text in each.
-pub const SHOWN_BYTES: usize = 2 * (4 + TEXT + 1);
+pub const SHOWN_BYTES: usize = 2 * (INDENT.len() + TEXT + 1);
 
-// What was said of ring numbers.
-fn wanted(s: Said) -> Wanted {
-    Wanted {
-        is_bond: s.no == JOIN,
-        first: s.first,
-        second: s.second,
+// The places of a text that a refusal is about: one, or two of which the first comes before the second.
+#[derive(Clone, Copy)]
+pub struct Places {
+    first: usize,
+    second: Option<usize>,
+}
+
+fn only(first: usize) -> Places {
+    Places {
+        first,
+        second: None,
     }
 }
 
-// The places of a text that a refusal is about.
-pub fn places(s: Said, text: &[u8], looks: Looks) -> Places {
-    match looks {
-        Looks::Blank => nowhere(),
-        _ => {
-            if s.no == JOIN || s.no == RNUM {
-                return find(text, wanted(s));
-            }
-            only(place_of(s, text.len()))
+fn both((first, second): (usize, usize)) -> Places {
+    Places {
+        first,
+        second: Some(second),
+    }
+}
+
+// The places of a text that a refusal is about, if there are any.
+pub fn places_of(said: Said, text: &[u8], looks: Option<Looks>) -> Option<Places>
+    ensures { looks ≡ Some Looks.Blank → IsNone result }
+{
+    if looks == Some(Looks::Blank) {
+        return None;
+    }
+    match said.no {
+        JOIN => find_bond(text, said.first, said.second).map(both),
+        RNUM => find_use(text, said.first).map(only),
+        _ => place(said, text.len()).map(only),
+    }
+}
+
+// A refusal in words: what was said, what the line looks like, and the places that it is about.
+#[derive(Clone, Copy)]
+pub struct Why {
+    pub said: Said,
+    pub looks: Option<Looks>,
+    pub places: Option<Places>,
+}
+
+impl fmt::Display for Why {
+    fn fmt<W: fmt::Write>(&self, f: &mut fmt::Formatter<W>) -> fmt::Result {
+        let Why {
+            said,
+            looks,
+            places,
+        } = *self;
+        write!(f, "refused, {}: {}", said.no, Words(said))?;
+        write_places(f, said.no, places)?;
+        match looks {
+            Some(looks) => write!(f, "; {looks}"),
+            None => Ok(()),
         }
     }
 }
 
 // The places of ring numbers, which no name of a refusal carries.
-fn put_places(out: &mut [u8], at: usize, s: Said, p: Places) -> usize
-    requires { at ≤ length out.old }
-    ensures { result ≤ length out.new }
-{
-    if p.first == NOWHERE {
-        return at;
-    }
-    if s.no == RNUM {
-        let at = put_word(out, at, b", at byte ");
-        return number::print(out, at, p.first);
-    }
-    if s.no != JOIN {
-        return at;
-    }
-    let at = put_word(out, at, b", at bytes ");
-    let at = number::print(out, at, p.first);
-    let at = put_word(out, at, b" and ");
-    number::print(out, at, p.second)
-}
-
-// For a text that looks like nothing else.
-const NO_WORDS: usize = 4;
-
-// What the line looks like, if it is known.
-fn put_looks(out: &mut [u8], at: usize, looks: Looks) -> usize
-    requires { at ≤ length out.old }
-    ensures { result ≤ length out.new }
-{
-    let n = match looks {
-        Looks::Text => NO_WORDS,
-        Looks::Blank => 0,
-        Looks::Comment => 1,
-        Looks::Header => 2,
-        Looks::Identifier => 3,
+fn write_places<W: fmt::Write>(
+    f: &mut fmt::Formatter<W>,
+    no: u32,
+    places: Option<Places>,
+) -> fmt::Result {
+    let Some(Places { first, second }) = places else {
+        return Ok(());
     };
-    if n == NO_WORDS {
-        return at;
+    match (no, second) {
+        (RNUM, _) => write!(f, ", at byte {first}"),
+        (JOIN, Some(second)) => write!(f, ", at bytes {first} and {second}"),
+        _ => Ok(()),
     }
-    let at = put_word(out, at, b"; ");
-    put_nth(
-        out,
-        at,
-        b"the line is blank;\
-            the line looks like a comment;\
-            the line looks like a header;\
-            this looks like an identifier, where the text has to be;",
-        n,
-    )
-}
-
-// A refusal in words.
-pub fn put_why(out: &mut [u8], at: usize, s: Said, looks: Looks, p: Places) -> usize
-    ensures { result ≤ length out.new }
-{
-    let at = put_word(out, at, b"refused, ");
-    let at = number::print(out, at, s.no as usize);
-    let at = put_word(out, at, b": ");
-    let at = print_words(out, at, s);
-    let at = put_places(out, at, s, p);
-    put_looks(out, at, looks)
 }
 
 // A refused line of a tray: behind a `#` the number, its name and what it carries, a tab, and the text as it is.
-pub fn put_comment(out: &mut [u8], at: usize, s: Said, text: &[u8]) -> usize
-    ensures { result ≤ length out.new }
-{
-    let at = put_word(out, at, b"# ");
-    let at = number::print(out, at, s.no as usize);
-    let at = put(out, at, b' ');
-    let at = print_named(out, at, s);
-    let at = put(out, at, b'\t');
-    put_run(out, at, text)
-}
-
-// How many places lie between two.
-fn between(first: usize, second: usize) -> usize {
-    if first < second {
-        return second - first - 1;
-    }
-    0
-}
-
-// The second mark, after the first.
-fn put_second(out: &mut [u8], at: usize, p: Places) -> usize
-    requires { at ≤ length out.old }
-    ensures { result ≤ length out.new }
-{
-    if p.second == NOWHERE {
-        return at;
-    }
-    print_caret(out, at, between(p.first, p.second))
+pub fn put_comment(out: &mut Output, said: Said, text: &[u8]) {
+    let _ = write!(out, "# {} {}\t", said.no, Named(said));
+    out.put_all(text);
 }
 
 // A text with its places marked below it. There is room for both lines.
-pub fn put_marked(out: &mut [u8], at: usize, text: &[u8], p: Places) -> usize
-    ensures { result ≤ length out.new }
-{
-    let at = put_word(out, at, &INDENT);
-    let at = print_shown(out, at, text);
-    let at = put(out, at, LINE_END);
-    let at = put_word(out, at, &INDENT);
-    let at = print_caret(out, at, p.first);
-    let at = put_second(out, at, p);
-    put(out, at, LINE_END)
+pub fn put_marked(out: &mut Output, text: &[u8], places: Places) {
+    let Places { first, second } = places;
+    out.put_all(INDENT);
+    put_shown(out, text);
+    out.put(LINE_END);
+    out.put_all(INDENT);
+    put_caret(out, first);
+    if let Some(second) = second {
+        put_caret(out, second.saturating_sub(first).saturating_sub(1));
+    }
+    out.put(LINE_END);
 }

@@ -4,13 +4,13 @@ use mathlib.Core.Option.{Option, none, some}
 use Rattle.feature.specs.Bonds.{code_of, reverse_of, is_directional, reconcile_of}
 use Rattle.feature.specs.declared.bond_kind.BondKind.{BondKind}
 use Rattle.feature.specs.declared.bond_kind.BondKind.TheVariants.{Elided, Single, Double, Triple, Quadruple, Aromatic, Up, Down}
-use Rattle.feature.specs.declared.bond_kind.Reconciled.{Reconciled}
-use Rattle.feature.specs.declared.bond_kind.Reconciled.TheVariants.{Both, Fails}
+use Rattle.std.specs.Prelude as std
+use Rattle.std.specs.Prelude.{None, Some}
 use Rattle.opensmiles_laws.specs.Molecule.{agreed}
 
-unfoldable pub ends : Option BondKind → Reconciled
-ends none = Fails
-ends (some k) = Both k (reverse_of k)
+unfoldable pub ends : Option BondKind → std.Option (BondKind × BondKind)
+ends none = None
+ends (some k) = Some (k, reverse_of k)
 
 pub reconciled : (k l : BondKind) → reconcile_of k l ≡ ends (agreed k l)
 unfolding reconcile_of agreed ends code_of reverse_of is_directional

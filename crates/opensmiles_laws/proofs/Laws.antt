@@ -13,8 +13,10 @@ use Rattle.read_token.specs.declared.scanner.Missing.TheVariants as missing
 use Rattle.read_line.specs.Events.{ReadEvent, Enter, Join, Pop, Miss, Nest}
 use Rattle.read_line.specs.Parse.{parse}
 use Rattle.builder_meaning.specs.Sketch.{Node, count_of}
-use Rattle.read.specs.declared.Answer.{Answer}
-use Rattle.read.specs.declared.Answer.TheVariants as answer
+use Rattle.std.specs.Prelude.{Err, Ok}
+use Rattle.read.specs.Read.{graph_size}
+use Rattle.read.specs.Read.{Answer}
+use Rattle.read.specs.declared.ReadError.TheVariants as answer
 use Rattle.read.specs.Read.{Said}
 use Rattle.read.specs.Line.{read_refusing, read_text}
 use Rattle.grammar.specs.Lines.{Bytes, Spelled, Viable, WrongAt, Late, late_missing, Verdict, reads, refuses, refuses_late, nests, Clean, Ends, Nests}
@@ -33,17 +35,17 @@ use Rattle.opensmiles_laws.proofs.ReadsAs.{ReadsAs, long, halts, disagrees, open
 
 -- ---- what an event meets says which event it is
 unfoldable pub Kind : ReadEvent → Answer → Type 0
-Kind e (answer.Done n m) = ⊥
-Kind e answer.EndOfLine = e ≡ Miss missing.EndOfLine
-Kind e (answer.Character n) = e ≡ Miss (missing.Character n)
-Kind e (answer.Join x y) = ⊥
-Kind e (answer.Rnum j) = ⊥
-Kind e (answer.Inversion n) = Unit {0}
-Kind e (answer.TextTooLong n) = ⊥
-Kind e (answer.AtomRoom at) = Unit {0}
-Kind e (answer.BondRoom at) = Unit {0}
-Kind e (answer.Nesting n) = e ≡ Nest n
-Kind e answer.NoAtom = ⊥
+Kind e (Ok size) = ⊥
+Kind e (Err answer.EndOfLine) = e ≡ Miss missing.EndOfLine
+Kind e (Err (answer.Character n)) = e ≡ Miss (missing.Character n)
+Kind e (Err (answer.Join x y)) = ⊥
+Kind e (Err (answer.Rnum j)) = ⊥
+Kind e (Err (answer.Inversion n)) = Unit {0}
+Kind e (Err (answer.TextTooLong n)) = ⊥
+Kind e (Err (answer.AtomRoom at)) = Unit {0}
+Kind e (Err (answer.BondRoom at)) = Unit {0}
+Kind e (Err (answer.Nesting n)) = e ≡ Nest n
+Kind e (Err answer.NoAtom) = ⊥
 
 meets_kind : (p l : ℕ) (o : Option Molecule) (n : ℕ) (e : ReadEvent) (a : Answer) → Meets p l o n e a → Kind e a
 unfolding Kind
@@ -58,17 +60,17 @@ meets_kind p l _ _ _ _ (deep o n at) = refl
 
 -- no place, no slot and no turning are met before the last event of a text that is refused
 Early : Answer → Type 0
-Early (answer.Done n m) = ⊥
-Early answer.EndOfLine = ⊥
-Early (answer.Character n) = ⊥
-Early (answer.Join x y) = ⊥
-Early (answer.Rnum j) = ⊥
-Early (answer.Inversion n) = Unit {0}
-Early (answer.TextTooLong n) = ⊥
-Early (answer.AtomRoom at) = Unit {0}
-Early (answer.BondRoom at) = Unit {0}
-Early (answer.Nesting n) = ⊥
-Early answer.NoAtom = ⊥
+Early (Ok size) = ⊥
+Early (Err answer.EndOfLine) = ⊥
+Early (Err (answer.Character n)) = ⊥
+Early (Err (answer.Join x y)) = ⊥
+Early (Err (answer.Rnum j)) = ⊥
+Early (Err (answer.Inversion n)) = Unit {0}
+Early (Err (answer.TextTooLong n)) = ⊥
+Early (Err (answer.AtomRoom at)) = Unit {0}
+Early (Err (answer.BondRoom at)) = Unit {0}
+Early (Err (answer.Nesting n)) = ⊥
+Early (Err answer.NoAtom) = ⊥
 
 final_early : (p l : ℕ) (o : Option Molecule) (n : ℕ) (e : ReadEvent) (a : Answer) → Meets p l o n e a → Final e → ¬ Early a
 unfolding Final Early
@@ -120,7 +122,7 @@ Nested (Enter l k at) a = Unit {0}
 Nested (Join e r at) a = Unit {0}
 Nested (Pop i) a = Unit {0}
 Nested (Miss x) a = Unit {0}
-Nested (Nest at) a = a ≡ answer.Nesting at
+Nested (Nest at) a = a ≡ Err (answer.Nesting at)
 
 meets_nested : (p l : ℕ) (o : Option Molecule) (n : ℕ) (e : ReadEvent) (a : Answer) → Meets p l o n e a → Nested e a
 unfolding Nested
@@ -133,7 +135,7 @@ meets_nested p l _ _ _ _ (ends o n) = tt
 meets_nested p l _ _ _ _ (wrong o n at) = tt
 meets_nested p l _ _ _ _ (deep o n at) = refl
 
-pub nest_met : (p l : ℕ) (o : Option Molecule) (n at : ℕ) (a : Answer) → Meets p l o n (Nest at) a → a ≡ answer.Nesting at
+pub nest_met : (p l : ℕ) (o : Option Molecule) (n at : ℕ) (a : Answer) → Meets p l o n (Nest at) a → a ≡ Err (answer.Nesting at)
 unfolding Nested
 nest_met p l o n at a m = meets_nested p l o n (Nest at) a m
 
@@ -217,35 +219,35 @@ module _ (s : List ℕ) (h : Bytes s) (la lb : ℕ) where
 
   stops_when : (short : length s ≤ text_limit) (a : Answer) (q : Stops (places_in la) (bond_slots_in lb) begun 0 (parse s) a) → Kind q.event a → When s la lb a
   unfolding When Kind Early
-  stops_when short (answer.Done n m) q k = absurd k
-  stops_when short answer.EndOfLine q k = by (end_is s h (unfold Ends in (q.before, i)))
+  stops_when short (Ok size) q k = absurd k
+  stops_when short (Err answer.EndOfLine) q k = by (end_is s h (unfold Ends in (q.before, i)))
     where
       i : parse s ≡ q.before ++ (Miss missing.EndOfLine ∷ [])
-      i = at_miss answer.EndOfLine missing.EndOfLine q k
+      i = at_miss (Err answer.EndOfLine) missing.EndOfLine q k
 
       by : (Viable s × ¬ Spelled s) ⊎ ((m : ℕ) × (r : WrongAt s m) × Late r × (late_missing m r.behind ≡ missing.EndOfLine)) → EndsAs s la lb
       by (inl v) = ends_as s (ends_here v.0 v.1) short q.before i q.free
       by (inr v) = ends_as v.1.before (ends_late v.0 v.1 v.2 v.3) short q.before i q.free
-  stops_when short (answer.Character n) q k = by (character_is s h n (unfold Ends in (q.before, i)))
+  stops_when short (Err (answer.Character n)) q k = by (character_is s h n (unfold Ends in (q.before, i)))
     where
       i : parse s ≡ q.before ++ (Miss (missing.Character n) ∷ [])
-      i = at_miss (answer.Character n) (missing.Character n) q k
+      i = at_miss (Err (answer.Character n)) (missing.Character n) q k
 
       by : ((r : WrongAt s n) × ¬ Late r) ⊎ ((m : ℕ) × (r : WrongAt s m) × Late r × (late_missing m r.behind ≡ missing.Character n)) → WrongAs s la lb n
       by (inl v) = wrong_as n v.0.before (wrong_here v.0 v.1) short q.before i q.free
       by (inr v) = wrong_as n v.1.before (wrong_late v.0 v.1 v.2 v.3) short q.before i q.free
-  stops_when short (answer.Join x y) q k = absurd k
-  stops_when short (answer.Rnum j) q k = absurd k
-  stops_when short (answer.Inversion n) q k = early short (answer.Inversion n) tt q
-  stops_when short (answer.TextTooLong n) q k = absurd k
-  stops_when short (answer.AtomRoom at) q k = early short (answer.AtomRoom at) tt q
-  stops_when short (answer.BondRoom at) q k = early short (answer.BondRoom at) tt q
-  stops_when short (answer.Nesting n) q k =
-      let i = at_nest (answer.Nesting n) n q k in
+  stops_when short (Err (answer.Join x y)) q k = absurd k
+  stops_when short (Err (answer.Rnum j)) q k = absurd k
+  stops_when short (Err (answer.Inversion n)) q k = early short (Err (answer.Inversion n)) tt q
+  stops_when short (Err (answer.TextTooLong n)) q k = absurd k
+  stops_when short (Err (answer.AtomRoom at)) q k = early short (Err (answer.AtomRoom at)) tt q
+  stops_when short (Err (answer.BondRoom at)) q k = early short (Err (answer.BondRoom at)) tt q
+  stops_when short (Err (answer.Nesting n)) q k =
+      let i = at_nest (Err (answer.Nesting n)) n q k in
       let d = nest_is s h n (unfold Ends in (q.before, i)) in
       let f = first_deep n q.before i in
       record { short = short; deep = d; first = f; free = free_from d.before (deep_spoken s h n d f) (Nest n) q.before i q.free }
-  stops_when short answer.NoAtom q k = absurd k
+  stops_when short (Err answer.NoAtom) q k = absurd k
 
   reads_as_when : (x : Said) → ReadsAs s la lb x → When s la lb x.answer
   unfolding When
@@ -307,18 +309,18 @@ module _ (s : List ℕ) (h : Bytes s) (la lb : ℕ) where
 
   when_said : (a : Answer) → When s la lb a → (read_text s la lb).answer ≡ a
   unfolding When Last
-  when_said (answer.Done n m) w =
-      ap (λ (x : Said). x.answer) (reads_as_said s la lb (done_said la lb w.0) (done w.0 w.1)) ∙ ap₂ (λ (i j : ℕ). answer.Done i j) (sym w.2) (sym w.3)
-  when_said answer.EndOfLine w = halted answer.EndOfLine w.short (stops_last w.upto (more_spoken s h w.upto w.place w.shallow) (Miss missing.EndOfLine) answer.EndOfLine (end_ends w.upto w.place w.shallow) (λ o n. ends o n) w.free)
-  when_said (answer.Character n) w = halted (answer.Character n) w.short (stops_last w.upto (at_spoken s h n w.upto w.place w.shallow) (Miss (missing.Character n)) (answer.Character n) (wrong_ends n w.upto w.place w.shallow) (λ o i. wrong o i n) w.free)
-  when_said (answer.Join x y) w = ap (λ (z : Said). z.answer) (reads_as_said s la lb (read_refusing (answer.Join x y) la lb) (disagrees x y w))
-  when_said (answer.Rnum j) w = ap (λ (z : Said). z.answer) (reads_as_said s la lb (read_refusing (answer.Rnum j) la lb) (opens j w))
-  when_said (answer.Inversion n) w = halted (answer.Inversion n) w.short (tells_stops (answer.Inversion n) w.told w.tells w.stops)
-  when_said (answer.TextTooLong n) w = ap (λ (z : Said). z.answer) (reads_as_said s la lb (read_refusing (answer.TextTooLong (length s)) la lb) (long w.0)) ∙ ap (λ (i : ℕ). answer.TextTooLong i) (sym w.1)
-  when_said (answer.AtomRoom at) w = halted (answer.AtomRoom at) w.short (tells_stops (answer.AtomRoom at) w.told w.tells w.stops)
-  when_said (answer.BondRoom at) w = halted (answer.BondRoom at) w.short (tells_stops (answer.BondRoom at) w.told w.tells w.stops)
-  when_said (answer.Nesting n) w = halted (answer.Nesting n) w.short (stops_last w.deep.before (deep_spoken s h n w.deep w.first) (Nest n) (answer.Nesting n) (nest_ends n w) (λ o i. deep o i n) w.free)
-  when_said answer.NoAtom w = absurd w
+  when_said (Ok size) w =
+      ap (λ (x : Said). x.answer) (reads_as_said s la lb (done_said la lb w.0) (done w.0 w.1)) ∙ ap₂ (λ (i j : ℕ). (Ok (graph_size i j))) (sym w.2) (sym w.3)
+  when_said (Err answer.EndOfLine) w = halted (Err answer.EndOfLine) w.short (stops_last w.upto (more_spoken s h w.upto w.place w.shallow) (Miss missing.EndOfLine) (Err answer.EndOfLine) (end_ends w.upto w.place w.shallow) (λ o n. ends o n) w.free)
+  when_said (Err (answer.Character n)) w = halted (Err (answer.Character n)) w.short (stops_last w.upto (at_spoken s h n w.upto w.place w.shallow) (Miss (missing.Character n)) (Err (answer.Character n)) (wrong_ends n w.upto w.place w.shallow) (λ o i. wrong o i n) w.free)
+  when_said (Err (answer.Join x y)) w = ap (λ (z : Said). z.answer) (reads_as_said s la lb (read_refusing (Err (answer.Join x y)) la lb) (disagrees x y w))
+  when_said (Err (answer.Rnum j)) w = ap (λ (z : Said). z.answer) (reads_as_said s la lb (read_refusing (Err (answer.Rnum j)) la lb) (opens j w))
+  when_said (Err (answer.Inversion n)) w = halted (Err (answer.Inversion n)) w.short (tells_stops (Err (answer.Inversion n)) w.told w.tells w.stops)
+  when_said (Err (answer.TextTooLong n)) w = ap (λ (z : Said). z.answer) (reads_as_said s la lb (read_refusing (Err (answer.TextTooLong (length s))) la lb) (long w.0)) ∙ ap (λ (i : ℕ). (Err (answer.TextTooLong i))) (sym w.1)
+  when_said (Err (answer.AtomRoom at)) w = halted (Err (answer.AtomRoom at)) w.short (tells_stops (Err (answer.AtomRoom at)) w.told w.tells w.stops)
+  when_said (Err (answer.BondRoom at)) w = halted (Err (answer.BondRoom at)) w.short (tells_stops (Err (answer.BondRoom at)) w.told w.tells w.stops)
+  when_said (Err (answer.Nesting n)) w = halted (Err (answer.Nesting n)) w.short (stops_last w.deep.before (deep_spoken s h n w.deep w.first) (Nest n) (Err (answer.Nesting n)) (nest_ends n w) (λ o i. deep o i n) w.free)
+  when_said (Err answer.NoAtom) w = absurd w
 
 -- ---- THE LAWS
 -- each answer is given exactly when it should be
@@ -331,27 +333,27 @@ done_tables s la lb ns w = reads_as_said s la lb (done_said la lb ns) (done ns w
 
 module _ (s : List ℕ) (h : Bytes s) (la lb : ℕ) where
   -- what is not done leaves zeros
-  zeros : (x : Said) → ReadsAs s la lb x → ((n m : ℕ) → ¬ (x.answer ≡ answer.Done n m)) → x ≡ read_refusing x.answer la lb
+  zeros : (x : Said) → ReadsAs s la lb x → ((n m : ℕ) → ¬ (x.answer ≡ Ok (graph_size n m))) → x ≡ read_refusing x.answer la lb
   zeros _ (long l) f = refl
   zeros _ (halts short b q) f = refl
   zeros _ (disagrees x y w) f = refl
   zeros _ (opens j w) f = refl
   zeros _ (done ns w) f = absurd (f (length ns) (count_of ns) refl)
 
-  not_done : (a : Answer) → ((n m : ℕ) → ¬ (a ≡ answer.Done n m)) → When s la lb a → read_text s la lb ≡ read_refusing a la lb
+  not_done : (a : Answer) → ((n m : ℕ) → ¬ (a ≡ Ok (graph_size n m))) → When s la lb a → read_text s la lb ≡ read_refusing a la lb
   not_done a f w =
       let e : (read_text s la lb).answer ≡ a = (answered_exactly s h la lb a).1 w in
       zeros (read_text s la lb) (reads_as s h la lb) (λ n m g. f n m (sym e ∙ g)) ∙ ap (λ (c : Answer). read_refusing c la lb) e
 
-  stops_undone : (b : Answer) (n m : ℕ) → b ≡ answer.Done n m → ¬ Stops (places_in la) (bond_slots_in lb) begun 0 (parse s) b
+  stops_undone : (b : Answer) (n m : ℕ) → b ≡ Ok (graph_size n m) → ¬ Stops (places_in la) (bond_slots_in lb) begun 0 (parse s) b
   unfolding Kind
   stops_undone b n m e q = subst (Kind q.event) e (meets_kind (places_in la) (bond_slots_in lb) _ _ q.event b q.meets)
 
   as_said : (x : Said) → ReadsAs s la lb x → SaidAs s la lb x
-  as_said _ (long l) = said_not (answer.TextTooLong (length s)) (λ n m g. impossible cc) (reads_as_when s h la lb _ (long l))
+  as_said _ (long l) = said_not (Err (answer.TextTooLong (length s))) (λ n m g. impossible cc) (reads_as_when s h la lb _ (long l))
   as_said _ (halts short b q) = said_not b (λ n m g. stops_undone b n m g q) (reads_as_when s h la lb _ (halts short b q))
-  as_said _ (disagrees x y w) = said_not (answer.Join x y) (λ n m g. impossible cc) (reads_as_when s h la lb _ (disagrees x y w))
-  as_said _ (opens j w) = said_not (answer.Rnum j) (λ n m g. impossible cc) (reads_as_when s h la lb _ (opens j w))
+  as_said _ (disagrees x y w) = said_not (Err (answer.Join x y)) (λ n m g. impossible cc) (reads_as_when s h la lb _ (disagrees x y w))
+  as_said _ (opens j w) = said_not (Err (answer.Rnum j)) (λ n m g. impossible cc) (reads_as_when s h la lb _ (opens j w))
   as_said _ (done ns w) = said_done ns w
 
   said_by_lem : (x : Said) → SaidAs s la lb x → read_text s la lb ≡ x
@@ -367,45 +369,45 @@ when_one s h la lb a b v w = sym ((answered_exactly s h la lb a).1 v) ∙ (answe
 
 -- ---- answer by answer
 module _ (s : List ℕ) (h : Bytes s) (la lb : ℕ) where
-  pub done_exactly : (n m : ℕ) → Exactly ((read_text s la lb).answer ≡ answer.Done n m) ((ns : List Node) × DoneAs s la lb ns × (n ≡ length ns) × (m ≡ count_of ns))
+  pub done_exactly : (n m : ℕ) → Exactly ((read_text s la lb).answer ≡ Ok (graph_size n m)) ((ns : List Node) × DoneAs s la lb ns × (n ≡ length ns) × (m ≡ count_of ns))
   unfolding When
-  done_exactly n m = answered_exactly s h la lb (answer.Done n m)
+  done_exactly n m = answered_exactly s h la lb (Ok (graph_size n m))
 
-  pub end_exactly : Exactly ((read_text s la lb).answer ≡ answer.EndOfLine) (EndsAs s la lb)
+  pub end_exactly : Exactly ((read_text s la lb).answer ≡ Err answer.EndOfLine) (EndsAs s la lb)
   unfolding When
-  end_exactly = answered_exactly s h la lb answer.EndOfLine
+  end_exactly = answered_exactly s h la lb (Err answer.EndOfLine)
 
-  pub character_exactly : (n : ℕ) → Exactly ((read_text s la lb).answer ≡ answer.Character n) (WrongAs s la lb n)
+  pub character_exactly : (n : ℕ) → Exactly ((read_text s la lb).answer ≡ Err (answer.Character n)) (WrongAs s la lb n)
   unfolding When
-  character_exactly n = answered_exactly s h la lb (answer.Character n)
+  character_exactly n = answered_exactly s h la lb (Err (answer.Character n))
 
-  pub nesting_exactly : (n : ℕ) → Exactly ((read_text s la lb).answer ≡ answer.Nesting n) (NestsAs s la lb n)
+  pub nesting_exactly : (n : ℕ) → Exactly ((read_text s la lb).answer ≡ Err (answer.Nesting n)) (NestsAs s la lb n)
   unfolding When
-  nesting_exactly n = answered_exactly s h la lb (answer.Nesting n)
+  nesting_exactly n = answered_exactly s h la lb (Err (answer.Nesting n))
 
-  pub long_exactly : (n : ℕ) → Exactly ((read_text s la lb).answer ≡ answer.TextTooLong n) ((text_limit < length s) × (n ≡ length s))
+  pub long_exactly : (n : ℕ) → Exactly ((read_text s la lb).answer ≡ Err (answer.TextTooLong n)) ((text_limit < length s) × (n ≡ length s))
   unfolding When
-  long_exactly n = answered_exactly s h la lb (answer.TextTooLong n)
+  long_exactly n = answered_exactly s h la lb (Err (answer.TextTooLong n))
 
-  pub place_exactly : (at : ℕ) → Exactly ((read_text s la lb).answer ≡ answer.AtomRoom at) (StopsAs s la lb (answer.AtomRoom at))
+  pub place_exactly : (at : ℕ) → Exactly ((read_text s la lb).answer ≡ Err (answer.AtomRoom at)) (StopsAs s la lb (Err (answer.AtomRoom at)))
   unfolding When
-  place_exactly at = answered_exactly s h la lb (answer.AtomRoom at)
+  place_exactly at = answered_exactly s h la lb (Err (answer.AtomRoom at))
 
-  pub slot_exactly : (at : ℕ) → Exactly ((read_text s la lb).answer ≡ answer.BondRoom at) (StopsAs s la lb (answer.BondRoom at))
+  pub slot_exactly : (at : ℕ) → Exactly ((read_text s la lb).answer ≡ Err (answer.BondRoom at)) (StopsAs s la lb (Err (answer.BondRoom at)))
   unfolding When
-  slot_exactly at = answered_exactly s h la lb (answer.BondRoom at)
+  slot_exactly at = answered_exactly s h la lb (Err (answer.BondRoom at))
 
-  pub mark_exactly : (n : ℕ) → Exactly ((read_text s la lb).answer ≡ answer.Inversion n) (StopsAs s la lb (answer.Inversion n))
+  pub mark_exactly : (n : ℕ) → Exactly ((read_text s la lb).answer ≡ Err (answer.Inversion n)) (StopsAs s la lb (Err (answer.Inversion n)))
   unfolding When
-  mark_exactly n = answered_exactly s h la lb (answer.Inversion n)
+  mark_exactly n = answered_exactly s h la lb (Err (answer.Inversion n))
 
-  pub join_exactly : (x y : ℕ) → Exactly ((read_text s la lb).answer ≡ answer.Join x y) (DisagreeAs s la lb x y)
+  pub join_exactly : (x y : ℕ) → Exactly ((read_text s la lb).answer ≡ Err (answer.Join x y)) (DisagreeAs s la lb x y)
   unfolding When
-  join_exactly x y = answered_exactly s h la lb (answer.Join x y)
+  join_exactly x y = answered_exactly s h la lb (Err (answer.Join x y))
 
-  pub ring_exactly : (j : ℕ) → Exactly ((read_text s la lb).answer ≡ answer.Rnum j) (OpenAs s la lb j)
+  pub ring_exactly : (j : ℕ) → Exactly ((read_text s la lb).answer ≡ Err (answer.Rnum j)) (OpenAs s la lb j)
   unfolding When
-  ring_exactly j = answered_exactly s h la lb (answer.Rnum j)
+  ring_exactly j = answered_exactly s h la lb (Err (answer.Rnum j))
 
 -- ---- a text tells one thing
 pub clean_final : (es : List ReadEvent) (x : ReadEvent) → Clean (es ++ (x ∷ [])) → ¬ Final x

@@ -9,25 +9,26 @@ use borrow.Author.Tests.{eqb-false, ne_eqb}
 use Rattle.feature.specs.Kinds.{no_configuration, no_hydrogens, th1, th2, invert_of, invert_bracket}
 use Rattle.feature.specs.declared.atom_kind.AtomKind.{AtomKind}
 use Rattle.feature.specs.declared.atom_kind.AtomKind.TheVariants.{Star, Aliphatic, Aromatic, Bracket}
-use Rattle.feature.specs.declared.atom_kind.Inverted.{Inverted}
-use Rattle.feature.specs.declared.atom_kind.Inverted.TheVariants.{Turned, Refused}
+use Rattle.std.specs.Prelude as std
+use Rattle.std.specs.Prelude.{None, Some}
 use Rattle.feature.specs.declared.bond_kind.BondKind.{BondKind}
 use Rattle.feature.proofs.Cases.{by_test, impossible}
 use Rattle.read_line.specs.declared.lead.Lead.TheVariants.{Dot, Bond}
 use Rattle.read_line.specs.Events.{ReadEvent, Enter, Join, Pop, Miss, Nest}
 use Rattle.builder_meaning.specs.Sketch.{count_of}
-use Rattle.read.specs.declared.Answer.{Answer}
-use Rattle.read.specs.declared.Answer.TheVariants as answer
+use Rattle.std.specs.Prelude.{Err, Ok}
+use Rattle.read.specs.Read.{Answer}
+use Rattle.read.specs.declared.ReadError.TheVariants as answer
 use Rattle.opensmiles_laws.specs.Molecule.{Molecule, as_held, molecule_told}
 use Rattle.opensmiles_laws.specs.Stops.{Unturnable, unturnable, Meets, no_place, no_slots, not_turned, no_slot, not_turned_after, ends, wrong, deep, Passes, count_all, Marked, Turnable, Stops}
 
-pub refused_unturnable : (k : AtomKind) → invert_of k ≡ Refused → Unturnable k
+pub refused_unturnable : (k : AtomKind) → invert_of k ≡ None → Unturnable k
 unfolding invert_of invert_bracket
 refused_unturnable Star h = impossible cc
 refused_unturnable (Aliphatic n) h = impossible cc
 refused_unturnable (Aromatic n) h = impossible cc
 refused_unturnable (Bracket b) h =
-    let P : Inverted → Type 0 = λ i. i ≡ Refused → Unturnable (Bracket b) in
+    let P : std.Option AtomKind → Type 0 = λ i. i ≡ None → Unturnable (Bracket b) in
     by_test P (eqb b.configuration no_configuration) (λ q h. impossible cc)
     (λ q0. by_test P (eqb b.hydrogens no_hydrogens) (λ q h. impossible cc)
     (λ q1. by_test P (eqb b.hydrogens 0) (λ q h. impossible cc)
@@ -35,11 +36,11 @@ refused_unturnable (Bracket b) h =
     (λ q3. by_test P (eqb b.configuration th2) (λ q h. impossible cc)
     (λ q4 h. unturnable b (eqb-false _ _ q0) (eqb-false _ _ q3) (eqb-false _ _ q4) (eqb-false _ _ q1) (eqb-false _ _ q2)))))) h
 
-pub unturnable_refused : (k : AtomKind) → Unturnable k → invert_of k ≡ Refused
+pub unturnable_refused : (k : AtomKind) → Unturnable k → invert_of k ≡ None
 unfolding invert_of invert_bracket
 unturnable_refused _ (unturnable b c0 c1 c2 h0 h1) = simp (ne_eqb _ _ c0, ne_eqb _ _ h0, ne_eqb _ _ h1, ne_eqb _ _ c1, ne_eqb _ _ c2)
 
-pub turned_turnable : (k j : AtomKind) → invert_of k ≡ Turned j → ¬ Unturnable k
+pub turned_turnable : (k j : AtomKind) → invert_of k ≡ Some j → ¬ Unturnable k
 turned_turnable k j h u = let e = unturnable_refused k u in impossible cc
 
 module _ (p l : ℕ) (m : Molecule) (n : ℕ) where
@@ -176,17 +177,17 @@ turnable_turns (Nest at ∷ es) h = turnable_turns es (turnable_after (Nest at) 
 
 -- where it stops at a mark, that atom has one that can't be turned
 At : ℕ → ReadEvent → Answer → Type 0
-At n e (answer.Done i j) = Unit {0}
-At n e answer.EndOfLine = Unit {0}
-At n e (answer.Character i) = Unit {0}
-At n e (answer.Join x y) = Unit {0}
-At n e (answer.Rnum j) = Unit {0}
-At n e (answer.Inversion i) = (b : BondKind) × (k : AtomKind) × (at : ℕ) × (e ≡ Enter (Bond b) k at) × (n ≡ i) × Unturnable k
-At n e (answer.TextTooLong i) = Unit {0}
-At n e (answer.AtomRoom at) = Unit {0}
-At n e (answer.BondRoom at) = Unit {0}
-At n e (answer.Nesting i) = Unit {0}
-At n e answer.NoAtom = Unit {0}
+At n e (Ok size) = Unit {0}
+At n e (Err answer.EndOfLine) = Unit {0}
+At n e (Err (answer.Character i)) = Unit {0}
+At n e (Err (answer.Join x y)) = Unit {0}
+At n e (Err (answer.Rnum j)) = Unit {0}
+At n e (Err (answer.Inversion i)) = (b : BondKind) × (k : AtomKind) × (at : ℕ) × (e ≡ Enter (Bond b) k at) × (n ≡ i) × Unturnable k
+At n e (Err (answer.TextTooLong i)) = Unit {0}
+At n e (Err (answer.AtomRoom at)) = Unit {0}
+At n e (Err (answer.BondRoom at)) = Unit {0}
+At n e (Err (answer.Nesting i)) = Unit {0}
+At n e (Err answer.NoAtom) = Unit {0}
 
 meets_at : (p l : ℕ) (o : Option Molecule) (n : ℕ) (e : ReadEvent) (a : Answer) → Meets p l o n e a → At n e a
 unfolding At
@@ -199,8 +200,8 @@ meets_at p l _ _ _ _ (ends o n) = tt
 meets_at p l _ _ _ _ (wrong o n at) = tt
 meets_at p l _ _ _ _ (deep o n at) = tt
 
-pub stops_marked : (p l : ℕ) (o : Option Molecule) (es : List ReadEvent) (n : ℕ) → Stops p l o 0 es (answer.Inversion n) → Marked es n
+pub stops_marked : (p l : ℕ) (o : Option Molecule) (es : List ReadEvent) (n : ℕ) → Stops p l o 0 es (Err (answer.Inversion n)) → Marked es n
 unfolding At
 stops_marked p l o es n s =
-    let m = meets_at p l _ _ s.event (answer.Inversion n) s.meets in
+    let m = meets_at p l _ _ s.event (Err (answer.Inversion n)) s.meets in
     record { before = s.before; bond = m.0; kind = m.1; at = m.2; after = s.after; is = s.is ∙ ap (λ (x : ReadEvent). s.before ++ (x ∷ s.after)) m.3; number = m.4; mark = m.5 }

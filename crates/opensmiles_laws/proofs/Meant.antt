@@ -14,8 +14,10 @@ use Rattle.table.specs.Limits.{text_limit, branch_limit, places_in, bond_slots_i
 use Rattle.read_line.specs.Events.{ReadEvent, Nest}
 use Rattle.read_line.specs.Parse.{parse}
 use Rattle.builder_meaning.specs.Sketch.{Edge, Node, count_of, first_open_s, sketch_of}
-use Rattle.read.specs.declared.Answer.{Answer}
-use Rattle.read.specs.declared.Answer.TheVariants as answer
+use Rattle.std.specs.Prelude.{Ok}
+use Rattle.read.specs.Read.{graph_size}
+use Rattle.read.specs.Read.{Answer}
+use Rattle.read.specs.declared.ReadError.TheVariants as answer
 use Rattle.read.specs.Line.{read_refusing, read_text}
 use Rattle.grammar.specs.Grammar.{spell, meaning}
 use Rattle.grammar.specs.Lines.{opening, Spelled, Viable, WrongAt, TooDeep, Verdict, reads, refuses, refuses_late, nests, Clean}
@@ -163,13 +165,13 @@ meant_is_answered u small meant m la lb = answered u meant m la lb small
 
 pub big_is_refused : BigIsRefused
 big_is_refused u big la lb n m e =
-    let w : (ns : List Node) × DoneAs (chain_s u) la lb ns × (n ≡ length ns) × (m ≡ count_of ns) = unfold When in ((answered_exactly (chain_s u) (chain_bytes u) la lb (answer.Done n m)).0 e) in
+    let w : (ns : List Node) × DoneAs (chain_s u) la lb ns × (n ≡ length ns) × (m ≡ count_of ns) = unfold When in ((answered_exactly (chain_s u) (chain_bytes u) la lb (Ok (graph_size n m))).0 e) in
     let t = w.1.line.tree in
     big (open_read (spell t) u t (sym w.1.line.spelled) (complete t)).0
 
 pub read_is_meant : ReadIsMeant
 read_is_meant t strict la lb n m e =
-    let w : (ns : List Node) × DoneAs (spell t) la lb ns × (n ≡ length ns) × (m ≡ count_of ns) = unfold When in ((answered_exactly (spell t) (spelled_bytes t) la lb (answer.Done n m)).0 e) in
+    let w : (ns : List Node) × DoneAs (spell t) la lb ns × (n ≡ length ns) × (m ≡ count_of ns) = unfold When in ((answered_exactly (spell t) (spelled_bytes t) la lb (Ok (graph_size n m))).0 e) in
     let o = strict_open t strict in
     let i : says o.0 ≡ meaning w.1.line.tree = o.3 ∙ ap meaning (unique t w.1.line.tree (sym w.1.line.spelled)) in
     let x = w.1.roomy.whole in

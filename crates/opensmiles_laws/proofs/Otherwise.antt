@@ -19,7 +19,8 @@ use Rattle.table.specs.Limits.{lesser_of}
 use Rattle.read_line.specs.Parse.{led_at, body_of, body_at, miss_p, found_p, atom_p, ring_p, union_by, union_p, unit_by, unit_p, line_p, close_p, branch_p, bodies, end_p, parse}
 use Rattle.builder_meaning.specs.Sketch.{To, Edge, Node, edge, node, leads, next_number, count_of, upd, edges_at, add_edge, waits, open_kind, fill_edges, fill, lookup, ring_freed, root_s, bonded_s, extend_s, opened_s, closed_s, first_of, ring_s, join_s, enter_s, number_s, judged_s, missed_s, step_s, run_s, sketch_of, open_here, open_in, first_open_s, rings_say, says_s, finish_s, left_s}
 use Rattle.read.specs.Read.{Said, read_refusal, built_answer}
-use Rattle.read.specs.declared.Answer.TheVariants as answer
+use Rattle.std.specs.Prelude.{Err}
+use Rattle.read.specs.declared.ReadError.TheVariants as answer
 use Rattle.read.specs.Line.{read_refusing, whole_of, whole_or_refused, read_text}
 use Rattle.grammar.specs.Grammar.{d1, value, Atom, organic, bracket, bare1, organics, organic_s, organic_k, known, short, symbol_s, iso0, isotope_s, SP, most, valid1, class1, class2, code1, chiral_s, H, hcount_s, head, head_s, neutral, charge_s, nomap, map_s, atom_s, ring1, rnum_s, rnum_k, double, triple, bond_s, bond?s, bond?k, elided, link_s, link_k, digit_s, Line, start, link, ring, spell, join_event, aromatics, aliphatics}
 use Rattle.grammar.specs.Grammar as grammar
@@ -53,7 +54,7 @@ pub trees_spelled : (spell open_ring ≡ bytes "C1") × (spell unlike_ends ≡ b
 unfolding bare_c open_ring unlike_ends square_h spell atom_s organic_s head_s isotope_s symbol_s chiral_s class1 class2 hcount_s charge_s map_s digit_s rnum_s bond?s bond_s link_s
 trees_spelled = (refl, refl, refl)
 
-pub trees_answered : (read_text (bytes "C1") room room ≡ read_refusing (answer.Rnum 0) room room) × (read_text (bytes "C=1CC#1") room room ≡ read_refusing (answer.Join 2 0) room room) × (read_text (bytes "C[C@SP1H]") room room ≡ read_refusing (answer.Inversion 1) room room)
+pub trees_answered : (read_text (bytes "C1") room room ≡ read_refusing (Err (answer.Rnum 0)) room room) × (read_text (bytes "C=1CC#1") room room ≡ read_refusing (Err (answer.Join 2 0)) room room) × (read_text (bytes "C[C@SP1H]") room room ≡ read_refusing (Err (answer.Inversion 1)) room room)
 unfolding place_of names begins peek_at digit_of digit_at missing_at bracket_at aromatic_of aliphatic_of optional_at organic_at star_at or_else other_at atom_at mark_width rnum_at after_charge after_configuration after_hydrogens after_isotope after_map after_symbol charge_at close_at configuration_at configured digit_step hydrogens_at inside_at isotope_at map_at number_at signed_at slip symbol_at symbol_of fifteen_at short_at long_at late_at square_at allene_at sign_kind bond_at lesser_of led_at body_of body_at miss_p found_p atom_p ring_p union_by union_p unit_by unit_p line_p close_p branch_p bodies end_p parse next_number count_of upd edges_at add_edge waits open_kind fill_edges fill lookup ring_freed root_s bonded_s extend_s opened_s closed_s first_of ring_s join_s enter_s number_s missed_s step_s run_s sketch_of open_here open_in first_open_s rings_say says_s finish_s invert_of invert_bracket code_of reverse_of is_directional reconcile_of wanted_at octahedral_at trigonal_at judged_s left_s read_refusal built_answer whole_of whole_or_refused read_text
 trees_answered = (refl, refl, refl)
 

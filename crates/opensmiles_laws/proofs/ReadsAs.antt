@@ -16,8 +16,10 @@ use Rattle.read_token.specs.declared.scanner.Missing.TheVariants as missing
 use Rattle.read_line.specs.Events.{ReadEvent, Enter, Join, Pop, Miss, Nest}
 use Rattle.read_line.specs.Parse.{parse}
 use Rattle.builder_meaning.specs.Sketch.{Node, Held, Failure, None, Failed, Sketch, next_number, count_of, first_open_s, rings_say, says_s, finish_s, sketch_of, atom_table, bond_table, padded, left_s}
-use Rattle.read.specs.declared.Answer.{Answer}
-use Rattle.read.specs.declared.Answer.TheVariants as answer
+use Rattle.std.specs.Prelude.{Err, Ok}
+use Rattle.read.specs.Read.{graph_size}
+use Rattle.read.specs.Read.{Answer}
+use Rattle.read.specs.declared.ReadError.TheVariants as answer
 use Rattle.read.specs.Read.{Said, said, read_refusal, built_answer}
 use Rattle.read.specs.Line.{read_refusing, whole_of, whole_or_refused, read_text}
 use Rattle.grammar.specs.Grammar.{meaning}
@@ -34,7 +36,7 @@ use Rattle.opensmiles_laws.proofs.Room.{roomy_runs, runs_roomy}
 
 -- ---- what is said of a reading
 module _ (s : List ℕ) (la lb : ℕ) where
-  pub long_line : text_limit < length s → read_text s la lb ≡ read_refusing (answer.TextTooLong (length s)) la lb
+  pub long_line : text_limit < length s → read_text s la lb ≡ read_refusing (Err (answer.TextTooLong (length s))) la lb
   unfolding read_text
   long_line h = rw (lt-ltb text_limit (length s) h)
 
@@ -53,7 +55,7 @@ module _ (d : Sketch) (la lb : ℕ) where
   unfolding whole_or_refused
   whole_graph h = ap (λ (b : Bool). pick b (whole_of d la lb) (read_refusing (read_refusal d.refusal d.carried) la lb)) (eq-eqb d.refusal 0 h)
 
-  broken_graph : (x y : ℕ) → d.refusal ≡ 0 → d.failure ≡ Failed x y → whole_or_refused d la lb ≡ read_refusing (answer.Join x y) la lb
+  broken_graph : (x y : ℕ) → d.refusal ≡ 0 → d.failure ≡ Failed x y → whole_or_refused d la lb ≡ read_refusing (Err (answer.Join x y)) la lb
   unfolding whole_of finish_s
   broken_graph x y h f =
       whole_graph h
@@ -70,13 +72,13 @@ module _ (d : Sketch) (la lb : ℕ) where
       ∙ ap (λ (g : Failure). said (built_answer (says_s g d.nodes) (next_number d) (count_of d.nodes)) (left_s (says_s g d.nodes) la (atom_table d.nodes)) (left_s (says_s g d.nodes) lb (bond_table d.nodes))) f
       ∙ (unfold says_s in refl)
 
-  open_graph : (j : ℕ) → d.refusal ≡ 0 → d.failure ≡ None → first_open_s d.nodes ≡ some j → whole_or_refused d la lb ≡ read_refusing (answer.Rnum j) la lb
+  open_graph : (j : ℕ) → d.refusal ≡ 0 → d.failure ≡ None → first_open_s d.nodes ≡ some j → whole_or_refused d la lb ≡ read_refusing (Err (answer.Rnum j)) la lb
   open_graph j h f o = ended_graph h f ∙ ap ended o ∙ (unfold ended rings_say built_answer left_s in refl)
 
   done_graph : d.refusal ≡ 0 → d.failure ≡ None → d.unseen ≡ 0 → first_open_s d.nodes ≡ none → whole_or_refused d la lb ≡ done_said la lb d.nodes
   done_graph h f u o =
       ended_graph h f ∙ ap ended o
-      ∙ (unfold ended rings_say built_answer left_s in ap (λ (n : ℕ). said (answer.Done n (count_of d.nodes)) (padded la (atom_table d.nodes)) (padded lb (bond_table d.nodes))) numbers)
+      ∙ (unfold ended rings_say built_answer left_s in ap (λ (n : ℕ). said (Ok (graph_size n (count_of d.nodes))) (padded la (atom_table d.nodes)) (padded lb (bond_table d.nodes))) numbers)
     where
       numbers : next_number d ≡ length d.nodes
       numbers = unfold next_number in omega (arith, u)
@@ -147,16 +149,16 @@ runs_clean p l [] o n r = tt
 runs_clean p l (Enter b k at ∷ es) o n r = runs_clean p l es _ _ r.1
 runs_clean p l (Join e i at ∷ es) o n r = runs_clean p l es _ _ r.1
 runs_clean p l (Pop i ∷ es) o n r = runs_clean p l es _ _ r.1
-runs_clean p l (Miss missing.EndOfLine ∷ es) o n r = r.0 answer.EndOfLine (stops.ends o n)
-runs_clean p l (Miss (missing.Character at) ∷ es) o n r = r.0 (answer.Character at) (wrong o n at)
-runs_clean p l (Nest at ∷ es) o n r = r.0 (answer.Nesting at) (deep o n at)
+runs_clean p l (Miss missing.EndOfLine ∷ es) o n r = r.0 (Err answer.EndOfLine) (stops.ends o n)
+runs_clean p l (Miss (missing.Character at) ∷ es) o n r = r.0 (Err (answer.Character at)) (wrong o n at)
+runs_clean p l (Nest at ∷ es) o n r = r.0 (Err (answer.Nesting at)) (deep o n at)
 
 -- ---- what a text's reading comes to
 pub data ReadsAs (s : List ℕ) (la lb : ℕ) : Said → Type 0 where
-  long : text_limit < length s → ReadsAs s la lb (read_refusing (answer.TextTooLong (length s)) la lb)
+  long : text_limit < length s → ReadsAs s la lb (read_refusing (Err (answer.TextTooLong (length s))) la lb)
   halts : length s ≤ text_limit → (a : Answer) → Stops (places_in la) (bond_slots_in lb) begun 0 (parse s) a → ReadsAs s la lb (read_refusing a la lb)
-  disagrees : (x y : ℕ) → DisagreeAs s la lb x y → ReadsAs s la lb (read_refusing (answer.Join x y) la lb)
-  opens : (j : ℕ) → OpenAs s la lb j → ReadsAs s la lb (read_refusing (answer.Rnum j) la lb)
+  disagrees : (x y : ℕ) → DisagreeAs s la lb x y → ReadsAs s la lb (read_refusing (Err (answer.Join x y)) la lb)
+  opens : (j : ℕ) → OpenAs s la lb j → ReadsAs s la lb (read_refusing (Err (answer.Rnum j)) la lb)
   done : (ns : List Node) → DoneAs s la lb ns → ReadsAs s la lb (done_said la lb ns)
 
 pub clash_some : {P : Type 0} (o : Option Molecule) (m : Molecule) → o ≡ none → o ≡ some m → P
@@ -225,10 +227,10 @@ module _ (s : List ℕ) (la lb : ℕ) where
         by (ran q z f u t) = let e = same_atoms _ _ _ t i in done_graph (sketch_of s la lb) la lb z f u (ap first_open_s e ∙ c) ∙ ap (done_said la lb) e
         by (broke v w q z f g t) = clash_some _ x t i
 
-    open_by : (j : ℕ) → first_open_s x.atoms ≡ some j → read_text s la lb ≡ read_refusing (answer.Rnum j) la lb
+    open_by : (j : ℕ) → first_open_s x.atoms ≡ some j → read_text s la lb ≡ read_refusing (Err (answer.Rnum j)) la lb
     open_by j c = short_line s la lb short ∙ by (text_ran s la lb)
       where
-        by : Ran (places_in la) (bond_slots_in lb) begun 0 (parse s) (sketch_of s la lb) → whole_or_refused (sketch_of s la lb) la lb ≡ read_refusing (answer.Rnum j) la lb
+        by : Ran (places_in la) (bond_slots_in lb) begun 0 (parse s) (sketch_of s la lb) → whole_or_refused (sketch_of s la lb) la lb ≡ read_refusing (Err (answer.Rnum j)) la lb
         by (stopped a q t) = absurd (runs_stops (places_in la) (bond_slots_in lb) (parse s) begun 0 a r q)
         by (ran q z f u t) = let e = same_atoms _ _ _ t i in open_graph (sketch_of s la lb) la lb j z f (ap first_open_s e ∙ c)
         by (broke v w q z f g t) = clash_some _ x t i
@@ -241,7 +243,7 @@ module _ (s : List ℕ) (la lb : ℕ) where
       by (ran q z f u t) = absurd (runs_stops (places_in la) (bond_slots_in lb) (parse s) begun 0 a q st)
       by (broke v w q z f g t) = absurd (runs_stops (places_in la) (bond_slots_in lb) (parse s) begun 0 a q st)
 
-  disagrees_by : (x y : ℕ) → DisagreeAs s la lb x y → read_text s la lb ≡ read_refusing (answer.Join x y) la lb
+  disagrees_by : (x y : ℕ) → DisagreeAs s la lb x y → read_text s la lb ≡ read_refusing (Err (answer.Join x y)) la lb
   disagrees_by x y w = short_line s la lb w.line.short ∙ by (text_ran s la lb)
     where
       p : parse s ≡ meaning w.line.tree
@@ -250,12 +252,12 @@ module _ (s : List ℕ) (la lb : ℕ) where
       first : Disagree begun (parse s) x y
       first = subst (λ (es : List ReadEvent). Disagree begun es x y) (sym p) w.first
 
-      by : Ran (places_in la) (bond_slots_in lb) begun 0 (parse s) (sketch_of s la lb) → whole_or_refused (sketch_of s la lb) la lb ≡ read_refusing (answer.Join x y) la lb
+      by : Ran (places_in la) (bond_slots_in lb) begun 0 (parse s) (sketch_of s la lb) → whole_or_refused (sketch_of s la lb) la lb ≡ read_refusing (Err (answer.Join x y)) la lb
       by (stopped b q t) = absurd (runs_stops (places_in la) (bond_slots_in lb) (parse s) begun 0 b (subst (Runs (places_in la) (bond_slots_in lb) begun 0) (sym p) w.runs) q)
       by (ran q z f u t) = clash_some _ _ (disagree_told (parse s) begun x y first) t
       by (broke v k q z f g t) =
           let e = disagree_one (parse s) begun v k x y g first in
-          broken_graph (sketch_of s la lb) la lb v k z f ∙ ap (λ (i : ℕ). read_refusing (answer.Join i k) la lb) e.0 ∙ ap (λ (i : ℕ). read_refusing (answer.Join x i) la lb) e.1
+          broken_graph (sketch_of s la lb) la lb v k z f ∙ ap (λ (i : ℕ). read_refusing (Err (answer.Join i k)) la lb) e.0 ∙ ap (λ (i : ℕ). read_refusing (Err (answer.Join x i)) la lb) e.1
 
   module _ (w : Whole s) (ns : List Node) (r : Roomy w.tree la lb ns) where
     made : tell_all as_held begun (parse s) ≡ some r.whole

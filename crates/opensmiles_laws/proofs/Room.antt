@@ -19,8 +19,9 @@ use Rattle.feature.specs.Bonds.{reverse_of}
 use Rattle.feature.proofs.Cases.{impossible}
 use Rattle.builder_meaning.specs.Sketch.{To, Held, edge, node, count_of, upd, lookup, add_edge, fill}
 use Rattle.builder_meaning.proofs.Rows.{upd_length, count_append, count_add, count_fill}
-use Rattle.read.specs.declared.Answer.{Answer}
-use Rattle.read.specs.declared.Answer.TheVariants as answer
+use Rattle.std.specs.Prelude.{Err}
+use Rattle.read.specs.Read.{Answer}
+use Rattle.read.specs.declared.ReadError.TheVariants as answer
 use Rattle.opensmiles_laws.specs.Molecule.{Molecule, atom_placed, closed, molecule_ringed, numbered, as_held, molecule_told, next, tell_all, molecule_of}
 use Rattle.opensmiles_laws.specs.Stops.{Unturnable, Turnable, Meets, no_place, no_slots, not_turned, no_slot, not_turned_after, ends, wrong, deep, Passes, atoms_named, Runs, Stops, begun}
 use Rattle.opensmiles_laws.proofs.Steps.{grown_length}
@@ -112,7 +113,7 @@ module _ (p l : ℕ) (m : Molecule) (n : ℕ) where
   pass_place b k at h = by (leb p n) refl
     where
       by : (t : Bool) → leb p n ≡ t → n < p
-      by true q = absurd (h (answer.AtomRoom at) (no_place m n b k at (leb-true p n q)))
+      by true q = absurd (h (Err (answer.AtomRoom at)) (no_place m n b k at (leb-true p n q)))
       by false q = leb-false p n q
 
   pass_slots : (e : BondKind) (k : AtomKind) (at : ℕ) → Passes p l (some m) n (Enter (Bond e) k at) → count_of m.atoms + 2 ≤ l
@@ -120,19 +121,19 @@ module _ (p l : ℕ) (m : Molecule) (n : ℕ) where
   pass_slots e k at h = by (ltb l (count_of m.atoms + 2)) refl
     where
       by : (t : Bool) → ltb l (count_of m.atoms + 2) ≡ t → count_of m.atoms + 2 ≤ l
-      by true q = absurd (h (answer.BondRoom at) (no_slots m n e k at (pass_place (Bond e) k at h) (ltb-true l _ q)))
+      by true q = absurd (h (Err (answer.BondRoom at)) (no_slots m n e k at (pass_place (Bond e) k at h) (ltb-true l _ q)))
       by false q = ltb-false l _ q
 
   pass_mark : (e : BondKind) (k : AtomKind) (at : ℕ) → Passes p l (some m) n (Enter (Bond e) k at) → ¬ Unturnable k
   unfolding Passes
-  pass_mark e k at h u = h (answer.Inversion n) (not_turned m n e k at (pass_place (Bond e) k at h) (pass_slots e k at h) u)
+  pass_mark e k at h u = h (Err (answer.Inversion n)) (not_turned m n e k at (pass_place (Bond e) k at h) (pass_slots e k at h) u)
 
   pass_slot : (e : BondKind) (r at : ℕ) (x : Molecule) → molecule_told as_held m (Join e r at) ≡ some x → Passes p l (some m) n (Join e r at) → count_of m.atoms + 1 ≤ l
   unfolding Passes
   pass_slot e r at x t h = by (ltb l (count_of m.atoms + 1)) refl
     where
       by : (t : Bool) → ltb l (count_of m.atoms + 1) ≡ t → count_of m.atoms + 1 ≤ l
-      by true q = absurd (h (answer.BondRoom at) (no_slot m x n e r at t (ltb-true l _ q)))
+      by true q = absurd (h (Err (answer.BondRoom at)) (no_slot m x n e r at t (ltb-true l _ q)))
       by false q = ltb-false l _ q
 
 -- ---- all events that make a molecule
@@ -214,9 +215,9 @@ module _ (p l : ℕ) where
 
   -- ---- what stops the events of a molecule: too many atoms, too many entries, or a mark
   pub data Excess (w : Molecule) (es : List ReadEvent) : Answer → Type 0 where
-    places : (at : ℕ) → p < length w.atoms → Excess w es (answer.AtomRoom at)
-    slots : (at : ℕ) → l < count_of w.atoms → Excess w es (answer.BondRoom at)
-    marks : (n : ℕ) → Excess w es (answer.Inversion n)
+    places : (at : ℕ) → p < length w.atoms → Excess w es (Err (answer.AtomRoom at))
+    slots : (at : ℕ) → l < count_of w.atoms → Excess w es (Err (answer.BondRoom at))
+    marks : (n : ℕ) → Excess w es (Err (answer.Inversion n))
 
   excess_on : (w : Molecule) (e : ReadEvent) (es : List ReadEvent) (a : Answer) → Excess w es a → Excess w (e ∷ es) a
   excess_on w e es _ (places at h) = places at h

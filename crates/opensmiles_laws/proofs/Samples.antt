@@ -5,7 +5,8 @@ use mathlib.Core.List.{List, [], ◌++◌}
 use native.Mathlib.Omega.{arith}
 use lib.ListN.{length, length-append}
 use Rattle.feature.specs.Text.{bytes}
-use Rattle.read.specs.declared.Answer.TheVariants as answer
+use Rattle.std.specs.Prelude.{Err}
+use Rattle.read.specs.declared.ReadError.TheVariants as answer
 use Rattle.read.specs.Read.{Said}
 use Rattle.read.specs.Line.{read_refusing, read_text}
 use Rattle.opensmiles_laws.proofs.ReadsAs.{long, reads_as_said}
@@ -24,8 +25,8 @@ length_times (suc n) x h = length-append x (times n x) ∙ omega (arith, h, leng
 abbrev pub many_digits : List ℕ
 many_digits = times 1000 (bytes "[000C:000]")
 
-pub many_digits_lem : (la lb : ℕ) → (read_text many_digits la lb).answer ≡ answer.TextTooLong 10000
+pub many_digits_lem : (la lb : ℕ) → (read_text many_digits la lb).answer ≡ Err (answer.TextTooLong 10000)
 many_digits_lem la lb =
     let n : length many_digits ≡ 10000 = length_times 1000 (bytes "[000C:000]") refl in
-    ap (λ (x : Said). x.answer) (reads_as_said many_digits la lb (read_refusing (answer.TextTooLong (length many_digits)) la lb) (long (omega (arith, n))))
-    ∙ ap (λ (i : ℕ). answer.TextTooLong i) n
+    ap (λ (x : Said). x.answer) (reads_as_said many_digits la lb (read_refusing (Err (answer.TextTooLong (length many_digits))) la lb) (long (omega (arith, n))))
+    ∙ ap (λ (i : ℕ). (Err (answer.TextTooLong i))) n

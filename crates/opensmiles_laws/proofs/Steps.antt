@@ -11,8 +11,8 @@ use borrow.Author.Tests.{ltb-true, ltb-false, leb-true, leb-false}
 use Rattle.feature.specs.Pick.{pick}
 use Rattle.feature.specs.Kinds.{invert_of, turned_or}
 use Rattle.feature.specs.declared.atom_kind.AtomKind.{AtomKind}
-use Rattle.feature.specs.declared.atom_kind.Inverted.{Inverted}
-use Rattle.feature.specs.declared.atom_kind.Inverted.TheVariants.{Turned, Refused}
+use Rattle.std.specs.Prelude as std
+use Rattle.std.specs.Prelude.{Some}
 use Rattle.feature.specs.declared.bond_kind.BondKind.{BondKind}
 use Rattle.feature.proofs.Cases.{by_test, impossible}
 use Rattle.desk_numbers.specs.Numbers.{inversion, atom_room, bond_room, nesting}
@@ -22,8 +22,9 @@ use Rattle.read_line.specs.declared.lead.Lead.TheVariants.{Dot, Bond}
 use Rattle.read_line.specs.Events.{ReadEvent, Enter, Join, Pop, Miss, Nest}
 use Rattle.builder_meaning.specs.Sketch.{Node, Held, Failure, None, Failed, Sketch, node, refused, next_number, count_of, upd, edges_at, open_kind, lookup, first_of, root_s, bonded_s, extend_s, opened_s, closed_s, ring_s, join_s, judged_s, enter_s, number_s, missed_s, step_s}
 use Rattle.builder_meaning.proofs.Rows.{upd_length}
-use Rattle.read.specs.declared.Answer.{Answer}
-use Rattle.read.specs.declared.Answer.TheVariants as answer
+use Rattle.std.specs.Prelude.{Err}
+use Rattle.read.specs.Read.{Answer}
+use Rattle.read.specs.declared.ReadError.TheVariants as answer
 use Rattle.read.specs.Read.{read_refusal}
 use Rattle.opensmiles_laws.specs.Molecule.{Molecule, molecule, atom_placed, agreed, closed, molecule_ringed, numbered, as_held, molecule_told}
 use Rattle.opensmiles_laws.proofs.Joined.{ends, reconciled}
@@ -61,27 +62,27 @@ pub data Stepped (p l : ℕ) (m : Molecule) (n : ℕ) (e : ReadEvent) (depth : �
   passes : Passes p l (some m) n e → molecule_told as_held m e ≡ some (molecule_in d) → Beside p l d (atoms_named n e) depth → Stepped p l m n e depth d
   breaks : (x y : ℕ) → Passes p l (some m) n e → Fails (some m) e x y → molecule_told as_held m e ≡ none → Broken d (atoms_named n e) x y → Stepped p l m n e depth d
 
-room_told : (d : Sketch) (at : ℕ) → Told (refused d atom_room at) (answer.AtomRoom at)
+room_told : (d : Sketch) (at : ℕ) → Told (refused d atom_room at) (Err (answer.AtomRoom at))
 unfolding read_refusal
 room_told d at = record { refused = λ h. omega (arith, h); is = refl }
 
-slot_told : (d : Sketch) (at : ℕ) → Told (refused d bond_room at) (answer.BondRoom at)
+slot_told : (d : Sketch) (at : ℕ) → Told (refused d bond_room at) (Err (answer.BondRoom at))
 unfolding read_refusal
 slot_told d at = record { refused = λ h. omega (arith, h); is = refl }
 
-mark_told : (d : Sketch) (i n : ℕ) → i ≡ n → Told (refused d inversion i) (answer.Inversion n)
+mark_told : (d : Sketch) (i n : ℕ) → i ≡ n → Told (refused d inversion i) (Err (answer.Inversion n))
 unfolding read_refusal
-mark_told d i n e = record { refused = λ h. omega (arith, h); is = ap (λ (x : ℕ). answer.Inversion x) e }
+mark_told d i n e = record { refused = λ h. omega (arith, h); is = ap (λ (x : ℕ). (Err (answer.Inversion x))) e }
 
-missed_told : (d : Sketch) → Told (missed_s d missing.EndOfLine) answer.EndOfLine
+missed_told : (d : Sketch) → Told (missed_s d missing.EndOfLine) (Err answer.EndOfLine)
 unfolding read_refusal missed_s
 missed_told d = record { refused = λ h. omega (arith, h); is = refl }
 
-wrong_told : (d : Sketch) (at : ℕ) → Told (missed_s d (missing.Character at)) (answer.Character at)
+wrong_told : (d : Sketch) (at : ℕ) → Told (missed_s d (missing.Character at)) (Err (answer.Character at))
 unfolding read_refusal missed_s
 wrong_told d at = record { refused = λ h. omega (arith, h); is = refl }
 
-nest_told : (d : Sketch) (at : ℕ) → Told (refused d nesting at) (answer.Nesting at)
+nest_told : (d : Sketch) (at : ℕ) → Told (refused d nesting at) (Err (answer.Nesting at))
 unfolding read_refusal
 nest_told d at = record { refused = λ h. omega (arith, h); is = refl }
 
@@ -104,17 +105,17 @@ module _ (p l : ℕ) (d : Sketch) (n depth : ℕ) (b : Beside p l d n depth) whe
   unfolding root_s molecule_told atom_placed as_held atoms_named
   root_step k at =
       by_test (Stepped p l (molecule_in d) n (Enter Dot k at) (depth + 1)) (leb d.places (next_number d))
-      (λ q. halts (answer.AtomRoom at) (no_place (molecule_in d) n Dot k at (omega (arith, leb-true d.places (next_number d) q, numbers, b.places))) (room_told d at))
+      (λ q. halts (Err (answer.AtomRoom at)) (no_place (molecule_in d) n Dot k at (omega (arith, leb-true d.places (next_number d) q, numbers, b.places))) (room_told d at))
       (λ q. passes (dot_passes p l (molecule_in d) n k at (omega (arith, leb-false d.places (next_number d) q, numbers, b.places))) (rw long)
       (record { places = b.places; slots = b.slots; going = b.going; sound = b.sound; seen = b.seen; number = length-append d.nodes (node k [] ∷ []) ∙ ap (λ (i : ℕ). i + 1) b.number; level = omega (arith, b.level) }))
 
-  bonded_step : (e : BondKind) (k : AtomKind) (at s : ℕ) (path : List ℕ) (i : Inverted) → d.path ≡ s ∷ path → invert_of k ≡ i → n < p → count_of d.nodes + 2 ≤ l
+  bonded_step : (e : BondKind) (k : AtomKind) (at s : ℕ) (path : List ℕ) (i : std.Option AtomKind) → d.path ≡ s ∷ path → invert_of k ≡ i → n < p → count_of d.nodes + 2 ≤ l
       → Stepped p l (molecule_in d) n (Enter (Bond e) k at) (depth + 1) (bonded_s d e s i)
   unfolding bonded_s molecule_told atom_placed as_held turned_or atoms_named
-  bonded_step e k at s path Refused h i g f =
-      halts (answer.Inversion n) (not_turned (molecule_in d) n e k at g f (refused_unturnable k i)) (mark_told d (next_number d) n numbers)
-  bonded_step e k at s path (Turned j) h i g f =
-      passes (bond_passes p l (molecule_in d) n e k at g f (turned_turnable k j i)) (ap (λ (z : Inverted). atom_placed (molecule_in d) (Bond e) (turned_or k z) d.path) i ∙ ap (atom_placed (molecule_in d) (Bond e) j) h ∙ (rw (long, h)))
+  bonded_step e k at s path std.None h i g f =
+      halts (Err (answer.Inversion n)) (not_turned (molecule_in d) n e k at g f (refused_unturnable k i)) (mark_told d (next_number d) n numbers)
+  bonded_step e k at s path (Some j) h i g f =
+      passes (bond_passes p l (molecule_in d) n e k at g f (turned_turnable k j i)) (ap (λ (z : std.Option AtomKind). atom_placed (molecule_in d) (Bond e) (turned_or k z) d.path) i ∙ ap (atom_placed (molecule_in d) (Bond e) j) h ∙ (rw (long, h)))
       (record { places = b.places; slots = b.slots; going = b.going; sound = b.sound; seen = b.seen; number = grown_length s _ d.nodes _ ∙ ap (λ (i : ℕ). i + 1) b.number; level = omega (arith, b.level) })
 
   extend_step : (e : BondKind) (k : AtomKind) (at : ℕ) (path : List ℕ) → d.path ≡ path → 0 < length path → Stepped p l (molecule_in d) n (Enter (Bond e) k at) (depth + 1) (extend_s d e k at path)
@@ -122,10 +123,10 @@ module _ (p l : ℕ) (d : Sketch) (n depth : ℕ) (b : Beside p l d n depth) whe
   extend_step e k at [] h z = absurd (omega (arith, z))
   extend_step e k at (s ∷ path) h z =
       by_test (Stepped p l (molecule_in d) n (Enter (Bond e) k at) (depth + 1)) (leb d.places (next_number d))
-      (λ q. halts (answer.AtomRoom at) (no_place (molecule_in d) n (Bond e) k at (omega (arith, leb-true d.places (next_number d) q, numbers, b.places))) (room_told d at))
+      (λ q. halts (Err (answer.AtomRoom at)) (no_place (molecule_in d) n (Bond e) k at (omega (arith, leb-true d.places (next_number d) q, numbers, b.places))) (room_told d at))
       (λ q. let g : n < p = omega (arith, leb-false d.places (next_number d) q, numbers, b.places) in
       by_test (Stepped p l (molecule_in d) n (Enter (Bond e) k at) (depth + 1)) (ltb d.slots (count_of d.nodes + 2))
-      (λ r. halts (answer.BondRoom at) (no_slots (molecule_in d) n e k at g (omega (arith, ltb-true d.slots (count_of d.nodes + 2) r, b.slots))) (slot_told d at))
+      (λ r. halts (Err (answer.BondRoom at)) (no_slots (molecule_in d) n e k at g (omega (arith, ltb-true d.slots (count_of d.nodes + 2) r, b.slots))) (slot_told d at))
       (λ r. bonded_step e k at s path (invert_of k) h refl g (omega (arith, ltb-false d.slots (count_of d.nodes + 2) r, b.slots))))
 
   -- an entry for a ring number, if there is a slot
@@ -134,7 +135,7 @@ module _ (p l : ℕ) (d : Sketch) (n depth : ℕ) (b : Beside p l d n depth) whe
   unfolding atoms_named
   slot_step e r at d' t c =
       by_test (Stepped p l (molecule_in d) n (Join e r at) depth) (ltb d.slots (count_of d.nodes + 1))
-      (λ q. halts (answer.BondRoom at) (no_slot (molecule_in d) (molecule_in d') n e r at t (omega (arith, ltb-true d.slots (count_of d.nodes + 1) q, b.slots))) (slot_told d at))
+      (λ q. halts (Err (answer.BondRoom at)) (no_slot (molecule_in d) (molecule_in d') n e r at t (omega (arith, ltb-true d.slots (count_of d.nodes + 1) q, b.slots))) (slot_told d at))
       (λ q. passes (join_passes p l (molecule_in d) n e r at (λ x h. omega (arith, ltb-false d.slots (count_of d.nodes + 1) q, b.slots))) t c)
 
   closed_step : (e : BondKind) (r at s : ℕ) (path : List ℕ) (h : Held) (o : Option BondKind) → d.path ≡ s ∷ path → lookup r d.opens ≡ some h
@@ -163,8 +164,8 @@ module _ (p l : ℕ) (d : Sketch) (n depth : ℕ) (b : Beside p l d n depth) whe
   join_step e r at (s ∷ path) h z = ring_step e r at s path (lookup r d.opens) h refl (unfold molecule_told numbered in rw h)
 
   missed_step : (x : Missing) → Stepped p l (molecule_in d) n (Miss x) depth (missed_s d x)
-  missed_step missing.EndOfLine = halts answer.EndOfLine (stops.ends (some (molecule_in d)) n) (missed_told d)
-  missed_step (missing.Character at) = halts (answer.Character at) (wrong (some (molecule_in d)) n at) (wrong_told d at)
+  missed_step missing.EndOfLine = halts (Err answer.EndOfLine) (stops.ends (some (molecule_in d)) n) (missed_told d)
+  missed_step (missing.Character at) = halts (Err (answer.Character at)) (wrong (some (molecule_in d)) n at) (wrong_told d at)
 
   -- the next event, where there is a current atom if one is needed
   pub dot_step : (k : AtomKind) (at : ℕ) → Stepped p l (molecule_in d) n (Enter Dot k at) (depth + 1) (step_s d (Enter Dot k at))
@@ -191,7 +192,7 @@ module _ (p l : ℕ) (d : Sketch) (n depth : ℕ) (b : Beside p l d n depth) whe
 
   pub nest_step : (at : ℕ) → Stepped p l (molecule_in d) n (Nest at) depth (step_s d (Nest at))
   unfolding step_s
-  nest_step at = halts (answer.Nesting at) (deep (some (molecule_in d)) n at) (nest_told d at)
+  nest_step at = halts (Err (answer.Nesting at)) (deep (some (molecule_in d)) n at) (nest_told d at)
 
 -- ---- after a failed join
 pub data Numb (p l n x y : ℕ) (e : ReadEvent) (d : Sketch) : Type 0 where
@@ -205,14 +206,14 @@ module _ (p l : ℕ) (d : Sketch) (n x y : ℕ) (b : Broken d n x y) where
   failing : (P : Sketch → Type 0) (f : Failure → Sketch) → P (f (Failed x y)) → P (f d.failure)
   failing P f h = subst (λ (g : Failure). P (f g)) (sym b.failed) h
 
-  judged_numb : (e : BondKind) (k : AtomKind) (at : ℕ) (i : Inverted) → invert_of k ≡ i → Numb p l n x y (Enter (Bond e) k at) (judged_s d i)
+  judged_numb : (e : BondKind) (k : AtomKind) (at : ℕ) (i : std.Option AtomKind) → invert_of k ≡ i → Numb p l n x y (Enter (Bond e) k at) (judged_s d i)
   unfolding judged_s atoms_named
-  judged_numb e k at Refused h = halts (answer.Inversion n) (not_turned_after n e k at (refused_unturnable k h)) (mark_told d (next_number d) n b.number)
-  judged_numb e k at (Turned j) h = passes (bond_after p l n e k at (turned_turnable k j h)) (record { going = b.going; failed = b.failed; number = unfold next_number in one_more })
+  judged_numb e k at std.None h = halts (Err (answer.Inversion n)) (not_turned_after n e k at (refused_unturnable k h)) (mark_told d (next_number d) n b.number)
+  judged_numb e k at (Some j) h = passes (bond_after p l n e k at (turned_turnable k j h)) (record { going = b.going; failed = b.failed; number = unfold next_number in one_more })
 
   missed_numb : (m : Missing) → Numb p l n x y (Miss m) (missed_s d m)
-  missed_numb missing.EndOfLine = halts answer.EndOfLine (stops.ends none n) (missed_told d)
-  missed_numb (missing.Character at) = halts (answer.Character at) (wrong none n at) (wrong_told d at)
+  missed_numb missing.EndOfLine = halts (Err answer.EndOfLine) (stops.ends none n) (missed_told d)
+  missed_numb (missing.Character at) = halts (Err (answer.Character at)) (wrong none n at) (wrong_told d at)
 
   pub numb_step : (e : ReadEvent) → Numb p l n x y e (step_s d e)
   unfolding step_s enter_s number_s atoms_named
@@ -221,4 +222,4 @@ module _ (p l : ℕ) (d : Sketch) (n x y : ℕ) (b : Broken d n x y) where
   numb_step (Join e r at) = failing (Numb p l n x y (Join e r at)) (number_s d e r at) (passes (join_after p l n e r at) b)
   numb_step (Pop i) = passes (pop_passes p l none n i) (record { going = b.going; failed = b.failed; number = unfold next_number in b.number })
   numb_step (Miss m) = missed_numb m
-  numb_step (Nest at) = halts (answer.Nesting at) (deep none n at) (nest_told d at)
+  numb_step (Nest at) = halts (Err (answer.Nesting at)) (deep none n at) (nest_told d at)

@@ -13,7 +13,7 @@ use Rattle.read_line.specs.declared.lead.Lead.TheVariants.{Dot, Bond}
 use Rattle.read_line.specs.Events.{ReadEvent, Enter, Join, Pop, Miss, Nest}
 use Rattle.read_line.specs.Parse.{parse}
 use Rattle.builder_meaning.specs.Sketch.{None, Failed, Sketch, start_s, step_s, run_s, sketch_of}
-use Rattle.read.specs.declared.Answer.{Answer}
+use Rattle.read.specs.Read.{Answer}
 use Rattle.read.proofs.Never.{Sound, parse_sound}
 use Rattle.opensmiles_laws.specs.Molecule.{Molecule, as_held, molecule_told, next, tell_all}
 use Rattle.table.specs.Limits.{places_in, bond_slots_in}

@@ -7,8 +7,10 @@ use Rattle.std.proofs.Math.Option.{none, some}
 use Rattle.table.specs.Limits.{text_limit, branch_limit, places_in, bond_slots_in}
 use Rattle.read_line.specs.Events.{ReadEvent}
 use Rattle.builder_meaning.specs.Sketch.{Node, count_of, first_open_s, atom_table, bond_table, padded}
-use Rattle.read.specs.declared.Answer.{Answer}
-use Rattle.read.specs.declared.Answer.TheVariants as answer
+use Rattle.std.specs.Prelude.{Err, Ok}
+use Rattle.read.specs.Read.{graph_size}
+use Rattle.read.specs.Read.{Answer}
+use Rattle.read.specs.declared.ReadError.TheVariants as answer
 use Rattle.read.specs.Read.{Said, said}
 use Rattle.read.specs.Line.{read_refusing, read_text}
 use Rattle.grammar.specs.Grammar.{Line, spell, meaning}
@@ -97,17 +99,17 @@ pub record StopsAs (s : List ℕ) (la lb : ℕ) (a : Answer) : Type 0 where
 
 -- ---- WHEN EACH ANSWER IS GIVEN
 unfoldable pub When : List ℕ → ℕ → ℕ → Answer → Type 0
-When s la lb (answer.Done n m) = (ns : List Node) × DoneAs s la lb ns × (n ≡ length ns) × (m ≡ count_of ns)
-When s la lb answer.EndOfLine = EndsAs s la lb
-When s la lb (answer.Character n) = WrongAs s la lb n
-When s la lb (answer.Join x y) = DisagreeAs s la lb x y
-When s la lb (answer.Rnum j) = OpenAs s la lb j
-When s la lb (answer.Inversion n) = StopsAs s la lb (answer.Inversion n)
-When s la lb (answer.TextTooLong n) = (text_limit < length s) × (n ≡ length s)
-When s la lb (answer.AtomRoom at) = StopsAs s la lb (answer.AtomRoom at)
-When s la lb (answer.BondRoom at) = StopsAs s la lb (answer.BondRoom at)
-When s la lb (answer.Nesting n) = NestsAs s la lb n
-When s la lb answer.NoAtom = ⊥
+When s la lb (Ok size) = (ns : List Node) × DoneAs s la lb ns × (size.atoms ≡ length ns) × (size.entries ≡ count_of ns)
+When s la lb (Err answer.EndOfLine) = EndsAs s la lb
+When s la lb (Err (answer.Character n)) = WrongAs s la lb n
+When s la lb (Err (answer.Join x y)) = DisagreeAs s la lb x y
+When s la lb (Err (answer.Rnum j)) = OpenAs s la lb j
+When s la lb (Err (answer.Inversion n)) = StopsAs s la lb (Err (answer.Inversion n))
+When s la lb (Err (answer.TextTooLong n)) = (text_limit < length s) × (n ≡ length s)
+When s la lb (Err (answer.AtomRoom at)) = StopsAs s la lb (Err (answer.AtomRoom at))
+When s la lb (Err (answer.BondRoom at)) = StopsAs s la lb (Err (answer.BondRoom at))
+When s la lb (Err (answer.Nesting n)) = NestsAs s la lb n
+When s la lb (Err answer.NoAtom) = ⊥
 
 -- the read call gives each answer exactly then
 abbrev pub AnsweredExactly : Type 0
@@ -116,12 +118,12 @@ AnsweredExactly = (s : List ℕ) → Bytes s → (la lb : ℕ) (a : Answer) → 
 -- ---- WITH WHICH TABLES
 -- Of a line that is done: how many atoms and entries there are, and their tables, with zeros after them.
 abbrev pub done_said : ℕ → ℕ → List Node → Said
-done_said la lb ns = said (answer.Done (length ns) (count_of ns)) (padded la (atom_table ns)) (padded lb (bond_table ns))
+done_said la lb ns = said (Ok (graph_size (length ns) (count_of ns))) (padded la (atom_table ns)) (padded lb (bond_table ns))
 
 -- Of any other: its answer, and nothing but zeros.
 pub data SaidAs (s : List ℕ) (la lb : ℕ) : Said → Type 0 where
   said_done : (ns : List Node) → DoneAs s la lb ns → SaidAs s la lb (done_said la lb ns)
-  said_not : (a : Answer) → ((n m : ℕ) → ¬ (a ≡ answer.Done n m)) → When s la lb a → SaidAs s la lb (read_refusing a la lb)
+  said_not : (a : Answer) → ((n m : ℕ) → ¬ (a ≡ Ok (graph_size n m))) → When s la lb a → SaidAs s la lb (read_refusing a la lb)
 
 -- the read call says this with these tables exactly then
 abbrev pub SaidExactly : Type 0
@@ -140,21 +142,21 @@ MeantIsRead = (u : Chain) → Small u → FitsChain branch_limit u → length (c
 -- bonded to one before it and has a mark that can't be turned.
 pub data MeantSaid (u : Chain) (meant : List Node) (la lb : ℕ) : Said → Type 0 where
   done : (ns : List Node) → HeldFor u meant ns → MeantSaid u meant la lb (done_said la lb ns)
-  too_long : text_limit < length (chain_s u) → MeantSaid u meant la lb (read_refusing (answer.TextTooLong (length (chain_s u))) la lb)
-  too_deep : (at : ℕ) → ¬ FitsChain branch_limit u → MeantSaid u meant la lb (read_refusing (answer.Nesting at) la lb)
-  no_place : (at : ℕ) → places_in la < length meant → MeantSaid u meant la lb (read_refusing (answer.AtomRoom at) la lb)
-  no_slot : (at : ℕ) → bond_slots_in lb < count_of meant → MeantSaid u meant la lb (read_refusing (answer.BondRoom at) la lb)
-  not_turned : (n : ℕ) → Marked (says u) n → MeantSaid u meant la lb (read_refusing (answer.Inversion n) la lb)
+  too_long : text_limit < length (chain_s u) → MeantSaid u meant la lb (read_refusing (Err (answer.TextTooLong (length (chain_s u)))) la lb)
+  too_deep : (at : ℕ) → ¬ FitsChain branch_limit u → MeantSaid u meant la lb (read_refusing (Err (answer.Nesting at)) la lb)
+  no_place : (at : ℕ) → places_in la < length meant → MeantSaid u meant la lb (read_refusing (Err (answer.AtomRoom at)) la lb)
+  no_slot : (at : ℕ) → bond_slots_in lb < count_of meant → MeantSaid u meant la lb (read_refusing (Err (answer.BondRoom at)) la lb)
+  not_turned : (n : ℕ) → Marked (says u) n → MeantSaid u meant la lb (read_refusing (Err (answer.Inversion n)) la lb)
 
 abbrev pub MeantIsAnswered : Type 0
 MeantIsAnswered = (u : Chain) → Small u → (meant : List Node) → Meant u meant → (la lb : ℕ) → MeantSaid u meant la lb (read_text (chain_s u) la lb)
 
 -- A chain with a number that the reader has not is never read.
 abbrev pub BigIsRefused : Type 0
-BigIsRefused = (u : Chain) → ¬ Small u → (la lb n m : ℕ) → ¬ ((read_text (chain_s u) la lb).answer ≡ answer.Done n m)
+BigIsRefused = (u : Chain) → ¬ Small u → (la lb n m : ℕ) → ¬ ((read_text (chain_s u) la lb).answer ≡ Ok (graph_size n m))
 
 -- What is read of a strict line is what OpenSMILES means by it, as it is held, unless OpenSMILES forbids the graph.
 abbrev pub ReadIsMeant : Type 0
-ReadIsMeant = (t : Line) → Strict t → (la lb n m : ℕ) → (read_text (spell t) la lb).answer ≡ answer.Done n m
+ReadIsMeant = (t : Line) → Strict t → (la lb n m : ℕ) → (read_text (spell t) la lb).answer ≡ Ok (graph_size n m)
     → (ns : List Node) × (read_text (spell t) la lb ≡ done_said la lb ns)
     × (Allowed ns → (u : Chain) × (chain_s u ≡ spell t) × ((meant : List Node) × Meant u meant × HeldFor u meant ns))

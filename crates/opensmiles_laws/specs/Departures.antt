@@ -8,8 +8,9 @@ use Rattle.feature.specs.declared.atom_kind.AtomKind.{AtomKind}
 use Rattle.feature.specs.declared.atom_kind.AtomKind.TheVariants.{Aliphatic, Bracket}
 use Rattle.feature.specs.declared.bond_kind.BondKind.TheVariants.{Elided, Double}
 use Rattle.builder_meaning.specs.Sketch.{To, Node, edge, node}
-use Rattle.read.specs.declared.Answer.{Answer}
-use Rattle.read.specs.declared.Answer.TheVariants as answer
+use Rattle.std.specs.Prelude.{Err}
+use Rattle.read.specs.Read.{Answer}
+use Rattle.read.specs.declared.ReadError.TheVariants as answer
 use Rattle.read.specs.Read.{Said}
 use Rattle.read.specs.Line.{read_refusing}
 use Rattle.opensmiles_laws.specs.Answers.{done_said}
@@ -24,7 +25,7 @@ abbrev no : Answer → Said
 no a = read_refusing a room room
 
 abbrev wrong_byte : ℕ → Said
-wrong_byte n = no (answer.Character n)
+wrong_byte n = no (Err (answer.Character n))
 
 abbrev yes : List Node → Said
 yes ns = done_said room room ns
@@ -134,14 +135,14 @@ departure_rows =
     -- "late place", "late place, at the end", "leading zero", "no arrangement"
     ∷ (bytes "[C@TB0]", wrong_byte 6)
     ∷ (bytes "[C@OHx]", wrong_byte 6)
-    ∷ (bytes "[C@TBx", no answer.EndOfLine)
+    ∷ (bytes "[C@TBx", no (Err answer.EndOfLine))
     ∷ (bytes "[C@TB01]", wrong_byte 6)
     ∷ (bytes "[C@OH01]", wrong_byte 6)
     ∷ (bytes "[C@TB00]", wrong_byte 6)
     ∷ (bytes "[C@TB21]", wrong_byte 6)
     ∷ (bytes "[C@OH31]", wrong_byte 6)
     -- "empty line", "terminator"
-    ∷ ([], no answer.EndOfLine)
+    ∷ ([], no (Err answer.EndOfLine))
     ∷ (byte "C" ∷ byte " " ∷ [], wrong_byte 1)
     ∷ (byte "C" ∷ 9 ∷ [], wrong_byte 1)
     ∷ (byte "C" ∷ 10 ∷ [], wrong_byte 1)
@@ -151,8 +152,8 @@ departure_rows =
     ∷ (bytes "C1C1", yes joined_twice)
     ∷ (bytes "C(C)1CC1", yes tail)
     -- "single and direction"
-    ∷ (bytes "C/1CC-1", no (answer.Join 2 0))
-    ∷ (bytes "C-1CC/1", no (answer.Join 2 0))
+    ∷ (bytes "C/1CC-1", no (Err (answer.Join 2 0)))
+    ∷ (bytes "C-1CC/1", no (Err (answer.Join 2 0)))
     -- "TH marks", "TH marks, two hydrogens", "allenes", "mark not turned"
     ∷ (bytes "C[C@H]", yes (after_carbon (marked_carbon th2 1)))
     ∷ (bytes "[C@H]", only (marked_carbon th1 1))
@@ -160,5 +161,5 @@ departure_rows =
     ∷ (bytes "C[C@H2]F", yes (between (marked_carbon th2 2)))
     ∷ (bytes "C=[C@]=C", yes (cumulene (marked_carbon th1 no_hydrogens)))
     ∷ (bytes "C=[C@AL1]=C", yes (cumulene (marked_carbon (al + 1) no_hydrogens)))
-    ∷ (bytes "C[C@SP1H]", no (answer.Inversion 1))
+    ∷ (bytes "C[C@SP1H]", no (Err (answer.Inversion 1)))
     ∷ []

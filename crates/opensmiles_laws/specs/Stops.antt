@@ -12,8 +12,9 @@ use Rattle.read_line.specs.declared.lead.Lead.{Lead}
 use Rattle.read_line.specs.declared.lead.Lead.TheVariants.{Bond}
 use Rattle.read_line.specs.Events.{ReadEvent, Enter, Join, Pop, Miss, Nest}
 use Rattle.builder_meaning.specs.Sketch.{Held, count_of, lookup, open_kind, edges_at}
-use Rattle.read.specs.declared.Answer.{Answer}
-use Rattle.read.specs.declared.Answer.TheVariants as answer
+use Rattle.std.specs.Prelude.{Err}
+use Rattle.read.specs.Read.{Answer}
+use Rattle.read.specs.declared.ReadError.TheVariants as answer
 use Rattle.opensmiles_laws.specs.Molecule.{Molecule, molecule, agreed, as_held, molecule_told, next, tell_all}
 
 -- ---- MARKS
@@ -28,14 +29,14 @@ pub data Unturnable : AtomKind → Type 0 where
 -- number that opens a ring, or closes one whose ends agree: no slot (14). After two ends that don't agree only marks are judged.
 -- A missing thing and a branch too many are met wherever they come up; in no line do they.
 pub data Meets (places slots : ℕ) : Option Molecule → ℕ → ReadEvent → Answer → Type 0 where
-  no_place : (m : Molecule) (n : ℕ) (l : Lead) (k : AtomKind) (at : ℕ) → places ≤ n → Meets places slots (some m) n (Enter l k at) (answer.AtomRoom at)
-  no_slots : (m : Molecule) (n : ℕ) (e : BondKind) (k : AtomKind) (at : ℕ) → n < places → slots < count_of m.atoms + 2 → Meets places slots (some m) n (Enter (Bond e) k at) (answer.BondRoom at)
-  not_turned : (m : Molecule) (n : ℕ) (e : BondKind) (k : AtomKind) (at : ℕ) → n < places → count_of m.atoms + 2 ≤ slots → Unturnable k → Meets places slots (some m) n (Enter (Bond e) k at) (answer.Inversion n)
-  no_slot : (m x : Molecule) (n : ℕ) (e : BondKind) (r at : ℕ) → molecule_told as_held m (Join e r at) ≡ some x → slots < count_of m.atoms + 1 → Meets places slots (some m) n (Join e r at) (answer.BondRoom at)
-  not_turned_after : (n : ℕ) (e : BondKind) (k : AtomKind) (at : ℕ) → Unturnable k → Meets places slots none n (Enter (Bond e) k at) (answer.Inversion n)
-  ends : (o : Option Molecule) (n : ℕ) → Meets places slots o n (Miss missing.EndOfLine) answer.EndOfLine
-  wrong : (o : Option Molecule) (n at : ℕ) → Meets places slots o n (Miss (missing.Character at)) (answer.Character at)
-  deep : (o : Option Molecule) (n at : ℕ) → Meets places slots o n (Nest at) (answer.Nesting at)
+  no_place : (m : Molecule) (n : ℕ) (l : Lead) (k : AtomKind) (at : ℕ) → places ≤ n → Meets places slots (some m) n (Enter l k at) (Err (answer.AtomRoom at))
+  no_slots : (m : Molecule) (n : ℕ) (e : BondKind) (k : AtomKind) (at : ℕ) → n < places → slots < count_of m.atoms + 2 → Meets places slots (some m) n (Enter (Bond e) k at) (Err (answer.BondRoom at))
+  not_turned : (m : Molecule) (n : ℕ) (e : BondKind) (k : AtomKind) (at : ℕ) → n < places → count_of m.atoms + 2 ≤ slots → Unturnable k → Meets places slots (some m) n (Enter (Bond e) k at) (Err (answer.Inversion n))
+  no_slot : (m x : Molecule) (n : ℕ) (e : BondKind) (r at : ℕ) → molecule_told as_held m (Join e r at) ≡ some x → slots < count_of m.atoms + 1 → Meets places slots (some m) n (Join e r at) (Err (answer.BondRoom at))
+  not_turned_after : (n : ℕ) (e : BondKind) (k : AtomKind) (at : ℕ) → Unturnable k → Meets places slots none n (Enter (Bond e) k at) (Err (answer.Inversion n))
+  ends : (o : Option Molecule) (n : ℕ) → Meets places slots o n (Miss missing.EndOfLine) (Err answer.EndOfLine)
+  wrong : (o : Option Molecule) (n at : ℕ) → Meets places slots o n (Miss (missing.Character at)) (Err (answer.Character at))
+  deep : (o : Option Molecule) (n at : ℕ) → Meets places slots o n (Nest at) (Err (answer.Nesting at))
 
 -- an event meets nothing
 unfoldable pub Passes : ℕ → ℕ → Option Molecule → ℕ → ReadEvent → Type 0

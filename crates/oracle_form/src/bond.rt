@@ -1,33 +1,40 @@
 // A bond's kind as one byte: `e` where it is elided, else the mark that a line has for it.
-ghost use Rattle.std.specs.Prelude.{◌≤◌, length};
+ghost use Rattle.std.specs.Prelude.{◌<◌, length, OnSome};
 
-use crate::byte::{NOWHERE, after, find, peek, put};
-use feature::bond_kind::{BondKind, Coded, code, decode};
+use crate::output::Output;
+use crate::reader::Reader;
+use feature::bond_kind::BondKind;
 
-// The marks, each at its kind's number in a table. No kind has the number 0, and no text that is parsed has the byte.
-const MARKS: [u8; 9] = *b"\0e-=#$:/\\";
-
-#[derive(Clone, Copy)]
-pub struct Bond {
-    pub kind: BondKind,
-    pub next: usize,
-}
-
-pub fn print(out: &mut [u8], at: usize, k: BondKind) -> usize
-    ensures { result ≤ length out.new }
-{
-    put(out, at, peek(&MARKS, code(k) as usize))
-}
-
-pub fn parse(s: &[u8], at: usize) -> Bond {
-    match decode(find(&MARKS, 0, peek(s, at)) as u32) {
-        Coded::Kind(kind) => Bond {
-            kind,
-            next: after(at),
-        },
-        Coded::Bad => Bond {
-            kind: BondKind::Elided,
-            next: NOWHERE,
-        },
+fn mark(k: BondKind) -> u8 {
+    match k {
+        BondKind::Elided => b'e',
+        BondKind::Single => b'-',
+        BondKind::Double => b'=',
+        BondKind::Triple => b'#',
+        BondKind::Quadruple => b'$',
+        BondKind::Aromatic => b':',
+        BondKind::Up => b'/',
+        BondKind::Down => b'\\',
     }
+}
+
+pub fn put(out: &mut Output<'_>, k: BondKind) {
+    out.put(mark(k));
+}
+
+pub fn parse(r: &mut Reader<'_>) -> Option<BondKind>
+    ensures { OnSome result (length r.new.rest.now < length r.old.rest.now) }
+{
+    let kind = match r.next()? {
+        b'e' => BondKind::Elided,
+        b'-' => BondKind::Single,
+        b'=' => BondKind::Double,
+        b'#' => BondKind::Triple,
+        b'$' => BondKind::Quadruple,
+        b':' => BondKind::Aromatic,
+        b'/' => BondKind::Up,
+        b'\\' => BondKind::Down,
+        _ => return None,
+    };
+    Some(kind)
 }

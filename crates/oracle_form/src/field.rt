@@ -1,109 +1,78 @@
-// A field of a bracket atom, with the mark before it. Isotope, hydrogens and map are plain numbers, with `~` for none; configuration
-// and charge are words of a list, at the number that the field holds.
-ghost use Rattle.std.specs.Prelude.{◌≤◌, length};
+// A field of a bracket atom, with the mark before it. Isotope, hydrogens and map are plain numbers, with `~` for none;
+// configuration and charge are words, each at the number that the field holds.
+ghost use Rattle.std.specs.Prelude.{◌≡◌, ◌<◌, length, OnSome};
 
-use crate::byte::{NOWHERE, find, pass, put};
-use crate::list::{number_of, put_nth};
 use crate::number;
-
-// More words than a list has.
-const WORDS: usize = 100;
-
-#[derive(Clone, Copy)]
-pub struct Field {
-    pub value: u32,
-    pub next: usize,
-}
-
-fn missing() -> Field {
-    Field {
-        value: 0,
-        next: NOWHERE,
-    }
-}
+use crate::output::Output;
+use crate::reader::Reader;
 
 // A number, or `~` where it is the one that stands for none.
-pub fn print(out: &mut [u8], at: usize, mark: u8, n: u32, none: u32) -> usize
-    ensures { result ≤ length out.new }
-{
-    let at = put(out, at, mark);
+pub fn put_number(out: &mut Output<'_>, mark: u8, n: u32, none: u32) {
+    out.put(mark);
     if n == none {
-        return put(out, at, b'~');
+        out.put(b'~');
+    } else {
+        out.number(n as usize);
     }
-    number::print(out, at, n as usize)
 }
 
 // A number below `none`, or `none` for `~`.
-pub fn parse(s: &[u8], at: usize, mark: u8, none: u32) -> Field {
-    let at = pass(s, at, mark);
-    let absent = pass(s, at, b'~');
-    if absent < NOWHERE {
-        return Field {
-            value: none,
-            next: absent,
-        };
+pub fn parse_number(r: &mut Reader<'_>, mark: u8, none: u32) -> Option<u32>
+    ensures { OnSome result (length r.new.rest.now < length r.old.rest.now) }
+{
+    r.pass(mark)?;
+    if r.pass(b'~').is_some() {
+        return Some(none);
     }
-    let n = number::parse(s, at);
-    if (none as usize) <= n.value {
-        return missing();
-    }
-    Field {
-        value: n.value as u32,
-        next: n.next,
-    }
+    let n = number::parse_word(r)?;
+    if n < none { Some(n) } else { None }
 }
 
 // The configurations by their true names: the two letters of a class and the number in it, with `~` for none.
-const CONFIGURATIONS: [u8; 262] =
-    *b"~;TH1;TH2;AL1;AL2;SP1;SP2;SP3;TB1;TB2;TB3;TB4;TB5;TB6;TB7;TB8;TB9;TB10;TB11;TB12;TB13;TB14;TB15;\
-    TB16;TB17;TB18;TB19;TB20;OH1;OH2;OH3;OH4;OH5;OH6;OH7;OH8;OH9;OH10;OH11;OH12;OH13;OH14;OH15;OH16;\
-    OH17;OH18;OH19;OH20;OH21;OH22;OH23;OH24;OH25;OH26;OH27;OH28;OH29;OH30;";
+const CONFIGURATIONS: [&[u8]; 58] = [
+    b"~", b"TH1", b"TH2", b"AL1", b"AL2", b"SP1", b"SP2", b"SP3", b"TB1", b"TB2", b"TB3", b"TB4",
+    b"TB5", b"TB6", b"TB7", b"TB8", b"TB9", b"TB10", b"TB11", b"TB12", b"TB13", b"TB14", b"TB15",
+    b"TB16", b"TB17", b"TB18", b"TB19", b"TB20", b"OH1", b"OH2", b"OH3", b"OH4", b"OH5", b"OH6",
+    b"OH7", b"OH8", b"OH9", b"OH10", b"OH11", b"OH12", b"OH13", b"OH14", b"OH15", b"OH16", b"OH17",
+    b"OH18", b"OH19", b"OH20", b"OH21", b"OH22", b"OH23", b"OH24", b"OH25", b"OH26", b"OH27",
+    b"OH28", b"OH29", b"OH30",
+];
 
 // The charges, with `~` for none.
-const CHARGES: [u8; 91] =
-    *b"-15;-14;-13;-12;-11;-10;-9;-8;-7;-6;-5;-4;-3;-2;-1;0;1;2;3;4;5;6;7;8;9;10;11;12;13;14;15;~;";
+const CHARGES: [&[u8]; 32] = [
+    b"-15", b"-14", b"-13", b"-12", b"-11", b"-10", b"-9", b"-8", b"-7", b"-6", b"-5", b"-4",
+    b"-3", b"-2", b"-1", b"0", b"1", b"2", b"3", b"4", b"5", b"6", b"7", b"8", b"9", b"10", b"11",
+    b"12", b"13", b"14", b"15", b"~",
+];
 
-// A word of a list.
-fn print_word(out: &mut [u8], at: usize, list: &[u8], n: u32) -> usize
-    ensures { result ≤ length out.new }
+pub fn put_configuration(out: &mut Output<'_>, c: u32) {
+    out.put(b',');
+    out.put_nth(&CONFIGURATIONS, c as usize);
+}
+
+pub fn put_charge(out: &mut Output<'_>, q: u32) {
+    out.put(b',');
+    out.put_nth(&CHARGES, q as usize);
+}
+
+// A word, up to the mark of the next field, by its number among some.
+fn parse_word(r: &mut Reader<'_>, words: &[&[u8]]) -> Option<u32>
+    ensures { OnSome result (length r.new.rest.now < length r.old.rest.now) }
 {
-    let at = put(out, at, b',');
-    put_nth(out, at, list, n as usize)
+    r.pass(b',')?;
+    let word = r.until(b',');
+    let n = words.iter().position(|&w| w == word)?;
+    u32::try_from(n).ok()
 }
 
-pub fn print_configuration(out: &mut [u8], at: usize, c: u32) -> usize
-    ensures { result ≤ length out.new }
+pub fn parse_configuration(r: &mut Reader<'_>) -> Option<u32>
+    ensures { OnSome result (length r.new.rest.now < length r.old.rest.now) }
 {
-    print_word(out, at, &CONFIGURATIONS, c)
+    parse_word(r, &CONFIGURATIONS)
 }
 
-pub fn print_charge(out: &mut [u8], at: usize, q: u32) -> usize
-    ensures { result ≤ length out.new }
+pub fn parse_charge(r: &mut Reader<'_>) -> Option<u32>
+    ensures { OnSome result (length r.new.rest.now < length r.old.rest.now) }
 {
-    print_word(out, at, &CHARGES, q)
-}
-
-// A word of a list, up to the mark of the next field.
-fn parse_word(s: &[u8], at: usize, list: &[u8]) -> Field {
-    let at = pass(s, at, b',');
-    if s.len() < at {
-        return missing();
-    }
-    let next = find(s, at, b',');
-    let n = number_of(list, &s[at..next]);
-    if WORDS <= n {
-        return missing();
-    }
-    Field {
-        value: n as u32,
-        next,
-    }
-}
-
-pub fn parse_configuration(s: &[u8], at: usize) -> Field {
-    parse_word(s, at, &CONFIGURATIONS)
-}
-
-pub fn parse_charge(s: &[u8], at: usize) -> Field {
-    parse_word(s, at, &CHARGES)
+    parse_word(r, &CHARGES)
 }

@@ -20,15 +20,11 @@ use Rattle.feature.specs.declared.atom_kind.AtomKind.TheVariants.{Star, Aliphati
 use Rattle.feature.specs.declared.atom_kind.BracketAtom.{BracketAtom}
 use Rattle.feature.specs.declared.bond_kind.BondKind.{BondKind}
 use Rattle.feature.specs.declared.bond_kind.BondKind.TheVariants as bonds
-use Rattle.feature.specs.declared.bond_kind.Coded.{Coded}
-use Rattle.feature.specs.declared.bond_kind.Coded.TheVariants as coded
+use Rattle.std.specs.Prelude.{None, Option, Some}
 use Rattle.feature.proofs.Ranges.{good, ranged}
 use Rattle.feature.proofs.Bonds.{kind_back}
-use Rattle.feature.proofs.Cases.{impossible}
+use Rattle.feature.proofs.Cases.{impossible, some_parts}
 use Rattle.table.proofs.Stores.{sets_beside, sets_in, sets_first}
-use Rattle.packing.specs.declared.Loaded.{Loaded}
-use Rattle.packing.specs.declared.Loaded.TheVariants.{Held, Bad}
-use Rattle.packing.specs.declared.Entry.TheVariants as entry
 use Rattle.packing.specs.Words.{star, aliphatic_from, aromatic_from, bracketed, kind_room, number_room, charges, pair, bracket_pair, pair_of, words_of, list_of, plain_of, unpacked, bracket_of, load_of, load_at, bond_list, entry_coded, entry_of_words, entry_stored}
 
 -- ---- two numbers in one
@@ -42,7 +38,7 @@ high m x y h = add-mul-div_left x y (omega arith) ∙ ap (λ (z : ℕ). z + y) (
 
 -- ---- atoms
 -- zeros stand for no atom
-pub zeros : load_of 0 0 ≡ Bad
+pub zeros : load_of 0 0 ≡ None
 unfolding load_of plain_of
 zeros = refl
 
@@ -52,7 +48,7 @@ unfolding words_of
 words_in k e = simp e
 
 -- a bracket atom's words stand for it: no number of it reaches into the next
-bracket_pair_lem : (b : BracketAtom) → Within b → load_of (bracket_pair b).first (bracket_pair b).second ≡ Held (Bracket b)
+bracket_pair_lem : (b : BracketAtom) → Within b → load_of (bracket_pair b).first (bracket_pair b).second ≡ Some (Bracket b)
 unfolding load_of bracket_of bracket_pair
 bracket_pair_lem b g =
     let kind : bracketed + b.symbol < kind_room = omega arith in
@@ -62,10 +58,10 @@ bracket_pair_lem b g =
     let symbol : bracketed + b.symbol - bracketed ≡ b.symbol = omega arith in
     simp
     (le-leb bracketed (bracket_pair b).first (omega arith), low, high, le-ltb (bracketed + b.symbol) bracketed (omega arith), symbol)
-    (ap (λ (p : Bool). pick p (Held (Bracket b)) Bad) (ranged (Bracket b) g))
+    (ap (λ (p : Bool). pick p (Some (Bracket b)) None) (ranged (Bracket b) g))
 
 -- the words of a kind's numbers stand for it
-pair_loads : (k : AtomKind) → GoodKind k → load_of (pair_of k).first (pair_of k).second ≡ Held k
+pair_loads : (k : AtomKind) → GoodKind k → load_of (pair_of k).first (pair_of k).second ≡ Some k
 unfolding load_of plain_of pair_of
 pair_loads Star g = refl
 pair_loads (Aliphatic n) g =
@@ -79,20 +75,20 @@ pair_loads (Aromatic n) g =
 pair_loads (Bracket b) g = bracket_pair_lem b g
 
 -- the words of a kind in range stand for it
-pub load_words : (k : AtomKind) → in_range k ≡ true → load_of (words_of k).first (words_of k).second ≡ Held k
+pub load_words : (k : AtomKind) → in_range k ≡ true → load_of (words_of k).first (words_of k).second ≡ Some k
 load_words k e = rw (words_in k e) (pair_loads k (good k e))
 
 -- a test that refuses was not taken
-refused : (b : Bool) {x : Loaded} {k : AtomKind} → pick b Bad x ≡ Held k → (b ≡ false) × (x ≡ Held k)
+refused : (b : Bool) {x : (Option AtomKind)} {k : AtomKind} → pick b None x ≡ Some k → (b ≡ false) × (x ≡ Some k)
 refused true e = impossible cc
 refused false e = (refl, e)
 
 -- a test that grants was
-granted : (b : Bool) {x : Loaded} {k : AtomKind} → pick b x Bad ≡ Held k → (b ≡ true) × (x ≡ Held k)
+granted : (b : Bool) {x : (Option AtomKind)} {k : AtomKind} → pick b x None ≡ Some k → (b ≡ true) × (x ≡ Some k)
 granted true e = (refl, e)
 granted false e = impossible cc
 
-same_held : {j k : AtomKind} → Held j ≡ Held k → j ≡ k
+same_held : {j k : AtomKind} → Some j ≡ Some k → j ≡ k
 same_held e = cc
 
 -- the kind is in range, and the numbers are its words
@@ -100,11 +96,11 @@ abbrev Stands : ℕ → ℕ → AtomKind → Type 0
 Stands a b k = (in_range k ≡ true) × (words_of k ≡ pair a b)
 
 -- so it is where the words of its numbers are those
-held : {a b : ℕ} (j : AtomKind) {k : AtomKind} → in_range j ≡ true → pair_of j ≡ pair a b → Held j ≡ Held k → Stands a b k
+held : {a b : ℕ} (j : AtomKind) {k : AtomKind} → in_range j ≡ true → pair_of j ≡ pair a b → Some j ≡ Some k → Stands a b k
 held {a} {b} j r w e = subst (Stands a b) (same_held e) (r, words_in j r ∙ w)
 
 -- the words of a bracket atom
-bracket_only : (a b : ℕ) (k : AtomKind) → bracket_of a b ≡ Held k → Stands a b k
+bracket_only : (a b : ℕ) (k : AtomKind) → bracket_of a b ≡ Some k → Stands a b k
 unfolding bracket_of pair_of bracket_pair
 bracket_only a b k e =
     let r1 = refused (ltb (a % kind_room) bracketed) e in
@@ -113,12 +109,12 @@ bracket_only a b k e =
     held (Bracket (unpacked a b)) r2.0 (simp (kind, mod-add-div)) r2.1
 
 -- the first word of any other
-plain_only : (n : ℕ) (k : AtomKind) → plain_of n ≡ Held k → Stands n 0 k
+plain_only : (n : ℕ) (k : AtomKind) → plain_of n ≡ Some k → Stands n 0 k
 unfolding plain_of pair_of
 plain_only n k e =
     let r = refused (ltb n star) e in
     cases (ltb n aliphatic_from) (ltb n aromatic_from) refl refl (ltb-false n star r.0) r.1 where
-      cases : (p q : Bool) → ltb n aliphatic_from ≡ p → ltb n aromatic_from ≡ q → star ≤ n → pick p (Held Star) (pick q (Held (Aliphatic (n - aliphatic_from))) (pick (ltb n bracketed) (Held (Aromatic (n - aromatic_from))) Bad)) ≡ Held k → Stands n 0 k
+      cases : (p q : Bool) → ltb n aliphatic_from ≡ p → ltb n aromatic_from ≡ q → star ≤ n → pick p (Some Star) (pick q (Some (Aliphatic (n - aliphatic_from))) (pick (ltb n bracketed) (Some (Aromatic (n - aromatic_from))) None)) ≡ Some k → Stands n 0 k
       cases true q u v l d =
           held Star (ranged Star tt) (ap (λ (m : ℕ). pair m 0) (omega (arith, ltb-true n aliphatic_from u))) d
       cases false true u v l d =
@@ -130,7 +126,7 @@ plain_only n k e =
           held (Aromatic (n - aromatic_from)) (ranged (Aromatic (n - aromatic_from)) g) (ap (λ (m : ℕ). pair m 0) (omega (arith, ltb-false n aromatic_from v))) r.1
 
 -- numbers stand for a kind only where it is in range and they are its words: all others are refused
-pub only : (a b : ℕ) (k : AtomKind) → load_of a b ≡ Held k → (in_range k ≡ true) × (words_of k ≡ pair a b)
+pub only : (a b : ℕ) (k : AtomKind) → load_of a b ≡ Some k → (in_range k ≡ true) × (words_of k ≡ pair a b)
 unfolding load_of
 only a b k e = split (leb bracketed a) refl where
   split : (p : Bool) → leb bracketed a ≡ p → Stands a b k
@@ -141,24 +137,24 @@ only a b k e = split (leb bracketed a) refl where
 
 -- ---- bonds
 -- zero stands for no bond
-pub bond_zero : (target : ℕ) → entry_of_words 0 target ≡ entry.Bad
+pub bond_zero : (target : ℕ) → entry_of_words 0 target ≡ None
 unfolding entry_of_words entry_coded kind_of
 bond_zero target = refl
 
 -- a kind's number stands for it
-pub bond_words_lem : (k : BondKind) (target : ℕ) → entry_of_words (code_of k) target ≡ entry.Bond k target
+pub bond_words_lem : (k : BondKind) (target : ℕ) → entry_of_words (code_of k) target ≡ Some (k, target)
 unfolding entry_of_words entry_coded
 bond_words_lem k target = rw (kind_back k)
 
 -- a number that is not the kind's at hand is one of the rest
-bond_step : (n : ℕ) (j k : BondKind) {rest : Coded} → pick (eqb n (code_of j)) (coded.Kind j) rest ≡ coded.Kind k → (rest ≡ coded.Kind k → n ≡ code_of k) → n ≡ code_of k
+bond_step : (n : ℕ) (j k : BondKind) {rest : (Option BondKind)} → pick (eqb n (code_of j)) (Some j) rest ≡ Some k → (rest ≡ Some k → n ≡ code_of k) → n ≡ code_of k
 bond_step n j k {rest} e f = split (eqb n (code_of j)) refl e where
-  split : (b : Bool) → eqb n (code_of j) ≡ b → pick b (coded.Kind j) rest ≡ coded.Kind k → n ≡ code_of k
+  split : (b : Bool) → eqb n (code_of j) ≡ b → pick b (Some j) rest ≡ Some k → n ≡ code_of k
   split true p d = cc (eqb-true n (code_of j) p)
   split false p d = f d
 
 -- a number stands for a kind only where it is the kind's
-code_only : (n : ℕ) (k : BondKind) → kind_of n ≡ coded.Kind k → n ≡ code_of k
+code_only : (n : ℕ) (k : BondKind) → kind_of n ≡ Some k → n ≡ code_of k
 unfolding kind_of code_of
 code_only n k e =
     bond_step n bonds.Elided k e λ e.
@@ -172,13 +168,13 @@ code_only n k e =
     impossible cc
 
 -- an entry holds the kind and the target that it was made of
-entry_only : (c : Coded) (k : BondKind) (target u : ℕ) → entry_coded c target ≡ entry.Bond k u → (c ≡ coded.Kind k) × (target ≡ u)
+entry_only : (c : Option BondKind) (k : BondKind) (target u : ℕ) → entry_coded c target ≡ Some (k, u) → (c ≡ Some k) × (target ≡ u)
 unfolding entry_coded
-entry_only (coded.Kind j) k target u e = (cc, cc)
-entry_only coded.Bad k target u e = impossible cc
+entry_only (Some j) k target u e = let p = some_parts e in (ap Some p.0, p.1)
+entry_only None k target u e = impossible cc
 
 -- numbers stand for a bond only where they are its own: all others are refused
-pub bond_only : (n target : ℕ) (k : BondKind) (u : ℕ) → entry_of_words n target ≡ entry.Bond k u → (n ≡ code_of k) × (target ≡ u)
+pub bond_only : (n target : ℕ) (k : BondKind) (u : ℕ) → entry_of_words n target ≡ Some (k, u) → (n ≡ code_of k) × (target ≡ u)
 unfolding entry_of_words
 bond_only n target k u e =
     let r = entry_only (kind_of n) k target u e in
@@ -196,27 +192,27 @@ unfolding bond_list
 bond_length k target = refl
 
 -- past the end of a table there is no atom
-pub load_past : (t : List ℕ) (at : ℕ) → length t ≤ at → load_at t at ≡ Bad
+pub load_past : (t : List ℕ) (at : ℕ) → length t ≤ at → load_at t at ≡ None
 unfolding load_at
 load_past t at h =
     let h1 : length t ≤ at + 1 = omega arith in
     simp (get_or-eq_default t 0 h, get_or-eq_default t 0 h1) zeros
 
 -- past the end of a table there is no bond
-pub bond_past : (t : List ℕ) (at : ℕ) → length t ≤ at → entry_stored t at ≡ entry.Bad
+pub bond_past : (t : List ℕ) (at : ℕ) → length t ≤ at → entry_stored t at ≡ None
 unfolding entry_stored
 bond_past t at h =
     let h1 : length t ≤ at + 1 = omega arith in
     simp (get_or-eq_default t 0 h, get_or-eq_default t 0 h1) (bond_zero 0)
 
 -- a kind in range that was stored is the one that is loaded
-pub load_stored : (t : List ℕ) (at : ℕ) (k : AtomKind) → in_range k ≡ true → at + 2 ≤ length t → load_at (sets t at (list_of k)) at ≡ Held k
+pub load_stored : (t : List ℕ) (at : ℕ) (k : AtomKind) → in_range k ≡ true → at + 2 ≤ length t → load_at (sets t at (list_of k)) at ≡ Some k
 unfolding load_at list_of
 load_stored t at k e room =
     simp (sets_first t (list_of k) at room (lit< tt), sets_in t (list_of k) at 1 room (lit< tt)) (load_words k e)
 
 -- a bond that was stored is the one that is loaded
-pub bond_stored : (t : List ℕ) (at : ℕ) (k : BondKind) (target : ℕ) → at + 2 ≤ length t → entry_stored (sets t at (bond_list k target)) at ≡ entry.Bond k target
+pub bond_stored : (t : List ℕ) (at : ℕ) (k : BondKind) (target : ℕ) → at + 2 ≤ length t → entry_stored (sets t at (bond_list k target)) at ≡ Some (k, target)
 unfolding entry_stored bond_list
 bond_stored t at k target room =
     simp (sets_first t (bond_list k target) at room (lit< tt), sets_in t (bond_list k target) at 1 room (lit< tt))

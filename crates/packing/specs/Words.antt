@@ -7,14 +7,9 @@ use Rattle.feature.specs.declared.atom_kind.AtomKind.{AtomKind}
 use Rattle.feature.specs.declared.atom_kind.AtomKind.TheVariants.{Star, Aliphatic, Aromatic, Bracket}
 use Rattle.feature.specs.declared.atom_kind.BracketAtom.{BracketAtom}
 use Rattle.feature.specs.declared.bond_kind.BondKind.{BondKind}
-use Rattle.feature.specs.declared.bond_kind.Coded.{Coded}
-use Rattle.feature.specs.declared.bond_kind.Coded.TheVariants as coded
+use Rattle.std.specs.Prelude.{None, Option, Some}
 use Rattle.table.specs.Records.{atom_words}
 use Rattle.packing.specs.declared.Pair.{Pair}
-use Rattle.packing.specs.declared.Loaded.{Loaded}
-use Rattle.packing.specs.declared.Loaded.TheVariants.{Held, Bad}
-use Rattle.packing.specs.declared.Entry.{Entry}
-use Rattle.packing.specs.declared.Entry.TheVariants as entry
 
 -- the first number of each sort of kind
 abbrev pub star : ℕ
@@ -66,36 +61,36 @@ unfoldable pub list_of : AtomKind → List ℕ
 list_of k = listed (words_of k)
 
 -- what two words stand for
-unfoldable pub plain_of : ℕ → Loaded
+unfoldable pub plain_of : ℕ → Option AtomKind
 plain_of n =
-    pick (ltb n star) Bad
-    (pick (ltb n aliphatic_from) (Held Star)
-    (pick (ltb n aromatic_from) (Held (Aliphatic (n - aliphatic_from)))
-    (pick (ltb n bracketed) (Held (Aromatic (n - aromatic_from)))
-    Bad)))
+    pick (ltb n star) None
+    (pick (ltb n aliphatic_from) (Some Star)
+    (pick (ltb n aromatic_from) (Some (Aliphatic (n - aliphatic_from)))
+    (pick (ltb n bracketed) (Some (Aromatic (n - aromatic_from)))
+    None)))
 
 abbrev pub unpacked : ℕ → ℕ → BracketAtom
 unpacked a b =
     bracket_of_six (a / kind_room % number_room) (a % kind_room - bracketed) (a / kind_room / number_room % configurations) (a / kind_room / number_room / configurations) (b % charges) (b / charges)
 
-unfoldable pub bracket_of : ℕ → ℕ → Loaded
+unfoldable pub bracket_of : ℕ → ℕ → Option AtomKind
 bracket_of a b =
-    pick (ltb (a % kind_room) bracketed) Bad
-    (pick (in_range (Bracket (unpacked a b))) (Held (Bracket (unpacked a b)))
-    Bad)
+    pick (ltb (a % kind_room) bracketed) None
+    (pick (in_range (Bracket (unpacked a b))) (Some (Bracket (unpacked a b)))
+    None)
 
-unfoldable pub load_of : ℕ → ℕ → Loaded
+unfoldable pub load_of : ℕ → ℕ → Option AtomKind
 load_of a b =
     pick (leb bracketed a) (bracket_of a b)
-    (pick (ltb 0 b) Bad
+    (pick (ltb 0 b) None
     (plain_of a))
 
-unfoldable pub load_at : List ℕ → ℕ → Loaded
+unfoldable pub load_at : List ℕ → ℕ → Option AtomKind
 load_at t at = load_of (get_or t at 0) (get_or t (at + 1) 0)
 
-unfoldable pub is_held : Loaded → Bool
-is_held (Held k) = true
-is_held Bad = false
+unfoldable pub is_held : Option AtomKind → Bool
+is_held (Some k) = true
+is_held None = false
 
 -- whether the record a of a table of atoms stands for one
 unfoldable pub is_atom : List ℕ → ℕ → Bool
@@ -105,12 +100,12 @@ is_atom t a = is_held (load_at t (a * atom_words))
 unfoldable pub bond_list : BondKind → ℕ → List ℕ
 bond_list k target = code_of k ∷ target ∷ []
 
-unfoldable pub entry_coded : Coded → ℕ → Entry
-entry_coded (coded.Kind k) target = entry.Bond k target
-entry_coded coded.Bad target = entry.Bad
+unfoldable pub entry_coded : Option BondKind → ℕ → Option (BondKind × ℕ)
+entry_coded (Some k) target = Some (k, target)
+entry_coded None target = None
 
-unfoldable pub entry_of_words : ℕ → ℕ → Entry
+unfoldable pub entry_of_words : ℕ → ℕ → Option (BondKind × ℕ)
 entry_of_words n target = entry_coded (kind_of n) target
 
-unfoldable pub entry_stored : List ℕ → ℕ → Entry
+unfoldable pub entry_stored : List ℕ → ℕ → Option (BondKind × ℕ)
 entry_stored t at = entry_of_words (get_or t at 0) (get_or t (at + 1) 0)

@@ -9,8 +9,8 @@ ghost use Rattle.std.proofs.lemmas.List.Edits.{sets};
 ghost use Rattle.feature.specs.Steps.{GoodKind, Within};
 ghost use Rattle.packing.specs.Words.{is_atom, bracket_pair, pair_of, words_of, list_of, plain_of, bracket_of, load_of, load_at, bond_list, entry_stored, entry_of_words};
 
-use feature::atom_kind::{AtomKind, BracketAtom, CONFIGURATIONS};
-use feature::bond_kind::{BondKind, Coded};
+use feature::atom_kind::{AtomKind, BracketAtom, CONFIGURATIONS, in_range};
+use feature::bond_kind::{BondKind, code, decode};
 use table::{ATOM_WORDS, look, poke};
 
 // The first number of each sort of kind.
@@ -29,27 +29,14 @@ const NUMBERS: u32 = 1001;
 const CHARGES: u32 = 32;
 
 // The two words of a kind.
-#[derive(Clone, Copy)]
+#[derive(Clone, Copy, Debug, PartialEq, Eq)]
 pub struct Pair {
     pub first: u32,
     pub second: u32,
 }
 
-// A kind, or numbers that stand for none.
-#[derive(Clone, Copy)]
-pub enum Loaded {
-    Held(AtomKind),
-    Bad,
-}
-
-// A bond entry, or numbers that stand for none.
-#[derive(Clone, Copy)]
-pub enum Entry {
-    Bond(BondKind, u32),
-    Bad,
-}
-
 // A bracket atom's words by mixed radix: each number counts in units of the room of those before it.
+#[tactic(auto, unfolding(crate::specs::Words::bracket_pair))]
 fn pack_bracket(b: BracketAtom) -> Pair
     requires { Within b }
     ensures { result ≡ bracket_pair b }
@@ -63,6 +50,7 @@ fn pack_bracket(b: BracketAtom) -> Pair
 }
 
 // The words of a kind in range.
+#[tactic(auto, unfolding(crate::specs::Words::pair_of))]
 fn packed(k: AtomKind) -> Pair
     requires { GoodKind k }
     ensures { result ≡ pair_of k }
@@ -85,10 +73,11 @@ fn packed(k: AtomKind) -> Pair
 }
 
 // A kind's words, zeros where its numbers are out of range.
+#[tactic(auto, using(feature::proofs::Ranges::good), unfolding(crate::specs::Words::words_of))]
 pub fn words(k: AtomKind) -> Pair
     ensures { result ≡ words_of k }
 {
-    if feature::atom_kind::in_range(k) {
+    if in_range(k) {
         return packed(k);
     }
     Pair {
@@ -98,6 +87,7 @@ pub fn words(k: AtomKind) -> Pair
 }
 
 // A kind put at the place of its record's first word.
+#[tactic(auto, unfolding(crate::specs::Words::list_of))]
 pub fn store(t: &mut [u32], at: usize, k: AtomKind)
     ensures { t.new ≡ sets t.old at (list_of k) }
 {
@@ -109,32 +99,34 @@ pub fn store(t: &mut [u32], at: usize, k: AtomKind)
 }
 
 // The kind that a first word below BRACKET stands for.
-fn plain(n: u32) -> Loaded
+#[tactic(auto, unfolding(crate::specs::Words::plain_of))]
+fn plain(n: u32) -> Option<AtomKind>
     ensures { result ≡ plain_of n }
 {
     if n < STAR {
-        return Loaded::Bad;
+        return None;
     }
     if n < ALIPHATIC {
-        return Loaded::Held(AtomKind::Star);
+        return Some(AtomKind::Star);
     }
     if n < AROMATIC {
-        return Loaded::Held(AtomKind::Aliphatic(n - ALIPHATIC));
+        return Some(AtomKind::Aliphatic(n - ALIPHATIC));
     }
     if n < BRACKET {
-        return Loaded::Held(AtomKind::Aromatic(n - AROMATIC));
+        return Some(AtomKind::Aromatic(n - AROMATIC));
     }
-    Loaded::Bad
+    None
 }
 
 // The bracket atom that two words stand for: its numbers are taken apart, and have to be in range.
-fn bracketed(first: u32, second: u32) -> Loaded
+#[tactic(auto, unfolding(crate::specs::Words::bracket_of))]
+fn bracketed(first: u32, second: u32) -> Option<AtomKind>
     ensures { result ≡ bracket_of first second }
 {
     let kind = first % KINDS;
     let rest = first / KINDS;
     if kind < BRACKET {
-        return Loaded::Bad;
+        return None;
     }
     let k = AtomKind::Bracket(BracketAtom {
         isotope: rest % NUMBERS,
@@ -144,72 +136,62 @@ fn bracketed(first: u32, second: u32) -> Loaded
         charge: second % CHARGES,
         map: second / CHARGES,
     });
-    if feature::atom_kind::in_range(k) {
-        return Loaded::Held(k);
-    }
-    Loaded::Bad
+    if in_range(k) { Some(k) } else { None }
 }
 
-// The kind that two words stand for.
-pub fn kind(first: u32, second: u32) -> Loaded
+// The kind that two words stand for, if they stand for one.
+#[tactic(auto, unfolding(crate::specs::Words::load_of))]
+pub fn kind(first: u32, second: u32) -> Option<AtomKind>
     ensures { result ≡ load_of first second }
 {
     if BRACKET <= first {
         return bracketed(first, second);
     }
     if 0 < second {
-        return Loaded::Bad;
+        return None;
     }
     plain(first)
 }
 
-// The kind at a place.
-pub fn load(t: &[u32], at: usize) -> Loaded
+// The kind at a place, if one is there.
+#[tactic(auto, using(crate::proofs::Laws::load_past), unfolding(crate::specs::Words::load_at))]
+pub fn load(t: &[u32], at: usize) -> Option<AtomKind>
     ensures { result ≡ load_at t.now at }
 {
     if at < t.len() {
         return kind(look(t, at), look(t, at + 1));
     }
-    Loaded::Bad
+    None
 }
 
 // Whether the record a of a table of atoms stands for one.
+#[tactic(auto, unfolding(crate::specs::Words::is_atom, crate::specs::Words::is_held))]
 pub fn is_atom(t: &[u32], a: usize) -> bool
     requires { a < 2 ^ 32 }
     ensures { result ≡ is_atom t.now a }
 {
-    match load(t, a * ATOM_WORDS) {
-        Loaded::Held(_) => true,
-        Loaded::Bad => false,
-    }
+    load(t, a * ATOM_WORDS).is_some()
 }
 
 // A bond entry put at the place of its first word.
+#[tactic(auto, unfolding(crate::specs::Words::bond_list))]
 pub fn store_bond(t: &mut [u32], at: usize, k: BondKind, target: u32)
     ensures { t.new ≡ sets t.old at (bond_list k target) }
 {
-    let n = feature::bond_kind::code(k);
     if at < t.len() {
-        poke(t, at, n);
+        poke(t, at, code(k));
         poke(t, at + 1, target);
     }
 }
 
-fn bond(n: u32, target: u32) -> Entry
-    ensures { result ≡ entry_of_words n target }
-{
-    match feature::bond_kind::decode(n) {
-        Coded::Kind(k) => Entry::Bond(k, target),
-        Coded::Bad => Entry::Bad,
-    }
-}
-
-// The bond entry at a place.
-pub fn load_bond(t: &[u32], at: usize) -> Entry
+// The bond entry at a place, if one is there: its kind and its target.
+#[tactic(auto, using(crate::proofs::Laws::bond_past), unfolding(crate::specs::Words::entry_stored, crate::specs::Words::entry_of_words, crate::specs::Words::entry_coded))]
+pub fn load_bond(t: &[u32], at: usize) -> Option<(BondKind, u32)>
     ensures { result ≡ entry_stored t.now at }
 {
     if at < t.len() {
-        return bond(look(t, at), look(t, at + 1));
+        let k = decode(t[at])?;
+        return Some((k, look(t, at + 1)));
     }
-    Entry::Bad
+    None
 }

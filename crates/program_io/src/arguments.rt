@@ -16,7 +16,7 @@ const NAME_TOO_LONG: i32 = 36;
 pub fn count(rt: &impl Env) -> usize {
     let mut room = [0u8; 0];
     for i in 0..usize::MAX {
-        if let Err(FillError::NotPresent) = rt.arg(i, &mut room) {
+        if matches!(rt.arg(i, &mut room), Err(FillError::NotPresent)) {
             return i;
         }
     }
@@ -27,19 +27,15 @@ pub fn count(rt: &impl Env) -> usize {
 pub fn read_word(rt: &impl Env, i: usize, room: &mut [u8]) -> io::Result<usize>
     ensures { IfOk result (λ n. n ≤ length room.new) }
 {
-    match rt.arg(i, room) {
-        Ok(n) => Ok(n),
-        Err(FillError::NotPresent) => Err(io::Error::from_raw_os_error(NO_SUCH_WORD)),
-        Err(FillError::TooLong) => Err(io::Error::from_raw_os_error(NAME_TOO_LONG)),
-    }
+    rt.arg(i, room).map_err(|error| match error {
+        FillError::NotPresent => io::Error::from_raw_os_error(NO_SUCH_WORD),
+        FillError::TooLong => io::Error::from_raw_os_error(NAME_TOO_LONG),
+    })
 }
 
 // The same, but a word that is not there counts as one of no bytes.
 pub fn word(rt: &impl Env, i: usize, room: &mut [u8]) -> usize
     ensures { result ≤ length room.new }
 {
-    match read_word(rt, i, room) {
-        Ok(n) => n,
-        Err(_) => 0,
-    }
+    read_word(rt, i, room).unwrap_or(0)
 }

@@ -2,26 +2,12 @@
 ghost use Rattle.std.specs.Prelude.{◌≤◌, ◌<◌, length, drop, codes};
 ghost use Rattle.std.specs.Io.{StartsWith};
 
-use oracle_form::byte::{put_word, within};
+use oracle_form::output::Output;
 use std::fmt::Write;
-use std::{fmt, io};
+use std::io;
 
 // Room for the words of an error. Longer ones are cut.
 const ROOM: usize = 256;
-
-// Text as it is formatted.
-#[derive(Drop)]
-struct Words {
-    bytes: [u8; ROOM],
-    end: usize,
-}
-
-impl fmt::Write for Words {
-    fn write_str(&mut self, s: &str) -> fmt::Result {
-        self.end = put_word(&mut self.bytes, self.end, s.as_bytes());
-        Ok(())
-    }
-}
 
 // What the library says after the system's words, before their number.
 const NUMBER: &[u8] = b" (os error ";
@@ -31,12 +17,9 @@ fn words_end(text: &[u8]) -> usize
     ensures bound { result ≤ length text.now }
     ensures number { result < length text.now → StartsWith (drop result text.now) (codes " (os error ") }
 {
-    for i in 0..text.len() {
-        if text[i..].starts_with(NUMBER) {
-            return i;
-        }
-    }
-    text.len()
+    text.windows(NUMBER.len())
+        .position(|words| words == NUMBER)
+        .unwrap_or(text.len())
 }
 
 // Writes bytes at once.
@@ -46,12 +29,10 @@ pub fn say<P: Print>(to: &P, bytes: &[u8]) {
 
 // Says what failed, by the name that the caller has for it, and why.
 pub fn fail<P: Print>(to: &P, what: &[u8], error: io::Error) {
-    let mut words = Words {
-        bytes: [0; ROOM],
-        end: 0,
-    };
+    let mut room = [0u8; ROOM];
+    let mut words = Output::new(&mut room);
     let _ = write!(words, "{error}");
-    let text = &words.bytes[..within(&words.bytes, words.end)];
+    let text = words.bytes();
     say(to, what);
     say(to, b": ");
     say(to, &text[..words_end(text)]);

@@ -25,8 +25,5 @@ pub fn is_missing(rt: &impl Files, name: &[u8]) -> bool
     let Ok(path) = str::from_utf8(name) else {
         return false;
     };
-    match fs::exists(rt, path) {
-        Ok(is_there) => !is_there,
-        Err(_) => true,
-    }
+    !fs::exists(rt, path).unwrap_or(false)
 }

@@ -8,8 +8,10 @@ use lib.Dec.{eqb}
 use Rattle.feature.specs.Pick.{pick}
 use Rattle.desk_numbers.specs.Numbers.{Told, done, end_of_line, character, join, rnum, inversion, text_too_long, atom_room, bond_room, nesting}
 use Rattle.desk_numbers.proofs.One.{same_result, one_result}
-use Rattle.read.specs.declared.Answer.{Answer}
-use Rattle.read.specs.declared.Answer.TheVariants.{Done, EndOfLine, Character, Join, Rnum, Inversion, TextTooLong, AtomRoom, BondRoom, Nesting, NoAtom}
+use Rattle.std.specs.Prelude.{Err, Ok}
+use Rattle.read.specs.Read.{graph_size}
+use Rattle.read.specs.Read.{Answer}
+use Rattle.read.specs.declared.ReadError.TheVariants.{EndOfLine, Character, Join, Rnum, Inversion, TextTooLong, AtomRoom, BondRoom, Nesting, NoAtom}
 use Rattle.read.specs.Read.{Said, said}
 use Rattle.read.specs.Line.{read_text}
 use Rattle.read.specs.Numbers.{read_told, ReadNumbered, read_in_numbers}
@@ -19,31 +21,31 @@ abbrev answer_to : Told → Answer
 answer_to t =
     let first : ℕ = get_or t.values 0 0 in
     let second : ℕ = get_or t.values 1 0 in
-    pick (eqb t.number done) (Done first second)
-    (pick (eqb t.number end_of_line) EndOfLine
-    (pick (eqb t.number character) (Character first)
-    (pick (eqb t.number join) (Join first second)
-    (pick (eqb t.number rnum) (Rnum first)
-    (pick (eqb t.number inversion) (Inversion first)
-    (pick (eqb t.number text_too_long) (TextTooLong first)
-    (pick (eqb t.number atom_room) (AtomRoom first)
-    (pick (eqb t.number bond_room) (BondRoom first)
-    (pick (eqb t.number nesting) (Nesting first)
-    NoAtom)))))))))
+    pick (eqb t.number done) (Ok (graph_size first second))
+    (pick (eqb t.number end_of_line) (Err EndOfLine)
+    (pick (eqb t.number character) (Err (Character first))
+    (pick (eqb t.number join) (Err (Join first second))
+    (pick (eqb t.number rnum) (Err (Rnum first))
+    (pick (eqb t.number inversion) (Err (Inversion first))
+    (pick (eqb t.number text_too_long) (Err (TextTooLong first))
+    (pick (eqb t.number atom_room) (Err (AtomRoom first))
+    (pick (eqb t.number bond_room) (Err (BondRoom first))
+    (pick (eqb t.number nesting) (Err (Nesting first))
+    (Err NoAtom))))))))))
 
 answer_back : (a : Answer) → answer_to (read_told a) ≡ a
 unfolding read_told
-answer_back (Done n m) = refl
-answer_back EndOfLine = refl
-answer_back (Character p) = refl
-answer_back (Join x y) = refl
-answer_back (Rnum j) = refl
-answer_back (Inversion a) = refl
-answer_back (TextTooLong n) = refl
-answer_back (AtomRoom p) = refl
-answer_back (BondRoom p) = refl
-answer_back (Nesting p) = refl
-answer_back NoAtom = refl
+answer_back (Ok size) = refl
+answer_back (Err EndOfLine) = refl
+answer_back (Err (Character p)) = refl
+answer_back (Err (Join x y)) = refl
+answer_back (Err (Rnum j)) = refl
+answer_back (Err (Inversion a)) = refl
+answer_back (Err (TextTooLong n)) = refl
+answer_back (Err (AtomRoom p)) = refl
+answer_back (Err (BondRoom p)) = refl
+answer_back (Err (Nesting p)) = refl
+answer_back (Err NoAtom) = refl
 
 -- no two answers have the same number and values
 pub same_answer : (a b : Answer) → read_told a ≡ read_told b → a ≡ b

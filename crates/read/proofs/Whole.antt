@@ -14,14 +14,14 @@ use Rattle.table.specs.Limits.{text_limit, branch_limit, atom_limit, bond_limit,
 use Rattle.builder.specs.State.{Bld, bld, fresh_builder, refused_st}
 use Rattle.builder.specs.declared.builder.Builder.{Builder}
 use Rattle.builder.specs.Build.{BuildOutcome, outcome, Tables, tables, build_of}
-use Rattle.builder.specs.declared.build.Built.{Built}
+use Rattle.builder.specs.Build.{Built}
 use Rattle.read_token.specs.declared.scanner.Missing.TheVariants.{Character}
 use Rattle.read_line.specs.declared.lead.Lead.TheVariants.{Dot}
 use Rattle.read_line.specs.Events.{Miss, on, missing_st, run}
 use Rattle.read_line.specs.Parse.{parse, end_p}
 use Rattle.read_line.specs.Steps.{reached_at, LineRead, ReadReady}
 use Rattle.read_line.proofs.Turn.{run_stuck, run_miss, run_end}
-use Rattle.read.specs.declared.Answer.{Answer}
+use Rattle.read.specs.Read.{Answer}
 use Rattle.read.specs.Read.{said, read_refusal, built_answer}
 use Rattle.read.specs.Steps.{ended_st, built_said, state_of, state_said, within}
 

@@ -8,8 +8,9 @@ use Rattle.std.specs.Prelude.{ℕ, List, length, replicate, ltb, eqb}
 use Rattle.feature.specs.Pick.{pick}
 use Rattle.table.specs.Limits.{text_limit}
 use Rattle.builder_meaning.specs.Sketch.{Sketch, next_number, count_of, sketch_of, finish_s, atom_table, bond_table, left_s}
-use Rattle.read.specs.declared.Answer.{Answer}
-use Rattle.read.specs.declared.Answer.TheVariants.{TextTooLong}
+use Rattle.std.specs.Prelude.{Err}
+use Rattle.read.specs.Read.{Answer}
+use Rattle.read.specs.declared.ReadError.TheVariants.{TextTooLong}
 use Rattle.read.specs.Read.{Said, said, read_refusal, built_answer}
 
 -- an answer that leaves zeros in tables of la and lb words
@@ -31,4 +32,4 @@ whole_or_refused d la lb =
 -- a text read into tables of la and lb words
 unfoldable pub read_text : List ℕ → ℕ → ℕ → Said
 read_text s la lb =
-    pick (ltb text_limit (length s)) (read_refusing (TextTooLong (length s)) la lb) (whole_or_refused (sketch_of s la lb) la lb)
+    pick (ltb text_limit (length s)) (read_refusing (Err (TextTooLong (length s))) la lb) (whole_or_refused (sketch_of s la lb) la lb)

@@ -13,7 +13,8 @@ use Rattle.builder.specs.Build.{BuildOutcome, tables, build_of}
 use Rattle.read_line.specs.Events.{run}
 use Rattle.read_line.specs.Parse.{parse}
 use Rattle.read_line.specs.declared.line.Reached.{Reached}
-use Rattle.read.specs.declared.Answer.TheVariants.{TextTooLong}
+use Rattle.std.specs.Prelude.{Err}
+use Rattle.read.specs.declared.ReadError.TheVariants.{TextTooLong}
 use Rattle.read.specs.Read.{Said, said, read_refusal, built_answer}
 
 -- no byte may be left after a line
@@ -46,7 +47,7 @@ within s a lb e p r = state_said lb (state_of s a lb e p r)
 -- a text read into tables of these lengths
 unfoldable pub read_of : List ℕ → ℕ → ℕ → Said
 read_of s la lb =
-    pick (ltb text_limit (length s)) (said (TextTooLong (length s)) (replicate la 0) (replicate lb 0))
+    pick (ltb text_limit (length s)) (said (Err (TextTooLong (length s))) (replicate la 0) (replicate lb 0))
     (within s (replicate la 0) lb (replicate (bond_limit * entry_words) 0) (replicate atom_limit 0) (replicate ring_number_count 0))
 
 -- a text within the limit, and tables of zeros
@@ -54,6 +55,14 @@ pub record Cleared (s atoms bonds : List ℕ) : Type 0 where
   pub short : length s ≤ text_limit
   pub blank : atoms ≡ replicate (length atoms) 0
   pub empty : bonds ≡ replicate (length bonds) 0
+
+-- work room for so many atoms and so many words of entries is enough for what tables of these lengths have room for, and no more
+-- than any line needs
+pub record Enough (atoms entries la lb : ℕ) : Type 0 where
+  pub places : lesser_of atom_limit (la / atom_words) ≤ atoms
+  pub slots : lesser_of bond_limit (lb / bond_words) * entry_words ≤ entries
+  pub most_atoms : atoms ≤ atom_limit
+  pub most_entries : entries ≤ bond_limit * entry_words
 
 -- tables of so many words have room for few atoms and entries
 pub record Few (la lb : ℕ) : Type 0 where

@@ -1,6 +1,7 @@
 // A scanner that holds the lent text and its place in it: purr's scanner.rs. Its methods are a thin layer over the functions of
 // `read_token` and of this crate that take a text and a place; the functions after them make a scanner where a line starts, where
-// something is missing and where the line should have ended, and ask it.
+// something is missing and where the line should have ended, and ask it. The layer is what the scope asks for: "a scanner that holds
+// the lent text and its place in it".
 ghost use Rattle.std.specs.Prelude.{◌≡◌, leb, length};
 ghost use Rattle.read_token.specs.Scan.{Peeked, missing_at, atom_at};
 
@@ -8,7 +9,7 @@ use crate::read_atom;
 use read_token::scanner;
 use read_token::scanner::{Found, Missing};
 
-#[derive(Clone, Copy)]
+#[derive(Clone, Copy, Debug, PartialEq, Eq)]
 pub struct Scanner<'a> {
     pub text: &'a [u8],
     pub cursor: usize,
@@ -35,8 +36,8 @@ impl<'a> Scanner<'a> {
         past(self.text, self.cursor)
     }
 
-    // The byte at its place, or NO_BYTE past the end.
-    pub fn peek(self) -> u32
+    // The byte at its place, and none past the end.
+    pub fn peek(self) -> Option<u8>
         ensures { Peeked self.entry.text.now self.entry.cursor result }
     {
         scanner::peek(self.text, self.cursor)
@@ -70,7 +71,7 @@ pub fn missing_character(text: &[u8], at: usize) -> Missing
 }
 
 // The byte where a reader stopped.
-pub fn peek(text: &[u8], at: usize) -> u32
+pub fn peek(text: &[u8], at: usize) -> Option<u8>
     ensures { Peeked text.now at result }
 {
     Scanner::at(text, at).peek()

@@ -1,17 +1,15 @@
 -- How far an event lets a builder's counts grow, and that the number of a refusal is not 0. Assumes nothing.
 use Prim.Native.Nat.{ℕ, ◌+◌, ◌≤◌}
 use mathlib.Core.Path.{◌≡◌}
+use Rattle.std.specs.Prelude.{is_some}
 use native.Mathlib.Omega.{arith}
 use lib.Dec.{eqb, ltb, leb}
 use lib.ListN.{get_or}
 use Rattle.feature.specs.Kinds.{invert_of}
 use Rattle.feature.specs.Bonds.{reconcile_of}
 use Rattle.feature.specs.declared.atom_kind.AtomKind.{AtomKind}
-use Rattle.feature.specs.declared.atom_kind.Inverted.{Inverted}
-use Rattle.feature.specs.declared.atom_kind.Inverted.TheVariants.{Turned, Refused}
+use Rattle.std.specs.Prelude.{None, Option, Some}
 use Rattle.feature.specs.declared.bond_kind.BondKind.{BondKind}
-use Rattle.feature.specs.declared.bond_kind.Reconciled.{Reconciled}
-use Rattle.feature.specs.declared.bond_kind.Reconciled.TheVariants.{Both, Fails}
 use Rattle.feature.proofs.Cases.{by_either}
 use Rattle.read_token.specs.declared.scanner.Missing.{Missing}
 use Rattle.read_token.specs.declared.scanner.Missing.TheVariants.{EndOfLine, Character}
@@ -47,10 +45,10 @@ module _ (b : Bld) (at : ℕ) (c : Counted b.st at) where
   root_at k place =
       by_either (At (at + 1)) (leb b.st.places b.st.atoms) (refuse_at _ _) (entered_at k _ (omega arith))
 
-  extended_at : (k : BondKind) (t : Inverted) → At (at + 1) (extended_by b k t)
+  extended_at : (k : BondKind) (t : Option AtomKind) → At (at + 1) (extended_by b k t)
   unfolding extended_by bonded entered
-  extended_at k Refused = refuse_at _ _
-  extended_at k (Turned t) =
+  extended_at k None = refuse_at _ _
+  extended_at k (Some t) =
       record { atoms = omega arith; entries = omega arith; top = omega arith; joins = omega arith }
 
   extend_at : (k : BondKind) (t : AtomKind) (place : ℕ) → At (at + 1) (extend_of b k t place)
@@ -64,10 +62,10 @@ module _ (b : Bld) (at : ℕ) (c : Counted b.st at) where
   counted_at : Counted (counted_st b.st) (at + 1)
   counted_at = record { atoms = omega arith; entries = omega arith; top = omega arith; joins = omega arith }
 
-  judged_at : (t : Inverted) → Counted (mark_judged b.st t) (at + 1)
+  judged_at : (t : Option AtomKind) → Counted (mark_judged b.st t) (at + 1)
   unfolding mark_judged
-  judged_at Refused = record { atoms = omega arith; entries = omega arith; top = omega arith; joins = omega arith }
-  judged_at (Turned k) = counted_at
+  judged_at None = record { atoms = omega arith; entries = omega arith; top = omega arith; joins = omega arith }
+  judged_at (Some k) = counted_at
 
   numb_at : (l : Lead) (k : AtomKind) → Counted (unstored_of b.st l k) (at + 1)
   unfolding unstored_of
@@ -82,7 +80,7 @@ module _ (b : Bld) (at : ℕ) (c : Counted b.st at) where
   -- an atom
   pub enter_at : (l : Lead) (k : AtomKind) (place : ℕ) → At (at + 1) (enter_of b l k place)
   unfolding enter_of
-  enter_at l k place = by_either (At (at + 1)) b.st.failed (numb_at l k) (led_at_lem l k place)
+  enter_at l k place = by_either (At (at + 1)) (is_some b.st.failed) (numb_at l k) (led_at_lem l k place)
 
   opened_at_lem : (k : BondKind) (n : ℕ) → At (at + 1) (opened_of b k n)
   unfolding opened_of
@@ -91,14 +89,14 @@ module _ (b : Bld) (at : ℕ) (c : Counted b.st at) where
   failed_at : (x y : ℕ) → Counted (failed_st b.st x y) (at + 1)
   unfolding failed_st
   failed_at x y =
-      by_either (λ (s : Builder). Counted s (at + 1)) b.st.failed
+      by_either (λ (s : Builder). Counted s (at + 1)) (is_some b.st.failed)
       (record { atoms = omega arith; entries = omega arith; top = omega arith; joins = omega arith })
       (record { atoms = omega arith; entries = omega arith; top = omega arith; joins = omega arith })
 
-  closed_at : (n place : ℕ) (q : Reconciled) → At (at + 1) (closed_by b n place q)
+  closed_at : (n place : ℕ) (q : Option (BondKind × BondKind)) → At (at + 1) (closed_by b n place q)
   unfolding closed_by
-  closed_at n place Fails = failed_at (last_of b) (opening_of b n)
-  closed_at n place (Both l r) =
+  closed_at n place None = failed_at (last_of b) (opening_of b n)
+  closed_at n place (Some (l, r)) =
       by_either (At (at + 1)) (ltb b.st.slots (b.st.entries + 1)) (refuse_at _ _)
       (record { atoms = omega arith; entries = omega arith; top = omega arith; joins = omega arith })
 
@@ -114,7 +112,7 @@ module _ (b : Bld) (at : ℕ) (c : Counted b.st at) where
   pub ring_at : (k : BondKind) (n place : ℕ) → At (at + 1) (ring_of b k n place)
   unfolding ring_of
   ring_at k n place =
-      by_either (At (at + 1)) b.st.failed (counted_more c (omega arith)) (join_at k n place)
+      by_either (At (at + 1)) (is_some b.st.failed) (counted_more c (omega arith)) (join_at k n place)
 
 -- a pop, and something missing
 pub pop_at : (s : Builder) (at n : ℕ) → Counted s at → Counted (popped_st s n) at

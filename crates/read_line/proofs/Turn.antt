@@ -1,7 +1,7 @@
 -- The reader's steps on plain values: at each way through the code, the state that it leaves is what the events of the
 -- grammar make. Assumes nothing.
 use mathlib.Core.Path.{◌≡◌, refl, sym, ap, ◌∙◌, subst}
-use mathlib.Core.Bool.{Bool, true, false}
+use mathlib.Core.Bool.{Bool, true, false, true≢false}
 use mathlib.Core.List.{List, [], ◌∷◌}
 use Prim.Native.Nat.{ℕ, zero, suc, ◌+◌, ◌-◌, ◌≤◌, ◌<◌}
 use native.Mathlib.Omega.{arith}
@@ -13,10 +13,10 @@ use Rattle.feature.specs.Text.{byte, bytes}
 use Rattle.feature.specs.declared.atom_kind.AtomKind.{AtomKind}
 use Rattle.feature.specs.declared.bond_kind.BondKind.{BondKind}
 use Rattle.desk_numbers.specs.Numbers.{nesting}
-use Rattle.read_token.specs.Scan.{peek_at, missing_at, bond_at, atom_at, rnum_at}
-use Rattle.read_token.specs.declared.scanner.Found.TheVariants.{Atom, Nothing, Lacks}
+use Rattle.read_token.specs.Scan.{Peeked, peek_at, missing_at, bond_at, atom_at, rnum_at}
+use Rattle.std.specs.Prelude.{Err, None, Ok, Option, Some}
+use Rattle.std.specs.Option.{option_eq}
 use Rattle.read_token.specs.declared.scanner.Missing.{Missing}
-use Rattle.read_token.specs.declared.read_rnum.Ring.TheVariants as ring
 use Rattle.read_token.proofs.Within.{byte_in, ring_in, bond_in_lem, atom_in}
 use Rattle.builder.specs.declared.builder.Builder.{Builder}
 use Rattle.table.specs.Limits.{text_limit}
@@ -25,12 +25,17 @@ use Rattle.read_line.specs.declared.lead.Body.{Body}
 use Rattle.read_line.specs.declared.lead.Body.TheVariants.{Ends, Branch, Unit}
 use Rattle.read_line.specs.declared.lead.Lead.{Lead}
 use Rattle.read_line.specs.declared.lead.Lead.TheVariants.{Dot, Bond}
-use Rattle.read_line.specs.declared.lead.Led.{Led}
+use Rattle.read_token.specs.declared.scanner.Part.{Part}
 use Rattle.read_line.specs.Events.{ReadEvent, Pop, Miss, Nest, on, enter_of, ring_of, missing_st, step, run}
 use Rattle.read_line.specs.Parse.{Rest, led_at, one_of, body_of, body_at, miss_p, found_p, atom_p, ring_p, union_by, union_p, unit_by, unit_p, line_p, close_p, branch_p, bodies}
 use Rattle.read_line.specs.Steps.{reached_at, reached_missing, reached_closed, Counted, ReadReady, Moved, AtomRead, RingRead, UnionRead, UnitRead, RestRead, LineRead, BranchRead}
 use Rattle.read_line.proofs.Bodies.{mark_of}
 use Rattle.read_line.proofs.Counts.{counted_more, enter_at, ring_at, pop_at, refused_at, missing_at_lem, missing_not}
+
+-- a byte that was looked at and is the one that was asked for is there
+pub seen : (s : List ℕ) (at b : ℕ) (r : Option ℕ) → Peeked s at r → true ≡ option_eq eqb r (Some b) → peek_at s at ≡ b
+seen s at b None p e = absurd (true≢false e)
+seen s at b (Some x) p e = sym p.is ∙ eqb-true x b (sym e)
 
 -- ---- running
 
@@ -57,14 +62,14 @@ run_miss b m es h = run_last b (Miss m) _ es h refl (missing_not b.st m)
 
 -- ---- what leads an atom in stays within the line
 
-abbrev led : Lead → ℕ → Led
-led l n = record { lead = l; next = n }
+abbrev led : Lead → ℕ → Part Lead
+led l n = record { value = l; next = n }
 
 -- a place at or past another, within the line
-abbrev Between : List ℕ → ℕ → Led → Type 0
+abbrev Between : List ℕ → ℕ → Part Lead → Type 0
 Between s at r = (at ≤ r.next) × (r.next ≤ length s)
 
-led_split : (s : List ℕ) (at : ℕ) → at ≤ length s → (q : Bool) → eqb (peek_at s at) (byte ".") ≡ q → Between s at (pick q (led Dot (at + 1)) (led (Bond (bond_at s at).kind) (bond_at s at).next))
+led_split : (s : List ℕ) (at : ℕ) → at ≤ length s → (q : Bool) → eqb (peek_at s at) (byte ".") ≡ q → Between s at (pick q (led Dot (at + 1)) (led (Bond (bond_at s at).value) (bond_at s at).next))
 led_split s at h true e = (omega arith, omega (arith, byte_in s at (byte ".") (omega arith) (eqb-true _ _ e)))
 led_split s at h false e = bond_in_lem s at h
 
@@ -82,17 +87,17 @@ module _ (s : List ℕ) (b : Bld) (at n : ℕ) (ready : ReadReady s at b.st) (fe
       }
 
   module _ (l : Lead) where
-    pub atom_none : atom_at s at ≡ Nothing → AtomRead s at l n b (on b (missing_st b.st (missing_at s at))) at n
+    pub atom_none : atom_at s at ≡ (Ok None) → AtomRead s at l n b (on b (missing_st b.st (missing_at s at))) at n
     unfolding atom_p found_p miss_p
     atom_none e =
         record { same = λ k. simp e (run_miss b _ (k at n) ready.going); moved = stays _; count = few }
 
-    pub atom_lacks : (m : Missing) → atom_at s at ≡ Lacks m → AtomRead s at l n b (on b (missing_st b.st m)) at n
+    pub atom_lacks : (m : Missing) → atom_at s at ≡ Err m → AtomRead s at l n b (on b (missing_st b.st m)) at n
     unfolding atom_p found_p
     atom_lacks m e =
         record { same = λ k. simp e (run_miss b m (k at n) ready.going); moved = stays m; count = few }
 
-    pub atom_made : (kind : AtomKind) (next : ℕ) → atom_at s at ≡ Atom kind next → (b' : Bld) → b' ≡ enter_of b l kind at → AtomRead s at l n b b' next (n + 1)
+    pub atom_made : (kind : AtomKind) (next : ℕ) → atom_at s at ≡ Ok (Some (kind, next)) → (b' : Bld) → b' ≡ enter_of b l kind at → AtomRead s at l n b b' next (n + 1)
     unfolding atom_p found_p step
     atom_made kind next e b' made =
         let past : (at < next) × (next ≤ length s) = atom_in s at e in
@@ -108,17 +113,17 @@ module _ (s : List ℕ) (b : Bld) (at n : ℕ) (ready : ReadReady s at b.st) (fe
         }
 
   module _ (bond : BondKind) where
-    pub ring_none : rnum_at s at ≡ ring.Nothing → RingRead s at bond n b (on b (missing_st b.st (missing_at s at))) at n
+    pub ring_none : rnum_at s at ≡ (Ok None) → RingRead s at bond n b (on b (missing_st b.st (missing_at s at))) at n
     unfolding ring_p miss_p
     ring_none e =
         record { same = λ k. simp e (run_miss b _ (k at n) ready.going); moved = stays _; count = few }
 
-    pub ring_lacks : (m : Missing) → rnum_at s at ≡ ring.Lacks m → RingRead s at bond n b (on b (missing_st b.st m)) at n
+    pub ring_lacks : (m : Missing) → rnum_at s at ≡ Err m → RingRead s at bond n b (on b (missing_st b.st m)) at n
     unfolding ring_p
     ring_lacks m e =
         record { same = λ k. simp e (run_miss b m (k at n) ready.going); moved = stays m; count = few }
 
-    pub ring_made : (r next : ℕ) → rnum_at s at ≡ ring.Number r next → (b' : Bld) → b' ≡ ring_of b bond r at → RingRead s at bond n b b' next n
+    pub ring_made : (r next : ℕ) → rnum_at s at ≡ Ok (Some (r, next)) → (b' : Bld) → b' ≡ ring_of b bond r at → RingRead s at bond n b b' next n
     unfolding ring_p step
     ring_made r next e b' made =
         let past : (r < 100) × (at < next) × (next ≤ length s) = ring_in s at e in
@@ -133,24 +138,24 @@ module _ (s : List ℕ) (b : Bld) (at n : ℕ) (ready : ReadReady s at b.st) (fe
           count = omega (arith, past.1);
         }
 
-    pub union_ring : atom_at s at ≡ Nothing → (b' : Bld) (at' n' : ℕ) → RingRead s at bond n b b' at' n' → UnionRead s at bond n b b' at' n'
+    pub union_ring : atom_at s at ≡ (Ok None) → (b' : Bld) (at' n' : ℕ) → RingRead s at bond n b b' at' n' → UnionRead s at bond n b b' at' n'
     unfolding union_p union_by
     union_ring e b' at' n' read =
         record { same = λ k. simp e (read.same k); moved = read.moved; count = read.count }
 
-    pub union_lacks : (m : Missing) → atom_at s at ≡ Lacks m → UnionRead s at bond n b (on b (missing_st b.st m)) at n
+    pub union_lacks : (m : Missing) → atom_at s at ≡ Err m → UnionRead s at bond n b (on b (missing_st b.st m)) at n
     unfolding union_p union_by
     union_lacks m e =
         record { same = λ k. simp e (run_miss b m (k at n) ready.going); moved = stays m; count = few }
 
-    pub union_made : (kind : AtomKind) (next : ℕ) → atom_at s at ≡ Atom kind next → (b' : Bld) → b' ≡ enter_of b (Bond bond) kind at → UnionRead s at bond n b b' next (n + 1)
+    pub union_made : (kind : AtomKind) (next : ℕ) → atom_at s at ≡ Ok (Some (kind, next)) → (b' : Bld) → b' ≡ enter_of b (Bond bond) kind at → UnionRead s at bond n b b' next (n + 1)
     unfolding union_p union_by atom_p found_p
     union_made kind next e b' made =
         let read = atom_made (Bond bond) kind next e b' made in
         record { same = λ k. simp e (sym (refl) ∙ (simp e at (read.same k))); moved = read.moved; count = read.count }
 
 -- r is what leads an atom in at a place
-module _ (s : List ℕ) (at : ℕ) (r : Led) (is : r ≡ led_at s at) where
+module _ (s : List ℕ) (at : ℕ) (r : Part Lead) (is : r ≡ led_at s at) where
   pub led_ready : (b : Builder) (n : ℕ) → ReadReady s at b → n ≤ at → ReadReady s r.next b × (n ≤ r.next)
   led_ready b n ready few =
       let l : Between s at r = subst (Between s at) (sym is) (led_in s at ready.within) in (
@@ -164,12 +169,12 @@ module _ (s : List ℕ) (at : ℕ) (r : Led) (is : r ≡ led_at s at) where
         let l : Between s at r = subst (Between s at) (sym is) (led_in s at within) in
         record { within = m.within; on = λ z. omega (arith, m.on z, l.0); counted = m.counted }
 
-    pub unit_split : r.lead ≡ Dot → AtomRead s r.next Dot n b b' at' n' → UnitRead s at n b b' at' n'
+    pub unit_split : r.value ≡ Dot → AtomRead s r.next Dot n b b' at' n' → UnitRead s at n b b' at' n'
     unfolding unit_p unit_by
     unit_split e read =
         record { same = λ k. simp (← is, e) (read.same k); moved = further read.moved; count = read.count }
 
-    pub unit_union : (bond : BondKind) → r.lead ≡ Bond bond → UnionRead s r.next bond n b b' at' n' → UnitRead s at n b b' at' n'
+    pub unit_union : (bond : BondKind) → r.value ≡ Bond bond → UnionRead s r.next bond n b b' at' n' → UnitRead s at n b b' at' n'
     unfolding unit_p unit_by
     unit_union bond e read =
         record { same = λ k. simp (← is, e) (read.same k); moved = further read.moved; count = read.count }
@@ -180,7 +185,7 @@ branch_in s at e = byte_in s at (byte "(") (omega arith) e
 -- ---- a branch
 
 -- r is what leads its line in
-module _ (s : List ℕ) (at : ℕ) (is_open : peek_at s at ≡ byte "(") (r : Led) (is : r ≡ led_at s (at + 1)) where
+module _ (s : List ℕ) (at : ℕ) (is_open : peek_at s at ≡ byte "(") (r : Part Lead) (is : r ≡ led_at s (at + 1)) where
   past_open : Between s (at + 1) r
   past_open =
       let h : at + 1 ≤ length s = omega (arith, branch_in s at is_open) in
@@ -208,7 +213,7 @@ module _ (s : List ℕ) (b : Bld) (at room : ℕ) (ready : ReadReady s at b.st) 
         moved = record { within = ready.within; on = λ z. absurd (nz z); counted = refused_at b.st at _ _ ready.counted };
       }
 
-  module _ (r : Led) (is : r ≡ led_at s (at + 1)) (some : room ≡ 0 → ⊥) (b₁ : Bld) (at₁ n₁ : ℕ) (line : LineRead s r.next r.lead (room - 1) b b₁ at₁ n₁) where
+  module _ (r : Part Lead) (is : r ≡ led_at s (at + 1)) (some : room ≡ 0 → ⊥) (b₁ : Bld) (at₁ n₁ : ℕ) (line : LineRead s r.next r.value (room - 1) b b₁ at₁ n₁) where
     run_line : (f : ℕ) (k : ℕ → List ReadEvent) → length s ≤ at + f → run b (branch_p (bodies f s) s at room k) ≡ run b₁ (close_p s k at₁ n₁)
     unfolding branch_p
     run_line f k big = simp (ne_eqb _ _ some, ← is) (line.same f (close_p s k) (omega (arith, from s at is_open r is)))

@@ -1,11 +1,10 @@
 -- What a reader says to a builder, and what becomes of it. After a first failed join the reading goes on for 1, 2, 10 and 15
 -- only: atoms are counted and their marks judged, and nothing is stored.
-use Rattle.std.specs.Prelude.{ℕ, ◌+◌, List, [], ◌∷◌, Bool, true, false, eqb}
+use Rattle.std.specs.Prelude.{ℕ, ◌+◌, List, [], ◌∷◌, Bool, true, false, eqb, is_some}
 use Rattle.feature.specs.Pick.{pick}
 use Rattle.feature.specs.Kinds.{invert_of}
 use Rattle.feature.specs.declared.atom_kind.AtomKind.{AtomKind}
-use Rattle.feature.specs.declared.atom_kind.Inverted.{Inverted}
-use Rattle.feature.specs.declared.atom_kind.Inverted.TheVariants.{Turned, Refused}
+use Rattle.std.specs.Prelude.{None, Option, Some}
 use Rattle.feature.specs.declared.bond_kind.BondKind.{BondKind}
 use Rattle.desk_numbers.specs.Numbers.{inversion, end_of_line, character, nesting}
 use Rattle.read_token.specs.declared.scanner.Missing.{Missing}
@@ -31,9 +30,9 @@ on b s = bld b.atoms b.entries b.path b.rings s
 abbrev pub counted_st : Builder → Builder
 counted_st s = counts_st s (s.atoms + 1) s.entries s.top s.joins
 
-unfoldable pub mark_judged : Builder → Inverted → Builder
-mark_judged s Refused = refused_st s inversion s.atoms
-mark_judged s (Turned k) = counted_st s
+unfoldable pub mark_judged : Builder → Option AtomKind → Builder
+mark_judged s None = refused_st s inversion s.atoms
+mark_judged s (Some k) = counted_st s
 
 unfoldable pub unstored_of : Builder → Lead → AtomKind → Builder
 unstored_of s Dot k = counted_st s
@@ -44,10 +43,10 @@ led_of b Dot k place = root_of b k place
 led_of b (Bond e) k place = extend_of b e k place
 
 unfoldable pub enter_of : Bld → Lead → AtomKind → ℕ → Bld
-enter_of b l k place = pick b.st.failed (on b (unstored_of b.st l k)) (led_of b l k place)
+enter_of b l k place = pick (is_some b.st.failed) (on b (unstored_of b.st l k)) (led_of b l k place)
 
 unfoldable pub ring_of : Bld → BondKind → ℕ → ℕ → Bld
-ring_of b k n place = pick b.st.failed b (join_of b k n place)
+ring_of b k n place = pick (is_some b.st.failed) b (join_of b k n place)
 
 unfoldable pub missing_st : Builder → Missing → Builder
 missing_st s EndOfLine = refused_st s end_of_line 0

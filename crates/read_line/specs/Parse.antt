@@ -6,24 +6,23 @@ use Rattle.feature.specs.Pick.{pick}
 use Rattle.feature.specs.Text.{byte, bytes}
 use Rattle.feature.specs.declared.bond_kind.BondKind.{BondKind}
 use Rattle.read_token.specs.Scan.{peek_at, missing_at, bond_at, atom_at, rnum_at}
-use Rattle.read_token.specs.declared.scanner.Found.{Found}
-use Rattle.read_token.specs.declared.scanner.Found.TheVariants.{Atom, Nothing, Lacks}
+use Rattle.std.specs.Prelude.{Err, None, Ok, Some}
+use Rattle.read_token.specs.Scan.{Ring}
+use Rattle.read_token.specs.Scan.{Found}
 use Rattle.read_token.specs.declared.scanner.Missing.TheVariants.{Character}
-use Rattle.read_token.specs.declared.read_rnum.Ring.{Ring}
-use Rattle.read_token.specs.declared.read_rnum.Ring.TheVariants as ring
 use Rattle.table.specs.Limits.{branch_limit}
 use Rattle.read_line.specs.declared.lead.Body.{Body}
 use Rattle.read_line.specs.declared.lead.Body.TheVariants.{Ends, Branch, Unit}
 use Rattle.read_line.specs.declared.lead.Lead.{Lead}
 use Rattle.read_line.specs.declared.lead.Lead.TheVariants.{Dot, Bond}
-use Rattle.read_line.specs.declared.lead.Led.{Led}
+use Rattle.read_token.specs.declared.scanner.Part.{Part}
 use Rattle.read_line.specs.Events.{ReadEvent, Enter, Join, Pop, Miss, Nest}
 
 -- what leads an atom in
-unfoldable pub led_at : List ℕ → ℕ → Led
+unfoldable pub led_at : List ℕ → ℕ → Part Lead
 led_at s at =
-    pick (eqb (peek_at s at) (byte ".")) (record { lead = Dot; next = at + 1 })
-    (record { lead = Bond (bond_at s at).kind; next = (bond_at s at).next })
+    pick (eqb (peek_at s at) (byte ".")) (record { value = Dot; next = at + 1 })
+    (record { value = Bond (bond_at s at).value; next = (bond_at s at).next })
 
 abbrev pub one_of : ℕ → List ℕ → Bool
 one_of c [] = false
@@ -54,24 +53,24 @@ miss_p s at = Miss (missing_at s at) ∷ []
 
 -- an atom
 unfoldable pub found_p : List ℕ → ℕ → Lead → ℕ → Rest → Found → List ReadEvent
-found_p s at l n k (Atom kind next) = Enter l kind at ∷ k next (n + 1)
-found_p s at l n k Nothing = miss_p s at
-found_p s at l n k (Lacks m) = Miss m ∷ []
+found_p s at l n k (Ok (Some (kind, next))) = Enter l kind at ∷ k next (n + 1)
+found_p s at l n k (Ok None) = miss_p s at
+found_p s at l n k (Err m) = Miss m ∷ []
 
 unfoldable pub atom_p : List ℕ → ℕ → Lead → ℕ → Rest → List ReadEvent
 atom_p s at l n k = found_p s at l n k (atom_at s at)
 
 -- a ring number
 unfoldable pub ring_p : List ℕ → ℕ → BondKind → ℕ → Rest → Ring → List ReadEvent
-ring_p s at bond n k (ring.Number r next) = Join bond r at ∷ k next n
-ring_p s at bond n k ring.Nothing = miss_p s at
-ring_p s at bond n k (ring.Lacks m) = Miss m ∷ []
+ring_p s at bond n k (Ok (Some (r, next))) = Join bond r at ∷ k next n
+ring_p s at bond n k (Ok None) = miss_p s at
+ring_p s at bond n k (Err m) = Miss m ∷ []
 
 -- an atom, else a ring number
 unfoldable pub union_by : List ℕ → ℕ → BondKind → ℕ → Rest → Found → List ReadEvent
-union_by s at bond n k (Atom kind next) = Enter (Bond bond) kind at ∷ k next (n + 1)
-union_by s at bond n k Nothing = ring_p s at bond n k (rnum_at s at)
-union_by s at bond n k (Lacks m) = Miss m ∷ []
+union_by s at bond n k (Ok (Some (kind, next))) = Enter (Bond bond) kind at ∷ k next (n + 1)
+union_by s at bond n k (Ok None) = ring_p s at bond n k (rnum_at s at)
+union_by s at bond n k (Err m) = Miss m ∷ []
 
 unfoldable pub union_p : List ℕ → ℕ → BondKind → ℕ → Rest → List ReadEvent
 union_p s at bond n k = union_by s at bond n k (atom_at s at)
@@ -82,7 +81,7 @@ unit_by s at n k Dot = atom_p s at Dot n k
 unit_by s at n k (Bond bond) = union_p s at bond n k
 
 unfoldable pub unit_p : List ℕ → ℕ → ℕ → Rest → List ReadEvent
-unit_p s at n k = unit_by s (led_at s at).next n k (led_at s at).lead
+unit_p s at n k = unit_by s (led_at s at).next n k (led_at s at).value
 
 -- line: an atom, and then bodies, which `more` gives
 unfoldable pub line_p : (ℕ → ℕ → Rest → List ReadEvent) → List ℕ → ℕ → Lead → Rest → List ReadEvent
@@ -96,7 +95,7 @@ close_p s k at n = pick (eqb (peek_at s at) (byte ")")) (Pop n ∷ k (at + 1)) (
 unfoldable pub branch_p : (ℕ → ℕ → ℕ → Rest → List ReadEvent) → List ℕ → ℕ → ℕ → (ℕ → List ReadEvent) → List ReadEvent
 branch_p more s at room k =
     pick (eqb room 0) (Nest at ∷ [])
-    (line_p (more (room - 1)) s (led_at s (at + 1)).next (led_at s (at + 1)).lead (close_p s k))
+    (line_p (more (room - 1)) s (led_at s (at + 1)).next (led_at s (at + 1)).value (close_p s k))
 
 -- bodies, as many as there are
 unfoldable pub bodies : ℕ → List ℕ → ℕ → ℕ → ℕ → Rest → List ReadEvent

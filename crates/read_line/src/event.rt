@@ -9,21 +9,21 @@ ghost use Rattle.read_line.specs.Events.{counted_st, unstored_of, missing_st, en
 use crate::lead::Lead;
 use builder::builder::{Builder, extend, join, root};
 use desk_numbers::{CHARACTER, END_OF_LINE, INVERSION};
-use feature::atom_kind::{AtomKind, Inverted, invert};
+use feature::atom_kind::{AtomKind, invert};
 use feature::bond_kind::BondKind;
 use read_token::scanner::Missing;
 
 // One atom more, not stored.
-fn count(builder: Builder) -> Builder
+fn count(mut builder: Builder) -> Builder
     requires { SmallCounts builder }
     ensures { result ≡ counted_st builder }
 {
-    let mut builder = builder;
-    builder.atoms = builder.atoms + 1;
+    builder.atoms += 1;
     builder
 }
 
 // An atom after a failed join.
+#[tactic(auto, unfolding(crate::specs::Events::unstored_of, crate::specs::Events::mark_judged))]
 fn put_unstored(builder: Builder, lead: Lead, k: AtomKind) -> Builder
     requires { SmallCounts builder }
     ensures { result ≡ unstored_of builder lead k }
@@ -33,14 +33,15 @@ fn put_unstored(builder: Builder, lead: Lead, k: AtomKind) -> Builder
         Lead::Bond(_) => {
             let n = builder.atoms;
             match invert(k) {
-                Inverted::Refused => builder.refused(INVERSION, n),
-                Inverted::Turned(_) => count(builder),
+                None => builder.refused(INVERSION, n),
+                Some(_) => count(builder),
             }
         }
     }
 }
 
 // An atom, by what leads it in.
+#[tactic(auto, unfolding(crate::specs::Events::enter_of, crate::specs::Events::led_of))]
 pub fn put_atom(
     atoms: &mut [u32],
     entries: &mut [u32],
@@ -54,7 +55,7 @@ pub fn put_atom(
     ensures { (s : List ℕ) → bld atoms.new entries.new path.new s result
         ≡ enter_of (bld atoms.old entries.old path.old s builder) lead k place }
 {
-    if builder.failed {
+    if builder.failed.is_some() {
         return put_unstored(builder, lead, k);
     }
     match lead {
@@ -64,6 +65,7 @@ pub fn put_atom(
 }
 
 // A ring number at the current atom.
+#[tactic(auto, unfolding(crate::specs::Events::ring_of))]
 pub fn put_ring(
     entries: &mut [u32],
     path: &[u32],
@@ -77,13 +79,14 @@ pub fn put_ring(
     ensures { (a : List ℕ) → bld a entries.new path.now rings.new result
         ≡ ring_of (bld a entries.old path.now rings.old builder) k number place }
 {
-    if builder.failed {
+    if builder.failed.is_some() {
         return builder;
     }
     join(entries, path, rings, builder, k, number, place)
 }
 
 // Something is missing: 1 or 2.
+#[tactic(auto, unfolding(crate::specs::Events::missing_st))]
 pub fn put_missing(builder: Builder, m: Missing) -> Builder
     ensures { result ≡ missing_st builder m }
 {

@@ -1,44 +1,38 @@
 // What leads an atom in, a dot or a bond, and what a byte begins.
-ghost use Rattle.std.specs.Prelude.{◌≡◌, ◌<◌};
+ghost use Rattle.std.specs.Prelude.{◌≡◌};
 ghost use Rattle.read_line.specs.Parse.{led_at, body_of, body_at};
 
 use feature::bond_kind::BondKind;
 use read_token::read_bond::read_bond;
-use read_token::scanner::peek;
+use read_token::scanner::{Part, peek};
 
-#[derive(Clone, Copy)]
+// A dot is said by its name, as the grammar does: an Option would call it none, and an elided bond is none to a reader.
+#[derive(Clone, Copy, Debug, PartialEq, Eq)]
 pub enum Lead {
     // No bond: the atom is a root.
     Dot,
     Bond(BondKind),
 }
 
-#[derive(Clone, Copy)]
-pub struct Led {
-    pub lead: Lead,
-    pub next: usize,
-}
-
-pub fn read_lead(s: &[u8], at: usize) -> Led
+#[tactic(auto, unfolding(crate::specs::Parse::led_at))]
+pub fn read_lead(s: &[u8], at: usize) -> Part<Lead>
     ensures { result ≡ led_at s.now at }
 {
-    let c = peek(s, at);
-    if c == b'.' as u32 {
-        return Led {
-            lead: Lead::Dot,
+    if peek(s, at) == Some(b'.') {
+        return Part {
+            value: Lead::Dot,
             next: at + 1,
         };
     }
     let b = read_bond(s, at);
-    let kind = b.kind;
-    Led {
-        lead: Lead::Bond(kind),
+    Part {
+        value: Lead::Bond(b.value),
         next: b.next,
     }
 }
 
 // What a byte begins.
-#[derive(Clone, Copy)]
+#[derive(Clone, Copy, Debug, PartialEq, Eq)]
 pub enum Body {
     // Nothing: the line ends before it.
     Ends,
@@ -47,7 +41,9 @@ pub enum Body {
     Unit,
 }
 
-// The arms become a table that is not laid anew for each call, as an array's words would be.
+// The arms become a table that is not laid anew for each call, as an array's words would be. Arms that share a line,
+// `b'0'..=b'9'` and the like, were tried: they become comparisons, and reading takes 2 in a hundred instructions more.
+#[tactic(auto, unfolding(crate::specs::Parse::body_of))]
 fn begun(b: u8) -> Body
     ensures { result ≡ body_of b }
 {
@@ -94,13 +90,13 @@ fn begun(b: u8) -> Body
     }
 }
 
-// The same at a place; the end begins nothing.
+// The same at a place; the end begins nothing, and neither does a byte that is not ASCII.
+#[tactic(auto, unfolding(crate::specs::Parse::body_at))]
 pub fn body_at(s: &[u8], at: usize) -> Body
     ensures { result ≡ body_at s.now at }
 {
-    let c = peek(s, at);
-    if c < 128 {
-        return begun(c as u8);
+    match peek(s, at) {
+        Some(b) if b < 128 => begun(b),
+        _ => Body::Ends,
     }
-    Body::Ends
 }

@@ -12,8 +12,7 @@ use builder::builder::Builder;
 use desk_numbers::NESTING;
 use feature::bond_kind::BondKind;
 use read_atom::scanner::{first_atom, missing_character, peek};
-use read_token::read_rnum::{Ring, read_rnum};
-use read_token::scanner::Found;
+use read_token::read_rnum::read_rnum;
 
 // Where a reading ended, how many atoms its line then has, and the builder.
 #[derive(Clone, Copy)]
@@ -23,23 +22,13 @@ pub struct Reached {
     pub builder: Builder,
 }
 
-// The builder goes on field by field, so that a line's loop keeps it in registers.
-fn reach(at: usize, n: usize, builder: Builder) -> Reached
-    ensures { result ≡ reached_at at n builder }
-{
-    Reached {
-        at,
-        n,
-        builder: builder.copied(),
-    }
-}
-
+#[tactic(auto, unfolding(crate::specs::Steps::reached_missing))]
 fn stopped(text: &[u8], at: usize, n: usize, builder: Builder) -> Reached
     ensures { result ≡ reached_missing text.now at n builder }
 {
     let m = missing_character(text, at);
     let builder = put_missing(builder, m);
-    reach(at, n, builder)
+    Reached { at, n, builder }
 }
 
 // An atom at a place, which is its line's atom n.
@@ -58,14 +47,18 @@ fn line_atom(
         (bld atoms.new entries.new path.new s result.builder) result.at result.n }
 {
     match first_atom(text, at) {
-        Found::Nothing => stopped(text, at, n, builder),
-        Found::Lacks(m) => {
+        Ok(None) => stopped(text, at, n, builder),
+        Err(m) => {
             let builder = put_missing(builder, m);
-            reach(at, n, builder)
+            Reached { at, n, builder }
         }
-        Found::Atom(k, next) => {
+        Ok(Some((k, next))) => {
             let builder = put_atom(atoms, entries, path, builder, lead, k, at);
-            reach(next, n + 1, builder)
+            Reached {
+                at: next,
+                n: n + 1,
+                builder,
+            }
         }
     }
 }
@@ -86,14 +79,18 @@ fn line_ring(
         (bld a entries.new path.now rings.new result.builder) result.at result.n }
 {
     match read_rnum(text, at) {
-        Ring::Nothing => stopped(text, at, n, builder),
-        Ring::Lacks(m) => {
+        Ok(None) => stopped(text, at, n, builder),
+        Err(m) => {
             let builder = put_missing(builder, m);
-            reach(at, n, builder)
+            Reached { at, n, builder }
         }
-        Ring::Number(number, next) => {
+        Ok(Some((number, next))) => {
             let builder = put_ring(entries, path, rings, builder, bond, number as usize, at);
-            reach(next, n, builder)
+            Reached {
+                at: next,
+                n,
+                builder,
+            }
         }
     }
 }
@@ -116,14 +113,18 @@ fn line_union(
         (bld atoms.new entries.new path.new rings.new result.builder) result.at result.n }
 {
     match first_atom(text, at) {
-        Found::Nothing => line_ring(text, at, bond, n, entries, path, rings, builder),
-        Found::Lacks(m) => {
+        Ok(None) => line_ring(text, at, bond, n, entries, path, rings, builder),
+        Err(m) => {
             let builder = put_missing(builder, m);
-            reach(at, n, builder)
+            Reached { at, n, builder }
         }
-        Found::Atom(k, next) => {
+        Ok(Some((k, next))) => {
             let builder = put_atom(atoms, entries, path, builder, Lead::Bond(bond), k, at);
-            reach(next, n + 1, builder)
+            Reached {
+                at: next,
+                n: n + 1,
+                builder,
+            }
         }
     }
 }
@@ -144,25 +145,23 @@ fn line_unit(
         (bld atoms.new entries.new path.new rings.new result.builder) result.at result.n }
 {
     let l = read_lead(text, at);
-    let lead = l.lead;
-    match lead {
+    match l.value {
         Lead::Dot => line_atom(text, l.next, Lead::Dot, n, atoms, entries, path, builder),
         Lead::Bond(bond) => line_union(text, l.next, bond, n, atoms, entries, path, rings, builder),
     }
 }
 
 // The end of a branch whose line has n atoms, which are left at ")". Anything else is missing it.
+#[tactic(auto, unfolding(crate::specs::Steps::reached_closed))]
 fn leave_branch(text: &[u8], at: usize, n: usize, builder: Builder) -> Reached
     requires { (at ≤ length text.now) × (length text.now ≤ text_limit) }
     ensures { result ≡ reached_closed text.now at n builder }
 {
-    let d = peek(text, at);
-    if d == b')' as u32 {
-        let p = builder.pop(n);
+    if peek(text, at) == Some(b')') {
         return Reached {
             at: at + 1,
             n: 0,
-            builder: p,
+            builder: builder.pop(n),
         };
     }
     stopped(text, at, 0, builder)
@@ -191,14 +190,12 @@ fn read_branch(
         return Reached { at, n: 0, builder };
     }
     let l = read_lead(text, at + 1);
-    let lead = l.lead;
-    let first = line_atom(text, l.next, lead, 0, atoms, entries, path, builder);
+    let first = line_atom(text, l.next, l.value, 0, atoms, entries, path, builder);
     let f = first.builder;
     if f.refusal != 0 {
         return first;
     }
-    let d = peek(text, first.at);
-    if d == b')' as u32 {
+    if peek(text, first.at) == Some(b')') {
         return leave_branch(text, first.at, first.n, f);
     }
     let r = line_rest(
@@ -240,6 +237,7 @@ fn line_rest(
     let mut state = builder;
     let mut i = at;
     let mut n = count;
+    // What comes next is seen where the last body ended, so there is nothing to iterate over.
     loop {
         let what = body_at(text, i);
         match what {

@@ -19,12 +19,10 @@ use Rattle.feature.specs.declared.atom_kind.BracketAtom.{BracketAtom}
 use Rattle.feature.proofs.Cases.{by_test}
 use Rattle.feature.proofs.Names.{names_length, second_small}
 use Rattle.read_token.specs.declared.scanner.Part.{Part}
-use Rattle.read_token.specs.declared.scanner.Step.{Step}
-use Rattle.read_token.specs.declared.scanner.Step.TheVariants.{Got, Stop}
-use Rattle.read_token.specs.declared.scanner.Found.{Found}
-use Rattle.read_token.specs.declared.scanner.Found.TheVariants.{Atom, Nothing, Lacks}
-use Rattle.read_token.specs.declared.read_rnum.Ring.{Ring}
-use Rattle.read_token.specs.declared.read_rnum.Ring.TheVariants as ring
+use Rattle.std.specs.Prelude.{Err, None, Ok, Some}
+use Rattle.read_token.specs.Scan.{Step}
+use Rattle.read_token.specs.Scan.{Ring}
+use Rattle.read_token.specs.Scan.{Found}
 use Rattle.read_token.specs.Scan.{no_byte, peek_at, digit_of, digit_at, part, digit_step, number_at, isotope_at, hydrogens_at, fifteen_at, signed_at, charge_at, map_at, slip, symbol_of, symbol_at, short_at, long_at, allene_at, octahedral_at, square_at, trigonal_at, configuration_at, close_at, after_map, after_charge, after_hydrogens, after_configuration, configured, after_symbol, after_isotope, inside_at, bracket_at, star_at, optional_at, wanted_at, organic_at, aromatic_of, aliphatic_of, or_else, other_at, atom_at, sign_kind, mark_width, bond_at, percent_at, rnum_at}
 use Rattle.read_token.proofs.Laws.{peek_out}
 
@@ -65,9 +63,9 @@ module _ (s : List ℕ) (at : ℕ) where
 -- ---- ring number
 -- what is known of a ring number that is read from `from` on
 RingIn : List ℕ → ℕ → Ring → Type 0
-RingIn s from (ring.Number r n) = (r < 100) × (from < n) × (n ≤ length s)
-RingIn s from ring.Nothing = Unit {0}
-RingIn s from (ring.Lacks m) = Unit {0}
+RingIn s from (Ok (Some (r, n))) = (r < 100) × (from < n) × (n ≤ length s)
+RingIn s from (Ok None) = Unit {0}
+RingIn s from (Err m) = Unit {0}
 
 percent_in : (s : List ℕ) (from at : ℕ) → from ≤ at → RingIn s from (percent_at s at)
 unfolding RingIn percent_at
@@ -84,7 +82,7 @@ rnum_in s at =
     (λ e. by_test (RingIn s at) (eqb (peek_at s at) (byte "%")) (λ f. percent_in s at (at + 1) (omega arith)) (λ f. tt))
 
 -- a ring number is below a hundred and ends within the line
-pub ring_in : (s : List ℕ) (at : ℕ) {r n : ℕ} → rnum_at s at ≡ ring.Number r n → (r < 100) × (at < n) × (n ≤ length s)
+pub ring_in : (s : List ℕ) (at : ℕ) {r n : ℕ} → rnum_at s at ≡ Ok (Some (r, n)) → (r < 100) × (at < n) × (n ≤ length s)
 unfolding RingIn
 ring_in s at e = subst (RingIn s at) e (rnum_in s at)
 
@@ -115,17 +113,17 @@ bond_in_lem s at h = split (ltb at (length s)) refl where
   split false e = omega (arith, mark_ended s at (ltb-false at (length s) e))
 
 -- ---- an atom's parts: read at a place from `from` on, each ends within the line
-PartIn : List ℕ → ℕ → Part → Type 0
+PartIn : List ℕ → ℕ → Part ℕ → Type 0
 PartIn s from p = (from ≤ p.next) × (p.next ≤ length s)
 
 StepIn : List ℕ → ℕ → Step → Type 0
-StepIn s from (Got v n) = (from ≤ n) × (n ≤ length s)
-StepIn s from (Stop p) = Unit {0}
+StepIn s from (Ok (v, n)) = (from ≤ n) × (n ≤ length s)
+StepIn s from (Err p) = Unit {0}
 
 FoundIn : List ℕ → ℕ → Found → Type 0
-FoundIn s from (Atom k n) = (from < n) × (n ≤ length s)
-FoundIn s from Nothing = Unit {0}
-FoundIn s from (Lacks m) = Unit {0}
+FoundIn s from (Ok (Some (k, n))) = (from < n) × (n ≤ length s)
+FoundIn s from (Ok None) = Unit {0}
+FoundIn s from (Err m) = Unit {0}
 
 -- a name that has a place is there
 place_found : (k : ℕ) (xs : List ℕ) → place_of k xs < length xs → get_or xs (place_of k xs) 0 ≡ k
@@ -141,7 +139,7 @@ second_not_ended b d h e =
     omega (arith, second_small (place_of (two_letters b d) names) h, place_found (two_letters b d) names (omega (arith, names_length)))
 
 module _ (s : List ℕ) (from : ℕ) where
-  more_from : (p : Part) → PartIn s from p → PartIn s from (digit_step s p)
+  more_from : (p : Part ℕ) → PartIn s from p → PartIn s from (digit_step s p)
   unfolding PartIn digit_step
   more_from p h =
       by_test (PartIn s from) (ltb (digit_at s p.next) 10)
@@ -260,27 +258,27 @@ module _ (s : List ℕ) (from : ℕ) where
 
   after_map_lem : (i y c h q : ℕ) (m : Step) → StepIn s from m → FoundIn s from (after_map s i y c h q m)
   unfolding StepIn FoundIn after_map
-  after_map_lem i y c h q (Got m n) k = close_from (bracket_of_six i y c h q m) n k.0
-  after_map_lem i y c h q (Stop p) k = tt
+  after_map_lem i y c h q (Ok (m, n)) k = close_from (bracket_of_six i y c h q m) n k.0
+  after_map_lem i y c h q (Err p) k = tt
 
-  after_charge_lem : (i y c h : ℕ) (q : Part) → PartIn s from q → FoundIn s from (after_charge s i y c h q)
+  after_charge_lem : (i y c h : ℕ) (q : Part ℕ) → PartIn s from q → FoundIn s from (after_charge s i y c h q)
   unfolding PartIn after_charge
   after_charge_lem i y c h q k = after_map_lem i y c h q.value (map_at s q.next) (map_from q.next k.0 k.1)
 
-  after_hydrogens_lem : (i y c : ℕ) (h : Part) → PartIn s from h → FoundIn s from (after_hydrogens s i y c h)
+  after_hydrogens_lem : (i y c : ℕ) (h : Part ℕ) → PartIn s from h → FoundIn s from (after_hydrogens s i y c h)
   unfolding PartIn after_hydrogens
   after_hydrogens_lem i y c h k =
       after_charge_lem i y c h.value (charge_at s h.next) (charge_from h.next k.0 k.1)
 
   after_configuration_lem : (i y : ℕ) (c : Step) → StepIn s from c → FoundIn s from (configured s i y c)
   unfolding StepIn FoundIn configured after_configuration
-  after_configuration_lem i y (Got c n) k = after_hydrogens_lem i y c (hydrogens_at s n) (hydrogens_from n k.0 k.1)
-  after_configuration_lem i y (Stop p) k = tt
+  after_configuration_lem i y (Ok (c, n)) k = after_hydrogens_lem i y c (hydrogens_at s n) (hydrogens_from n k.0 k.1)
+  after_configuration_lem i y (Err p) k = tt
 
   after_symbol_lem : (i : ℕ) (y : Step) → StepIn s from y → FoundIn s from (after_symbol s i y)
   unfolding StepIn FoundIn after_symbol
-  after_symbol_lem i (Got y n) k = after_configuration_lem i y (configuration_at s n) (configuration_from n k.0 k.1)
-  after_symbol_lem i (Stop p) k = tt
+  after_symbol_lem i (Ok (y, n)) k = after_configuration_lem i y (configuration_at s n) (configuration_from n k.0 k.1)
+  after_symbol_lem i (Err p) k = tt
 
   inside_from : (at : ℕ) → from ≤ at → at ≤ length s → FoundIn s from (inside_at s at)
   unfolding PartIn inside_at after_isotope
@@ -332,12 +330,12 @@ module _ (s : List ℕ) (at : ℕ) where
   -- one of two that both end within the line
   either_found : (f g : Found) → FoundIn s at f → FoundIn s at g → FoundIn s at (or_else f g)
   unfolding FoundIn or_else
-  either_found (Atom k n) g h l = h
-  either_found Nothing g h l = l
-  either_found (Lacks m) g h l = tt
+  either_found (Ok (Some (k, n))) g h l = h
+  either_found (Ok None) g h l = l
+  either_found (Err m) g h l = tt
 
   -- an atom ends within the line
-  pub atom_in : {k : AtomKind} {n : ℕ} → atom_at s at ≡ Atom k n → (at < n) × (n ≤ length s)
+  pub atom_in : {k : AtomKind} {n : ℕ} → atom_at s at ≡ Ok (Some (k, n)) → (at < n) × (n ≤ length s)
   unfolding FoundIn atom_at other_at
   atom_in e =
       subst (FoundIn s at) e
@@ -346,7 +344,7 @@ module _ (s : List ℕ) (at : ℕ) where
 -- ---- the same of each reader from its own place on
 module _ (s : List ℕ) (at : ℕ) where
   -- a symbol takes a byte at least
-  pub symbol_in : {v n : ℕ} → symbol_at s at ≡ Got v n → (at < n) × (n ≤ length s)
+  pub symbol_in : {v n : ℕ} → symbol_at s at ≡ Ok (v, n) → (at < n) × (n ≤ length s)
   unfolding StepIn
   symbol_in e = subst (StepIn s (suc at)) e (symbol_from s (suc at) at (omega arith))
 
@@ -372,11 +370,11 @@ module _ (s : List ℕ) (at : ℕ) where
     charge_in = charge_from s at at (omega arith) high
 
     -- a configuration ends within the line
-    pub configuration_in : {v n : ℕ} → configuration_at s at ≡ Got v n → (at ≤ n) × (n ≤ length s)
+    pub configuration_in : {v n : ℕ} → configuration_at s at ≡ Ok (v, n) → (at ≤ n) × (n ≤ length s)
     unfolding StepIn
     configuration_in e = subst (StepIn s at) e (configuration_from s at at (omega arith) high)
 
     -- a map ends within the line
-    pub map_in : {v n : ℕ} → map_at s at ≡ Got v n → (at ≤ n) × (n ≤ length s)
+    pub map_in : {v n : ℕ} → map_at s at ≡ Ok (v, n) → (at ≤ n) × (n ≤ length s)
     unfolding StepIn
     map_in e = subst (StepIn s at) e (map_from s at at (omega arith) high)

@@ -5,84 +5,62 @@ ghost use Rattle.read_token.specs.Scan.{Peeked, DigitRead, Sized, digit_step, nu
 use feature::atom_kind::AtomKind;
 
 // What a reader that cannot fail found, and the place after it.
-#[derive(Clone, Copy)]
-pub struct Part {
-    pub value: u32,
+#[derive(Clone, Copy, Debug, PartialEq, Eq)]
+pub struct Part<T> {
+    pub value: T,
     pub next: usize,
 }
 
-// What a reader found and the place after it, or the place at which something is missing.
-#[derive(Clone, Copy)]
-pub enum Step {
-    Got(u32, usize),
-    Stop(usize),
-}
-
 // What is missing: 1 and 2 of the desk's numbers.
-#[derive(Clone, Copy)]
+#[derive(Clone, Copy, Debug, PartialEq, Eq)]
 pub enum Missing {
     EndOfLine,
     Character(usize),
 }
 
+// What a reader within brackets found and the place after it, or the place at which something is missing.
+pub type Step = Result<(u32, usize), usize>;
+
 // An atom and the place after it, no atom, or what is missing of one.
-#[derive(Clone, Copy)]
-pub enum Found {
-    Atom(AtomKind, usize),
-    Nothing,
-    Lacks(Missing),
-}
+pub type Found = Result<Option<(AtomKind, usize)>, Missing>;
 
-fn wide(x: u8) -> u32
-    ensures { result ≡ x }
-{
-    x as u32
-}
-
-// No byte: what is past the end of a text.
-pub const NO_BYTE: u32 = 256;
-// No digit.
-pub const NO_DIGIT: u32 = 10;
-
-// The byte at a place, or NO_BYTE past the end.
-pub fn peek(s: &[u8], at: usize) -> u32
+// The byte at a place, and none past the end.
+#[tactic(auto, unfolding(crate::specs::Scan::peek_at))]
+pub fn peek(s: &[u8], at: usize) -> Option<u8>
     ensures { Peeked s.now at result }
 {
-    if at < s.len() { wide(s[at]) } else { NO_BYTE }
+    s.get(at).copied()
 }
 
-// The digit at a place, or NO_DIGIT.
-pub fn digit(s: &[u8], at: usize) -> u32
+// The digit at a place, if one is there.
+#[tactic(auto, unfolding(crate::specs::Scan::digit_at, crate::specs::Scan::digit_of))]
+pub fn digit(s: &[u8], at: usize) -> Option<u32>
     ensures { DigitRead s.now at result }
 {
-    let b = peek(s, at);
-    if b < b'0' as u32 {
-        return NO_DIGIT;
+    match peek(s, at)? {
+        b @ b'0'..=b'9' => Some(u32::from(b - b'0')),
+        _ => None,
     }
-    if (b'9' as u32) < b {
-        return NO_DIGIT;
-    }
-    b - b'0' as u32
 }
 
 // One digit more, if there is one.
-fn more(s: &[u8], p: Part) -> Part
+#[tactic(auto, unfolding(crate::specs::Scan::digit_step))]
+fn more(s: &[u8], p: Part<u32>) -> Part<u32>
     requires { p.value ≤ 99 }
     ensures { Sized result (digit_step s.now p) (p.value * 10 + 9) }
 {
-    let next = p.next;
-    let d = digit(s, next);
-    if d < NO_DIGIT {
-        return Part {
-            value: p.value * 10 + d,
-            next: next + 1,
-        };
+    let Some(d) = digit(s, p.next) else {
+        return p;
+    };
+    Part {
+        value: p.value * 10 + d,
+        next: p.next + 1,
     }
-    p
 }
 
-// At most three digits.
-pub fn number(s: &[u8], at: usize) -> Part
+// At most three digits. That there is none shows by the place, which is then where it was.
+#[tactic(auto, unfolding(crate::specs::Scan::number_at))]
+pub fn number(s: &[u8], at: usize) -> Part<u32>
     ensures { Sized result (number_at s.now at) 999 }
 {
     let a = more(s, Part { value: 0, next: at });
@@ -91,6 +69,7 @@ pub fn number(s: &[u8], at: usize) -> Part
 }
 
 // Something is missing at a place: a character, unless the line has ended.
+#[tactic(auto, unfolding(crate::specs::Scan::missing_at))]
 pub fn missing_character(s: &[u8], at: usize) -> Missing
     ensures { result ≡ missing_at s.now at }
 {

@@ -1,39 +1,36 @@
 // Our answer to a request, in the form that the oracle has for it.
-ghost use Rattle.std.specs.Prelude.{◌≤◌, length};
+use crate::{bonds, events, kinds, orders, pairs, pieces, reads, reasons, rings, texts, writes};
+use oracle_form::output::Output;
 
-use crate::{
-    bonds, events, kinds, operation, orders, pairs, pieces, reads, reasons, rings, texts, writes,
-};
-use oracle_form::byte::find;
-
-// The answer by what is asked for: 0, which no answer has, where that is unknown or the arguments cannot be read.
-fn answer_to(operation: usize, arguments: &[u8], out: &mut [u8], room: &mut [u8]) -> usize
-    ensures { result ≤ length out.new }
-{
-    match operation {
-        operation::ATOM..=operation::BOND => texts::answer(operation, arguments, out, room),
-        operation::SPELL..=operation::AROMATIC => kinds::answer(operation, arguments, out),
-        operation::SPELL_BOND..=operation::RECONCILE => bonds::answer(operation, arguments, out),
-        operation::SPELL_RNUM => rings::answer(arguments, out),
-        operation::READ..=operation::READ_IN => reads::answer(operation, arguments, out, room),
-        operation::BUILDER => events::answer(arguments, out),
-        operation::WRITE..=operation::REWRITE => writes::answer(operation, arguments, out, room),
-        operation::ORDER => orders::answer(arguments, out),
-        operation::WRITER..=operation::WRITER_IN => pieces::answer(operation, arguments, out),
-        operation::POOL => pairs::answer(arguments, out),
-        operation::WHY => reasons::answer(arguments, out, room),
-        _ => 0,
+// Lays the answer, or some bytes and `None` where there is none: the operation is unknown, or its arguments cannot be
+// read. `room` is room to work in.
+pub fn answer(request: &[u8], out: &mut Output<'_>, room: &mut [u8]) -> Option<()> {
+    let end = request.iter().position(|&b| b == b' ')?;
+    let arguments = &request[end + 1..];
+    match &request[..end] {
+        b"atom" => texts::answer_atom(arguments, out, room),
+        b"rnum" => texts::answer_rnum(arguments, out, room),
+        b"bond" => texts::answer_bond(arguments, out, room),
+        b"spell" => kinds::answer_spelling(arguments, out),
+        b"invert" => kinds::answer_inverted(arguments, out),
+        b"targets" => kinds::answer_targets(arguments, out),
+        b"aromatic" => kinds::answer_aromatic(arguments, out),
+        b"spellbond" => bonds::answer_spelling(arguments, out),
+        b"reverse" => bonds::answer_reversed(arguments, out),
+        b"reconcile" => bonds::answer_reconciled(arguments, out),
+        b"spellrnum" => rings::answer(arguments, out),
+        b"read" | b"readbytes" => reads::answer(arguments, out, room),
+        b"readin" => reads::answer_within(arguments, out, room),
+        b"builder" => events::answer(arguments, out),
+        b"write" => writes::answer_graph(arguments, out),
+        b"writein" => writes::answer_within(arguments, out),
+        b"writewords" => writes::answer_words(arguments, out),
+        b"rewrite" => writes::answer_text(arguments, out, room),
+        b"order" => orders::answer(arguments, out),
+        b"writer" => pieces::answer(arguments, out),
+        b"writerin" => pieces::answer_within(arguments, out),
+        b"pool" => pairs::answer(arguments, out),
+        b"why" => reasons::answer(arguments, out, room),
+        _ => None,
     }
-}
-
-// Lays the answer from the output's first byte on, and answers its length, 0 where there is none. `room` is room to work in.
-pub fn answer(request: &[u8], out: &mut [u8], room: &mut [u8]) -> usize
-    ensures { result ≤ length out.new }
-{
-    let end = find(request, 0, b' ');
-    if request.len() <= end {
-        return 0;
-    }
-    let operation = operation::named(&request[0..end]);
-    answer_to(operation, &request[end + 1..], out, room)
 }

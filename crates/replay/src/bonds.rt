@@ -1,62 +1,45 @@
 // Requests about bonds: `spellbond` and `reverse` of one, `reconcile` of two.
-ghost use Rattle.std.specs.Prelude.{◌≤◌, length};
-
-use crate::say::say;
-use crate::{operation, say};
-use feature::bond_kind::{BondKind, Reconciled, reconcile, reverse};
-use oracle_form::byte::{pass, put};
+use feature::bond_kind::{BondKind, reconcile, reverse};
+use oracle_form::output::Output;
+use oracle_form::reader::Reader;
 use oracle_form::{bond, text};
 use spell::spell_bond;
 
 // No bond's text is longer.
 const LONGEST: usize = 1;
 
-fn print_spelling(out: &mut [u8], k: BondKind) -> usize
-    ensures { result ≤ length out.new }
-{
+// The bond that is all that is left.
+fn parse_last(r: &mut Reader<'_>) -> Option<BondKind> {
+    let k = bond::parse(r)?;
+    if r.is_at_end() { Some(k) } else { None }
+}
+
+pub fn answer_spelling(arguments: &[u8], out: &mut Output<'_>) -> Option<()> {
+    let k = parse_last(&mut Reader::new(arguments))?;
     let mut spelling = [0u8; LONGEST];
     let n = spell_bond(&mut spelling, k);
-    text::print(out, 0, &spelling[0..n])
+    text::put(out, &spelling[..n]);
+    Some(())
 }
 
-fn print_reconciled(out: &mut [u8], r: Reconciled) -> usize
-    ensures { result ≤ length out.new }
-{
-    match r {
-        Reconciled::Both(left, right) => {
-            let at = bond::print(out, 0, left);
-            let at = put(out, at, b' ');
-            bond::print(out, at, right)
+pub fn answer_reversed(arguments: &[u8], out: &mut Output<'_>) -> Option<()> {
+    let k = parse_last(&mut Reader::new(arguments))?;
+    bond::put(out, reverse(k));
+    Some(())
+}
+
+pub fn answer_reconciled(arguments: &[u8], out: &mut Output<'_>) -> Option<()> {
+    let mut r = Reader::new(arguments);
+    let left = bond::parse(&mut r)?;
+    r.pass(b' ')?;
+    let right = parse_last(&mut r)?;
+    match reconcile(left, right) {
+        Some((left, right)) => {
+            bond::put(out, left);
+            out.put(b' ');
+            bond::put(out, right);
         }
-        Reconciled::Fails => say(out, 0, say::FAILS),
+        None => out.put_all(b"fails"),
     }
-}
-
-// Of a first bond and of the one at a place.
-fn answer_of_two(left: BondKind, arguments: &[u8], at: usize, out: &mut [u8]) -> usize
-    ensures { result ≤ length out.new }
-{
-    let parsed = bond::parse(arguments, at);
-    if parsed.next != arguments.len() {
-        return 0;
-    }
-    let right = parsed.kind;
-    print_reconciled(out, reconcile(left, right))
-}
-
-pub fn answer(operation: usize, arguments: &[u8], out: &mut [u8]) -> usize
-    ensures { result ≤ length out.new }
-{
-    let parsed = bond::parse(arguments, 0);
-    let k = parsed.kind;
-    if operation == operation::RECONCILE {
-        return answer_of_two(k, arguments, pass(arguments, parsed.next, b' '), out);
-    }
-    if parsed.next != arguments.len() {
-        return 0;
-    }
-    if operation == operation::REVERSE {
-        return bond::print(out, 0, reverse(k));
-    }
-    print_spelling(out, k)
+    Some(())
 }

@@ -1,88 +1,75 @@
 // Requests about an atom's kind: `spell`, `invert`, `targets` and `aromatic`.
-ghost use Rattle.std.specs.Prelude.{◌≤◌, length};
-
-use crate::say::say;
-use crate::{operation, say};
-use feature::atom_kind::{AtomKind, Inverted, invert};
+use feature::atom_kind::{AtomKind, invert};
 use feature::element;
-use oracle_form::byte::put;
-use oracle_form::{kind, number, text};
+use oracle_form::output::Output;
+use oracle_form::reader::Reader;
+use oracle_form::{kind, text};
 use spell::spell_atom;
 use targets::{Valences, targets};
 
 // No atom's text is longer.
 const LONGEST: usize = 21;
 
-fn print_spelling(out: &mut [u8], k: AtomKind) -> usize
-    ensures { result ≤ length out.new }
-{
-    let mut spelling = [0u8; LONGEST];
-    let n = spell_atom(&mut spelling, k);
-    text::print(out, 0, &spelling[0..n])
+// The kind that is all of the arguments.
+fn parse(arguments: &[u8]) -> Option<AtomKind> {
+    let mut r = Reader::new(arguments);
+    let k = kind::parse(&mut r)?;
+    if r.is_at_end() { Some(k) } else { None }
 }
 
-fn print_inverted(out: &mut [u8], i: Inverted) -> usize
-    ensures { result ≤ length out.new }
-{
-    match i {
-        Inverted::Turned(k) => kind::print(out, 0, k),
-        Inverted::Refused => say(out, 0, say::REFUSED),
+pub fn answer_spelling(arguments: &[u8], out: &mut Output<'_>) -> Option<()> {
+    let mut spelling = [0u8; LONGEST];
+    let n = spell_atom(&mut spelling, parse(arguments)?);
+    text::put(out, &spelling[..n]);
+    Some(())
+}
+
+pub fn answer_inverted(arguments: &[u8], out: &mut Output<'_>) -> Option<()> {
+    match invert(parse(arguments)?) {
+        Some(k) => kind::put(out, k),
+        None => out.put_all(b"refused"),
     }
+    Some(())
 }
 
 // A number more of several.
-fn print_next(out: &mut [u8], at: usize, n: u32) -> usize
-    ensures { result ≤ length out.new }
-{
-    let at = put(out, at, b',');
-    number::print(out, at, n as usize)
+fn put_next(out: &mut Output<'_>, n: u32) {
+    out.put(b',');
+    out.number(n as usize);
 }
 
-fn print_targets(out: &mut [u8], v: Valences) -> usize
-    ensures { result ≤ length out.new }
-{
-    match v {
-        Valences::None => put(out, 0, b'-'),
-        Valences::One(a) => number::print(out, 0, a as usize),
+pub fn answer_targets(arguments: &[u8], out: &mut Output<'_>) -> Option<()> {
+    match targets(parse(arguments)?) {
+        Valences::None => out.put(b'-'),
+        Valences::One(a) => out.number(a as usize),
         Valences::Two(a, b) => {
-            let at = number::print(out, 0, a as usize);
-            print_next(out, at, b)
+            out.number(a as usize);
+            put_next(out, b);
         }
         Valences::Three(a, b, c) => {
-            let at = number::print(out, 0, a as usize);
-            let at = print_next(out, at, b);
-            print_next(out, at, c)
+            out.number(a as usize);
+            put_next(out, b);
+            put_next(out, c);
         }
     }
+    Some(())
 }
 
-// Whether the kind is written as aromatic, in a word.
-fn is_aromatic(k: AtomKind) -> usize {
+// Whether the kind is written as aromatic.
+fn is_aromatic(k: AtomKind) -> bool {
     match k {
-        AtomKind::Star => say::NO,
-        AtomKind::Aliphatic(_) => say::NO,
-        AtomKind::Aromatic(_) => say::YES,
-        AtomKind::Bracket(b) => {
-            if b.symbol < element::AROMATIC {
-                return say::NO;
-            }
-            say::YES
-        }
+        AtomKind::Star | AtomKind::Aliphatic(_) => false,
+        AtomKind::Aromatic(_) => true,
+        AtomKind::Bracket(b) => b.symbol >= element::AROMATIC,
     }
 }
 
-pub fn answer(operation: usize, arguments: &[u8], out: &mut [u8]) -> usize
-    ensures { result ≤ length out.new }
-{
-    let parsed = kind::parse(arguments, 0);
-    if parsed.next != arguments.len() {
-        return 0;
-    }
-    let k = parsed.kind;
-    match operation {
-        operation::SPELL => print_spelling(out, k),
-        operation::INVERT => print_inverted(out, invert(k)),
-        operation::TARGETS => print_targets(out, targets(k)),
-        _ => say(out, 0, is_aromatic(k)),
-    }
+pub fn answer_aromatic(arguments: &[u8], out: &mut Output<'_>) -> Option<()> {
+    let answer: &[u8] = if is_aromatic(parse(arguments)?) {
+        b"yes"
+    } else {
+        b"no"
+    };
+    out.put_all(answer);
+    Some(())
 }

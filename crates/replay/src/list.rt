@@ -1,181 +1,120 @@
 // A list, read block by block: the whole lines of a block are judged, and what is left of it, the start of a line, is
 // moved to the front for the next read. So the memory that is needed does not grow with the list.
-ghost use Rattle.std.specs.Prelude.{◌≤◌, length};
-ghost use Rattle.replay.specs.Steps.{held_after};
+ghost use Rattle.std.specs.Prelude.{◌≤◌, length, IfSome};
 
-use crate::line::{give_up, judge};
-use crate::slices::move_to_front;
+use crate::line::Judge;
 use crate::tally::Tally;
-use oracle_form::byte::find;
-use program_io::failure::{fail, say};
+use oracle_form::output::Output;
+use program_io::failure::say;
+use std::fmt::Write;
 use std::io;
-use std::io::{Read, Stdout};
+use std::io::Read;
 
 // The bytes that are read at once, and room for an answer and for a text.
 const BLOCK: usize = 65536;
 
-// How far the reading has come.
+// What is known of a line that has not ended.
 #[derive(Clone, Copy)]
-struct Progress {
-    // How many bytes of a line that has not ended are at the block's front.
+struct Begun {
+    // How many bytes of it are at the block's front.
     held: usize,
-    // Whether that line was given up because no block holds it.
-    too_long: bool,
-    tally: Tally,
+    // Whether it was given up because no block holds it.
+    is_too_long: bool,
 }
 
-// A block's lines judged: where the line begins that it does not end.
-#[derive(Clone, Copy)]
-struct Taken {
-    rest: usize,
-    too_long: bool,
-    tally: Tally,
+fn is_line_end(b: &u8) -> bool {
+    *b == b'\n'
 }
 
-#[derive(Clone, Copy)]
-enum Step {
-    More(Progress),
-    Ended(Tally),
-    Failed(io::Error),
-}
-
-// Judges the whole lines of a block from a place on.
-fn take_lines(
-    to: Stdout,
-    block: &[u8],
-    start: usize,
-    tally: Tally,
-    out: &mut [u8],
-    text: &mut [u8],
-) -> Taken
-    requires { start ≤ length block.now }
-    ensures { result.rest ≤ length block.now }
+// What is left to be judged of what was read: the rest of a line that was given up is passed over.
+fn pass_over(bytes: &[u8], begun: Begun) -> Option<&[u8]>
+    ensures { IfSome result (λ lines. length lines.now ≤ length bytes.now) }
 {
-    let mut tally = tally;
-    let mut rest = start;
-    let mut end = find(block, rest, b'\n');
-    while end < block.len() {
-        tally = judge(to, &block[rest..end], tally, out, text);
-        rest = end + 1;
-        end = find(block, rest, b'\n');
+    if !begun.is_too_long {
+        return Some(bytes);
     }
-    Taken {
-        rest,
-        too_long: false,
-        tally,
-    }
+    let end = bytes.iter().position(is_line_end)?;
+    bytes.get(end + 1..)
 }
 
-// Judges the whole lines of a block, but passes over what is left of a line that was given up.
-fn take_block(to: Stdout, block: &[u8], p: Progress, out: &mut [u8], text: &mut [u8]) -> Taken
-    ensures { result.rest ≤ length block.now }
+// Judges the whole lines, and answers what is left: the start of one that does not end here.
+fn take_lines<'a, P: Print>(bytes: &'a [u8], judge: &mut Judge<'_, P>) -> &'a [u8]
+    ensures { length result.now ≤ length bytes.now }
 {
-    let tally = p.tally;
-    if p.too_long {
-        let end = find(block, 0, b'\n');
-        if end == block.len() {
-            return Taken {
-                rest: end,
-                too_long: true,
-                tally,
-            };
-        }
-        return take_lines(to, block, end + 1, tally, out, text);
+    let Some(end) = bytes.iter().rposition(is_line_end) else {
+        return bytes;
+    };
+    for line in bytes[..end].split(is_line_end) {
+        judge.judge(line);
     }
-    take_lines(to, block, 0, tally, out, text)
+    &bytes[end + 1..]
 }
 
-// Keeps what is left of a block's first bytes. A line that fills the whole block is given up, and counts as one that
-// differs.
-fn keep_rest(to: Stdout, block: &mut [u8], n: usize, t: Taken) -> Progress
-    requires { (t.rest ≤ n) × (n ≤ length block.old) }
+// Judges the whole lines of a block's first bytes, and keeps what is left of them. A line that fills the whole block is
+// given up, and counts as one that differs.
+fn take_block<P: Print>(block: &mut [u8], n: usize, begun: Begun, judge: &mut Judge<'_, P>) -> Begun
+    requires { n ≤ length block.old }
     ensures { result.held ≤ length block.new }
 {
-    let tally = t.tally;
-    if t.rest == 0 && n == block.len() {
-        return Progress {
-            held: 0,
-            too_long: true,
-            tally: give_up(to, tally),
-        };
+    let given_up = Begun {
+        held: 0,
+        is_too_long: true,
+    };
+    let Some(lines) = pass_over(&block[..n], begun) else {
+        return given_up;
+    };
+    let held = take_lines(lines, judge).len();
+    if held == block.len() {
+        judge.give_up();
+        return given_up;
     }
-    move_to_front(block, t.rest, n);
-    Progress {
-        held: n - t.rest,
-        too_long: t.too_long,
-        tally,
-    }
-}
-
-// The last line, if no line end follows it.
-fn take_last(to: Stdout, line: &[u8], p: Progress, out: &mut [u8], text: &mut [u8]) -> Tally {
-    let tally = p.tally;
-    if line.len() == 0 {
-        return tally;
-    }
-    judge(to, line, tally, out, text)
-}
-
-// One read, and all that can be judged after it.
-fn read_once<R: Read>(
-    to: Stdout,
-    input: &mut R,
-    p: Progress,
-    block: &mut [u8],
-    out: &mut [u8],
-    text: &mut [u8],
-) -> Step
-    requires { p.held ≤ length block.old }
-    ensures { held_after result ≤ length block.new }
-{
-    let held = p.held;
-    match input.read(&mut block[held..]) {
-        Err(error) => Step::Failed(error),
-        Ok(0) => Step::Ended(take_last(to, &block[0..held], p, out, text)),
-        Ok(got) => {
-            let n = held + got;
-            let taken = take_block(to, &block[0..n], p, out, text);
-            Step::More(keep_rest(to, block, n, taken))
-        }
+    block.copy_within(n - held..n, 0);
+    Begun {
+        held,
+        is_too_long: false,
     }
 }
 
 // Nothing says that a file ends, so the loop counts its turns, to a number that no run reaches.
-fn read_all<R: Read>(
-    to: Stdout,
+fn read_all<R: Read, P: Print>(
     input: &mut R,
     block: &mut [u8],
-    out: &mut [u8],
-    text: &mut [u8],
-) -> Step {
-    let mut p = Progress {
+    judge: &mut Judge<'_, P>,
+) -> io::Result<()> {
+    let mut begun = Begun {
         held: 0,
-        too_long: false,
-        tally: Tally::new(),
+        is_too_long: false,
     };
     for _ in 0..u64::MAX {
-        match read_once(to, input, p, block, out, text) {
-            Step::More(next) => p = next,
-            Step::Ended(tally) => return Step::Ended(tally),
-            Step::Failed(error) => return Step::Failed(error),
+        let held = begun.held;
+        let got = input.read(&mut block[held..])?;
+        if got == 0 {
+            if held > 0 {
+                judge.judge(&block[..held]);
+            }
+            return Ok(());
         }
+        begun = take_block(block, held + got, begun, judge);
     }
-    Step::Failed(io::Error::other("the list does not end"))
+    Err(io::Error::other("the list does not end"))
 }
 
 // Replays a list and prints what came of it. A list that cannot be read to its end gets no such line.
-pub fn replay<R: Read>(rt: &HostRuntime, input: &mut R, name: &[u8]) {
+pub fn replay<R: Read, P: Print>(to: &P, input: &mut R, name: &[u8]) -> io::Result<()> {
     let mut block = [0u8; BLOCK];
     let mut out = [0u8; BLOCK];
     let mut text = [0u8; BLOCK];
-    let to = rt.stdout();
-    match read_all(to, input, &mut block, &mut out, &mut text) {
-        Step::Ended(tally) => {
-            let n = tally.print(&mut out, name);
-            say(&to, &out[0..n]);
-        }
-        Step::Failed(error) => fail(&rt.stderr(), name, error),
-        // The reading goes on until one of the two comes.
-        Step::More(_) => {}
-    }
+    let mut judge = Judge {
+        to,
+        tally: Tally::default(),
+        out: &mut out,
+        text: &mut text,
+    };
+    read_all(input, &mut block, &mut judge)?;
+    let tally = judge.tally;
+    let mut line = Output::new(&mut block);
+    line.put_all(name);
+    let _ = write!(line, ": {tally}\n");
+    say(to, line.bytes());
+    Ok(())
 }

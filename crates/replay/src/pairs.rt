@@ -1,92 +1,41 @@
 // Requests about the pool of ring numbers: `pool A-B,C-D,..`, the numbers that it hands out for the pairs, one after the
 // other. A refusal ends them; without a pair there is a `-`.
-ghost use Rattle.std.specs.Prelude.{◌≤◌, length};
+ghost use Rattle.std.specs.Prelude.{◌<◌, length, OnSome};
 
-use crate::say;
-use crate::say::say;
-use crate::sizes::HIGHEST_WORD;
-use join_pool::{Given, PAIRS, Pool, hit};
-use oracle_form::byte::{NOWHERE, pass, pass_or_end, put};
+use join_pool::{PAIRS, Pool};
 use oracle_form::number;
+use oracle_form::output::Output;
+use oracle_form::reader::Reader;
 
-// A pair and the place after it and its `,`.
-#[derive(Clone, Copy)]
-struct Pair {
-    left: u32,
-    right: u32,
-    next: usize,
-}
-
-fn missing() -> Pair {
-    Pair {
-        left: 0,
-        right: 0,
-        next: NOWHERE,
-    }
-}
-
-fn parse_pair(s: &[u8], at: usize) -> Pair {
-    let left = number::parse(s, at);
-    let right = number::parse(s, pass(s, left.next, b'-'));
-    if HIGHEST_WORD < left.value {
-        return missing();
-    }
-    if HIGHEST_WORD < right.value {
-        return missing();
-    }
-    Pair {
-        left: left.value as u32,
-        right: right.value as u32,
-        next: pass_or_end(s, right.next, b','),
-    }
-}
-
-// The mark between a number and the one before it.
-fn print_mark(out: &mut [u8], at: usize) -> usize
-    requires { at ≤ length out.old }
-    ensures { result ≤ length out.new }
+// A pair, and its `,`.
+fn parse_pair(r: &mut Reader<'_>) -> Option<(u32, u32)>
+    ensures { OnSome result (length r.new.rest.now < length r.old.rest.now) }
 {
-    if at == 0 {
-        return at;
-    }
-    put(out, at, b',')
+    let left = number::parse_word(r)?;
+    r.pass(b'-')?;
+    let right = number::parse_word(r)?;
+    r.pass_or_end(b',')?;
+    Some((left, right))
 }
 
-// Prints the numbers for all pairs.
-fn print_numbers(out: &mut [u8], s: &[u8], pairs: &mut [u32]) -> usize
-    ensures { result ≤ length out.new }
-{
-    let mut pool = Pool::empty();
-    let mut at = 0;
-    let mut next = 0;
-    // No pair is without a byte, so there are not more of them than bytes.
-    let mut left = s.len();
-    while left > 0 {
-        if s.len() <= at {
-            return next;
-        }
-        let pair = parse_pair(s, at);
-        if pair.next == NOWHERE {
-            return 0;
-        }
-        next = print_mark(out, next);
-        let Given::Number(after, n) = hit(pairs, pool, pair.left, pair.right) else {
-            return say(out, next, say::REFUSED);
-        };
-        next = number::print(out, next, n as usize);
-        pool = after;
-        at = pair.next;
-        left -= 1;
-    }
-    next
-}
-
-pub fn answer(arguments: &[u8], out: &mut [u8]) -> usize
-    ensures { result ≤ length out.new }
-{
-    if arguments.len() == 0 {
-        return put(out, 0, b'-');
+pub fn answer(arguments: &[u8], out: &mut Output<'_>) -> Option<()> {
+    if arguments.is_empty() {
+        out.put(b'-');
     }
     let mut pairs = [0u32; PAIRS];
-    print_numbers(out, arguments, &mut pairs)
+    let mut pool = Pool::empty();
+    let mut r = Reader::new(arguments);
+    // Until the reader has no more: there is no index.
+    while !r.is_at_end() {
+        let (left, right) = parse_pair(&mut r)?;
+        if out.end > 0 {
+            out.put(b',');
+        }
+        let Some(n) = pool.hit(&mut pairs, left, right) else {
+            out.put_all(b"refused");
+            return Some(());
+        };
+        out.number(n as usize);
+    }
+    Some(())
 }

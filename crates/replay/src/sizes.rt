@@ -1,4 +1,4 @@
-// Sizes and numbers that requests of several sorts share.
+// Sizes that requests of several sorts share.
 use table::limits::{ATOMS, BONDS};
 use table::{ATOM_WORDS, BOND_WORDS};
 
@@ -8,11 +8,7 @@ pub const ATOM_TABLE: usize = (ATOMS + 1) * ATOM_WORDS;
 pub const BOND_TABLE: usize = (BONDS + 1) * BOND_WORDS;
 // The longest line of the largest graph: 24 bytes an atom and 4 a bond entry.
 pub const LONGEST_LINE: usize = 24 * ATOMS + 4 * BONDS;
-// The highest word of a table.
-pub const HIGHEST_WORD: usize = 4294967295;
 // The highest ring number.
-pub const HIGHEST_RING: usize = 99;
+pub const HIGHEST_RING: u32 = 99;
 // What tables that are lent hold before a call.
 pub const OTHER: u32 = 7;
-// A request that cannot be read. No refusal of the desk has this number.
-pub const UNREADABLE: u32 = 99;

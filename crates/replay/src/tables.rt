@@ -1,8 +1,9 @@
 // A graph parsed into tables: atoms separated by `;`, each its kind and then its bonds, each after a blank, a bond being
 // its kind and the number of its target. The empty text is the empty graph. A `?` is a record of zeros, which stands for
 // no atom and no bond.
-use crate::sizes::HIGHEST_WORD;
-use oracle_form::byte::{NOWHERE, after, pass, peek};
+ghost use Rattle.std.specs.Prelude.{◌<◌, ◌≤◌, length, OnSome, IfSome};
+
+use oracle_form::reader::Reader;
 use oracle_form::{bond, kind, number};
 use packing::{store, store_bond};
 use table::limits::{ATOMS, BONDS};
@@ -10,106 +11,91 @@ use table::{ATOM_WORDS, BOND_WORDS, DEGREE, poke};
 
 const UNKNOWN: u8 = b'?';
 
-// How many atoms and bond entries were parsed, and the place after them.
+// How many atoms and bond entries a graph has.
 #[derive(Clone, Copy)]
-pub struct Parsed {
+pub struct Counts {
     pub atoms: usize,
     pub entries: usize,
-    pub next: usize,
 }
 
-// An atom's kind.
-fn parse_kind(s: &[u8], at: usize, atoms: &mut [u32], word: usize) -> usize {
-    if peek(s, at) == UNKNOWN {
-        return after(at);
-    }
-    let parsed = kind::parse(s, at);
-    let k = parsed.kind;
-    if parsed.next < NOWHERE {
+// An atom's kind, at a word of the table.
+fn parse_kind(r: &mut Reader<'_>, atoms: &mut [u32], word: usize) -> Option<()>
+    ensures { OnSome result (length r.new.rest.now < length r.old.rest.now) }
+{
+    if r.pass(UNKNOWN).is_none() {
+        let k = kind::parse(r)?;
         store(atoms, word, k);
     }
-    parsed.next
+    Some(())
 }
 
-// A bond entry, after its blank.
-fn parse_bond(s: &[u8], at: usize, bonds: &mut [u32], word: usize) -> usize {
-    if peek(s, at) == UNKNOWN {
-        return after(at);
+// A bond entry, at a word of the table.
+fn parse_bond(r: &mut Reader<'_>, bonds: &mut [u32], word: usize) -> Option<()>
+    ensures { OnSome result (length r.new.rest.now < length r.old.rest.now) }
+{
+    if r.pass(UNKNOWN).is_none() {
+        let k = bond::parse(r)?;
+        let target = number::parse_word(r)?;
+        store_bond(bonds, word, k, target);
     }
-    let parsed = bond::parse(s, at);
-    let k = parsed.kind;
-    let target = number::parse(s, parsed.next);
-    if HIGHEST_WORD < target.value {
-        return NOWHERE;
-    }
-    store_bond(bonds, word, k, target.value as u32);
-    target.next
+    Some(())
 }
 
-// The bond entries of an atom, each after a blank, added to those parsed.
-fn parse_bonds(s: &[u8], bonds: &mut [u32], p: Parsed) -> Parsed {
-    let mut p = p;
-    let mut left = s.len();
-    // No entry is without a byte, so there are not more of them than bytes.
-    while left > 0 {
-        if peek(s, p.next) != b' ' {
-            return p;
+// The bond entries of an atom, each after a blank, put after those that the table holds, and how many there are then.
+fn parse_bonds(r: &mut Reader<'_>, bonds: &mut [u32], held: usize) -> Option<usize>
+    ensures shorter { OnSome result (length r.new.rest.now ≤ length r.old.rest.now) }
+    ensures more { IfSome result (λ entries. held ≤ entries) }
+{
+    let mut entries = held;
+    // Until the reader has no more: there is no index.
+    while r.pass(b' ').is_some() {
+        if BONDS < entries {
+            return None;
         }
-        if BONDS < p.entries {
-            p.next = NOWHERE;
-            return p;
-        }
-        p.next = parse_bond(s, after(p.next), bonds, p.entries * BOND_WORDS);
-        p.entries += 1;
-        left -= 1;
+        parse_bond(r, bonds, entries * BOND_WORDS)?;
+        entries += 1;
     }
-    p
+    Some(entries)
 }
 
-// How many bond entries an atom has, at the word that holds it.
-fn put_degree(atoms: &mut [u32], word: usize, degree: usize) {
-    if degree <= HIGHEST_WORD {
-        poke(atoms, word, degree as u32);
+// An atom with its bonds, put after those that the tables hold, and how many there are then.
+fn parse_atom(
+    r: &mut Reader<'_>,
+    atoms: &mut [u32],
+    bonds: &mut [u32],
+    held: Counts,
+) -> Option<Counts>
+    ensures { OnSome result (length r.new.rest.now < length r.old.rest.now) }
+{
+    if ATOMS < held.atoms {
+        return None;
     }
+    let word = held.atoms * ATOM_WORDS;
+    parse_kind(r, atoms, word)?;
+    let entries = parse_bonds(r, bonds, held.entries)?;
+    let degree = u32::try_from(entries - held.entries).ok()?;
+    poke(atoms, word + DEGREE, degree);
+    Some(Counts {
+        atoms: held.atoms + 1,
+        entries,
+    })
 }
 
-// An atom with its bonds.
-fn parse_atom(s: &[u8], atoms: &mut [u32], bonds: &mut [u32], p: Parsed) -> Parsed {
-    let mut p = p;
-    let held = p.entries;
-    if ATOMS < p.atoms {
-        p.next = NOWHERE;
-        return p;
-    }
-    let word = p.atoms * ATOM_WORDS;
-    p.next = parse_kind(s, p.next, atoms, word);
-    p.atoms += 1;
-    let p = parse_bonds(s, bonds, p);
-    if held < p.entries {
-        put_degree(atoms, word + DEGREE, p.entries - held);
-    }
-    p
-}
-
-// The graph from a place to the end, in tables of zeros. `next` is another place than the end where there is none.
-pub fn parse(s: &[u8], at: usize, atoms: &mut [u32], bonds: &mut [u32]) -> Parsed {
-    let mut p = Parsed {
+// The graph that is all that is left, in tables of zeros.
+pub fn parse(r: &mut Reader<'_>, atoms: &mut [u32], bonds: &mut [u32]) -> Option<Counts> {
+    let mut counts = Counts {
         atoms: 0,
         entries: 0,
-        next: at,
     };
-    if at == s.len() {
-        return p;
+    if r.is_at_end() {
+        return Some(counts);
     }
-    let mut left = s.len();
-    // No atom is without a byte.
-    while left > 0 {
-        p = parse_atom(s, atoms, bonds, p);
-        if p.next == s.len() {
-            return p;
+    // The same: a record more as long as a mark follows.
+    loop {
+        counts = parse_atom(r, atoms, bonds, counts)?;
+        if r.is_at_end() {
+            return Some(counts);
         }
-        p.next = pass(s, p.next, b';');
-        left -= 1;
+        r.pass(b';')?;
     }
-    p
 }

@@ -1,63 +1,42 @@
 // What came of the lines of a list: how many were compared, answered as a listed difference, and answered otherwise.
-ghost use Rattle.std.specs.Prelude.{◌≤◌, length};
+use std::fmt;
 
-use oracle_form::byte::put_word;
-use oracle_form::number;
-
-#[derive(Clone, Copy)]
+// Counts that are full stay as they are.
+#[derive(Clone, Copy, Default)]
 pub struct Tally {
-    pub lines: usize,
-    pub listed: usize,
+    lines: usize,
+    listed: usize,
     pub differ: usize,
 }
 
-// One more; a count that is full stays as it is.
-fn more(n: usize) -> usize {
-    if n < usize::MAX {
-        return n + 1;
-    }
-    n
-}
-
 impl Tally {
-    pub fn new() -> Self {
-        Self {
-            lines: 0,
-            listed: 0,
-            differ: 0,
-        }
-    }
-
     // A line answered as the Rust does.
-    pub fn agrees(mut self) -> Self {
-        self.lines = more(self.lines);
-        self
+    pub fn agrees(&mut self) {
+        self.lines = self.lines.saturating_add(1);
     }
 
     // A line answered as the listed difference says.
-    pub fn agrees_as_listed(mut self) -> Self {
-        self.lines = more(self.lines);
-        self.listed = more(self.listed);
-        self
+    pub fn agrees_as_listed(&mut self) {
+        self.agrees();
+        self.listed = self.listed.saturating_add(1);
     }
 
-    pub fn differs(mut self) -> Self {
-        self.lines = more(self.lines);
-        self.differ = more(self.differ);
-        self
+    pub fn differs(&mut self) {
+        self.lines = self.lines.saturating_add(1);
+        self.differ = self.differ.saturating_add(1);
     }
+}
 
-    // The line that is printed of a list.
-    pub fn print(self, out: &mut [u8], name: &[u8]) -> usize
-        ensures { result ≤ length out.new }
-    {
-        let at = put_word(out, 0, name);
-        let at = put_word(out, at, b": ");
-        let at = number::print(out, at, self.lines);
-        let at = put_word(out, at, b" lines, ");
-        let at = number::print(out, at, self.listed);
-        let at = put_word(out, at, b" listed differences, ");
-        let at = number::print(out, at, self.differ);
-        put_word(out, at, b" differ\n")
+impl fmt::Display for Tally {
+    fn fmt<W: fmt::Write>(&self, f: &mut fmt::Formatter<W>) -> fmt::Result {
+        let Tally {
+            lines,
+            listed,
+            differ,
+        } = *self;
+        write!(
+            f,
+            "{lines} lines, {listed} listed differences, {differ} differ"
+        )
     }
 }

@@ -1,83 +1,60 @@
 // Requests about a text: `atom`, `rnum` and `bond`, what is at its start.
-ghost use Rattle.std.specs.Prelude.{◌≤◌, length};
-
-use crate::say::say;
-use crate::{operation, say};
-use oracle_form::byte::put;
-use oracle_form::{bond, kind, number, text};
+use oracle_form::output::Output;
+use oracle_form::{bond, kind, text};
 use read_atom::read_atom::read_atom;
-use read_token::read_bond::{Bond, read_bond};
-use read_token::read_rnum::{Ring, read_rnum};
-use read_token::scanner::{Found, Missing};
+use read_token::read_bond::read_bond;
+use read_token::read_rnum::read_rnum;
+use read_token::scanner::Missing;
 
-fn print_missing(out: &mut [u8], m: Missing) -> usize
-    ensures { result ≤ length out.new }
-{
+fn put_missing(out: &mut Output<'_>, m: Missing) {
     match m {
-        Missing::EndOfLine => say(out, 0, say::END),
+        Missing::EndOfLine => out.put_all(b"end"),
         Missing::Character(place) => {
-            let at = say(out, 0, say::CHARACTER);
-            number::print(out, at, place)
+            out.put_all(b"character ");
+            out.number(place);
         }
     }
 }
 
 // The place after what was found.
-fn print_next(out: &mut [u8], at: usize, next: usize) -> usize
-    ensures { result ≤ length out.new }
-{
-    let at = put(out, at, b' ');
-    number::print(out, at, next)
+fn put_next(out: &mut Output<'_>, next: usize) {
+    out.put(b' ');
+    out.number(next);
 }
 
-fn print_atom(out: &mut [u8], f: Found) -> usize
-    ensures { result ≤ length out.new }
-{
-    match f {
-        Found::Atom(k, next) => {
-            let at = say(out, 0, say::ATOM);
-            let at = kind::print(out, at, k);
-            print_next(out, at, next)
+pub fn answer_atom(arguments: &[u8], out: &mut Output<'_>, room: &mut [u8]) -> Option<()> {
+    let n = text::parse(arguments, room)?;
+    match read_atom(&room[..n], 0) {
+        Ok(Some((k, next))) => {
+            out.put_all(b"atom ");
+            kind::put(out, k);
+            put_next(out, next);
         }
-        Found::Nothing => say(out, 0, say::NONE),
-        Found::Lacks(m) => print_missing(out, m),
+        Ok(None) => out.put_all(b"none"),
+        Err(m) => put_missing(out, m),
     }
+    Some(())
 }
 
-fn print_rnum(out: &mut [u8], r: Ring) -> usize
-    ensures { result ≤ length out.new }
-{
-    match r {
-        Ring::Number(n, next) => {
-            let at = say(out, 0, say::RNUM);
-            let at = number::print(out, at, n as usize);
-            print_next(out, at, next)
+pub fn answer_rnum(arguments: &[u8], out: &mut Output<'_>, room: &mut [u8]) -> Option<()> {
+    let n = text::parse(arguments, room)?;
+    match read_rnum(&room[..n], 0) {
+        Ok(Some((number, next))) => {
+            out.put_all(b"rnum ");
+            out.number(number as usize);
+            put_next(out, next);
         }
-        Ring::Nothing => say(out, 0, say::NONE),
-        Ring::Lacks(m) => print_missing(out, m),
+        Ok(None) => out.put_all(b"none"),
+        Err(m) => put_missing(out, m),
     }
+    Some(())
 }
 
-fn print_bond(out: &mut [u8], b: Bond) -> usize
-    ensures { result ≤ length out.new }
-{
-    let at = say(out, 0, say::BOND);
-    let k = b.kind;
-    let at = bond::print(out, at, k);
-    print_next(out, at, b.next)
-}
-
-pub fn answer(operation: usize, arguments: &[u8], out: &mut [u8], room: &mut [u8]) -> usize
-    ensures { result ≤ length out.new }
-{
-    let n = text::parse(arguments, 0, room);
-    if room.len() < n {
-        return 0;
-    }
-    let line = &room[0..n];
-    match operation {
-        operation::ATOM => print_atom(out, read_atom(line, 0)),
-        operation::RNUM => print_rnum(out, read_rnum(line, 0)),
-        _ => print_bond(out, read_bond(line, 0)),
-    }
+pub fn answer_bond(arguments: &[u8], out: &mut Output<'_>, room: &mut [u8]) -> Option<()> {
+    let n = text::parse(arguments, room)?;
+    let found = read_bond(&room[..n], 0);
+    out.put_all(b"bond ");
+    bond::put(out, found.value);
+    put_next(out, found.next);
+    Some(())
 }

@@ -1,41 +1,19 @@
 // Plain words parsed into a table: numbers, each with a `,` after it.
-use crate::sizes::HIGHEST_WORD;
-use oracle_form::byte::{NOWHERE, pass, peek};
+ghost use Rattle.std.specs.Prelude.{◌≤◌, length, IfSome};
+
 use oracle_form::number;
-use table::poke;
+use oracle_form::reader::Reader;
 
-// How many words were parsed, and the place after them.
-#[derive(Clone, Copy)]
-pub struct Parsed {
-    pub words: usize,
-    pub next: usize,
-}
-
-fn is_digit(b: u8) -> bool {
-    match b {
-        b'0'..=b'9' => true,
-        _ => false,
-    }
-}
-
-// The words from a place on, as many as there are.
-pub fn parse(s: &[u8], at: usize, table: &mut [u32]) -> Parsed {
-    let mut words = 0;
-    let mut next = at;
-    while words < table.len() {
-        if !is_digit(peek(s, next)) {
-            return Parsed { words, next };
+// The words that are next, as many as there are or as the table has room for, and how many they are.
+pub fn parse(r: &mut Reader<'_>, table: &mut [u32]) -> Option<usize>
+    ensures { IfSome result (λ words. words ≤ length table.new) }
+{
+    for (words, place) in table.iter_mut().enumerate() {
+        if !matches!(r.peek(), Some(b'0'..=b'9')) {
+            return Some(words);
         }
-        let n = number::parse(s, next);
-        if HIGHEST_WORD < n.value {
-            return Parsed {
-                words,
-                next: NOWHERE,
-            };
-        }
-        poke(table, words, n.value as u32);
-        words += 1;
-        next = pass(s, n.next, b',');
+        *place = number::parse_word(r)?;
+        r.pass(b',')?;
     }
-    Parsed { words, next }
+    Some(table.len())
 }

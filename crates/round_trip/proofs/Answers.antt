@@ -12,12 +12,13 @@ use Rattle.table.specs.Records.{atom_words, bond_words}
 use Rattle.table.specs.Limits.{text_limit, atom_limit, bond_limit, lesser_of}
 use Rattle.desk_numbers.specs.Numbers.{atom_room, bond_room, nesting}
 use Rattle.read_line.specs.Parse.{parse}
-use Rattle.builder.specs.declared.build.Built.TheVariants as built
+use Rattle.std.specs.Prelude.{Ok}
+use Rattle.read.specs.Read.{graph_size}
+use Rattle.builder.specs.declared.build.BuildError.TheVariants as built
 use Rattle.builder_meaning.specs.Sketch.{Sketch, start_s, run_s, sketch_of, finish_s, next_number, count_of}
-use Rattle.read.specs.declared.Answer.TheVariants as answer
+use Rattle.read.specs.declared.ReadError.TheVariants as answer
 use Rattle.read.specs.Read.{Said, read_refusal, built_answer}
 use Rattle.read.specs.Line as read
-use Rattle.write.specs.declared.answer.Written.TheVariants.{Done}
 use Rattle.write.specs.Write.{graph_of, walk_events, line_said, write_leaves, write_of}
 use Rattle.read_line.specs.Events.{has_nest}
 use Rattle.read_line.specs.Steps.{unplaced}
@@ -31,7 +32,7 @@ use Rattle.round_trip.proofs.Wider.{Kept, kept, few_places, few_slots, run_wide}
 use Rattle.round_trip.proofs.Law.{line_is, line_says}
 use Rattle.round_trip.proofs.Deep.{deep_refused}
 
-done_is : (d : Sketch) (n m la lb : ℕ) → d.refusal ≡ 0 → finish_s d ≡ built.Done → next_number d ≡ n → count_of d.nodes ≡ m → (read.whole_or_refused d la lb).answer ≡ answer.Done n m
+done_is : (d : Sketch) (n m la lb : ℕ) → d.refusal ≡ 0 → finish_s d ≡ Ok tt → next_number d ≡ n → count_of d.nodes ≡ m → (read.whole_or_refused d la lb).answer ≡ Ok (graph_size n m)
 unfolding read.whole_or_refused read.whole_of built_answer
 done_is d n m la lb r f a b = rw (eq-eqb d.refusal 0 r, f, a, b)
 
@@ -40,7 +41,7 @@ unfolding read.whole_or_refused
 refused_is d r la lb e ne = rw (ne_eqb d.refusal 0 (λ z. ne (sym e ∙ z)), e)
 
 module _ (room : ℕ) (atoms : List ℕ) (n : ℕ) (bonds : List ℕ) (m len : ℕ) (out : List ℕ)
-    (P : Plain (graph_of n atoms bonds)) (e : write_of room atoms n bonds m ≡ write_leaves (Done len) out) (la lb : ℕ) where
+    (P : Plain (graph_of n atoms bonds)) (e : write_of room atoms n bonds m ≡ write_leaves (Ok len) out) (la lb : ℕ) where
   abbrev line : List ℕ
   line = take len out
 

@@ -20,9 +20,9 @@ use Rattle.read_token.specs.Scan.{peek_at, aromatic_of, aliphatic_of, organic_at
 use Rattle.read_line.specs.Parse.{miss_p, found_p, atom_p, line_p, parse}
 use Rattle.read_line.specs.Events.{ReadEvent, Enter, Join, Pop, Miss, Nest, has_nest}
 use Rattle.read_line.specs.Steps.{unplaced, placeless}
-use Rattle.builder.specs.declared.build.Built.TheVariants as built
+use Rattle.std.specs.Prelude.{Ok, None, is_none}
 use Rattle.builder_meaning.specs.Sketch.{Sketch, start_s, run_s, sketch_of, finish_s}
-use Rattle.read.specs.declared.Answer.{Answer}
+use Rattle.read.specs.Read.{Answer}
 use Rattle.read.specs.Read.{Said, read_refusal, built_answer}
 use Rattle.read.specs.Line as read
 use Rattle.writer.specs.Line.{Event, Root, Extend}
@@ -33,7 +33,6 @@ use Rattle.walk_laws.specs.Trek.{Room, fresh, degrees, AllAccepted}
 use Rattle.walk_laws.proofs.Sound.{sound_start}
 use Rattle.walk_laws.proofs.Accepted.{accepted}
 use Rattle.walk_laws.proofs.Judged.{judged_degrees}
-use Rattle.write.specs.declared.answer.Written.TheVariants.{Done}
 use Rattle.write.specs.Write.{pair_words, graph_of, walk_in, said_in, walk_events, line_said, write_leaves, write_of}
 use Rattle.trip_text.specs.Steps.{retold_one, retold, depth, Sayable, Spellable}
 use Rattle.trip_text.proofs.Retold.{retold_shallow, retold_nests}
@@ -96,7 +95,7 @@ refusal_blames r c =
     B x = blames_ring x ≡ false
 
 -- of a builder that is done, if it has refused nothing
-answer_blames : (d : Sketch) (la lb : ℕ) → (d.refusal ≡ 0 → finish_s d ≡ built.Done) → blames_ring (read.whole_or_refused d la lb).answer ≡ false
+answer_blames : (d : Sketch) (la lb : ℕ) → (d.refusal ≡ 0 → finish_s d ≡ Ok tt) → blames_ring (read.whole_or_refused d la lb).answer ≡ false
 unfolding read.whole_or_refused read.whole_of built_answer blames_ring
 answer_blames d la lb f =
     by_test (λ (x : Said). blames_ring x.answer ≡ false) (eqb d.refusal 0) (λ q. rw (f (eqb-true _ _ q)) refl) (λ q. refusal_blames d.refusal d.carried)
@@ -108,7 +107,7 @@ star_degrees g zero h = refl
 star_degrees g (suc n) h = ap₂ (λ (x y : ℕ). x + y) (star_degrees g n (omega arith)) (star_degree g n h)
 
 module _ (room : ℕ) (atoms : List ℕ) (n : ℕ) (bonds : List ℕ) (m len : ℕ) (out : List ℕ) (some : 1 ≤ n)
-    (e : write_of room atoms n bonds m ≡ write_leaves (Done len) out) where
+    (e : write_of room atoms n bonds m ≡ write_leaves (Ok len) out) where
   abbrev g : Graph
   g = graph_of n atoms bonds
 
@@ -130,7 +129,7 @@ module _ (room : ℕ) (atoms : List ℕ) (n : ℕ) (bonds : List ℕ) (m len : �
   star_room : Room (starred g) atom_limit atom_limit atom_limit
   star_room = record { met = few; back = few; taken = few }
 
-  fine : (walk_to g (turns_of n m) start).at.refusal ≡ 0
+  fine : (walk_to g (turns_of n m) start).at.refusal ≡ None
   unfolding walk_in
   fine = (was_done room atoms n bonds m len out e).fine
 
@@ -145,7 +144,7 @@ module _ (room : ℕ) (atoms : List ℕ) (n : ℕ) (bonds : List ℕ) (m len : �
   walk : StarWalk g (turns_of n m) start
   walk = star_walk g (turns_of n m) start 0 (sound_start g atom_limit atom_limit atom_limit atom_limit (zeros pair_words) walk_room) fine
 
-  star_fine : (walk_to (starred g) (turns_of n m) start).at.refusal ≡ 0
+  star_fine : (walk_to (starred g) (turns_of n m) start).at.refusal ≡ None
   star_fine = ap (λ (w : Walk). w.at.refusal) walk.walked ∙ fine
 
   star_entries : degrees (starred g) n ≤ m
@@ -177,9 +176,9 @@ module _ (room : ℕ) (atoms : List ℕ) (n : ℕ) (bonds : List ℕ) (m len : �
       subst (λ (es : List Event). 0 < length es) walk.said (some_said (starred g) atom_limit atom_limit atom_limit atom_limit (zeros pair_words) some few (turns_of n m) (omega (arith, some)))
 
   -- and builds a graph with no ring left open
-  star_built : (p l : ℕ) → n ≤ p → m ≤ l → finish_s (run_s (start_s p l) (retold stars)) ≡ built.Done
+  star_built : (p l : ℕ) → n ≤ p → m ≤ l → finish_s (run_s (start_s p l) (retold stars)) ≡ Ok tt
   star_built p l hp hl =
-      subst (λ (es : List Event). finish_s (run_s (start_s p l) (retold es)) ≡ built.Done) walk.said
+      subst (λ (es : List Event). finish_s (run_s (start_s p l) (retold es)) ≡ Ok tt) walk.said
       (graph_trip (starred g) simple (star_marks g) atom_limit atom_limit atom_limit atom_limit star_room few m star_entries star_fine p l hp (omega (arith, star_entries))).says
 
   -- the two lines are read alike
@@ -209,12 +208,12 @@ module _ (room : ℕ) (atoms : List ℕ) (n : ℕ) (bonds : List ℕ) (m len : �
     d = run_s (start_s places slots) (parse (line_said said))
 
     bares_done : run_s (start_s p l) (map bare_event (parse (line_said said))) ≡ run_s (start_s p l) (retold stars)
-        → Bares p l d (run_s (start_s p l) (map bare_event (parse (line_said said)))) → d.refusal ≡ 0 → finish_s d ≡ built.Done
+        → Bares p l d (run_s (start_s p l) (map bare_event (parse (line_said said)))) → d.refusal ≡ 0 → finish_s d ≡ Ok tt
     bares_done q (same i hp hl) z =
         sym (finish_bare p l d) ∙ ap finish_s (sym i ∙ q) ∙ star_built p l (omega arith) (omega arith)
     bares_done q (off h) z = absurd (h z)
 
-    alike_done : Alike (parse (line_said stars)) (parse (line_said said)) → d.refusal ≡ 0 → finish_s d ≡ built.Done
+    alike_done : Alike (parse (line_said stars)) (parse (line_said said)) → d.refusal ≡ 0 → finish_s d ≡ Ok tt
     alike_done (lost y) z = absurd (lost_refused (parse (line_said said)) y (start_s places slots) z)
     alike_done (alike q) z =
         by_bool (has_nest (parse (line_said stars)))
@@ -230,11 +229,11 @@ module _ (room : ℕ) (atoms : List ℕ) (n : ℕ) (bonds : List ℕ) (m len : �
       (alike_done (lesser_of atom_limit (la / atom_words)) (lesser_of bond_limit (lb / bond_words)) lines_alike)))
 
 -- ---- the empty graph, whose line is empty
-empty_step : (g : Graph) (w : Walk) → g.size ≡ 0 → w.at.current ≡ false → step_of g w ≡ quiet w
+empty_step : (g : Graph) (w : Walk) → g.size ≡ 0 → w.at.here ≡ None → step_of g w ≡ quiet w
 unfolding step_of turn_of root_turn
-empty_step g w z c = by_test (λ (x : Turn). x ≡ quiet w) (eqb w.at.refusal 0) (λ q. rw (c, le-leb g.size w.at.next (omega (arith, z))) refl) (λ q. refl)
+empty_step g w z c = by_test (λ (x : Turn). x ≡ quiet w) (is_none w.at.refusal) (λ q. rw (c, le-leb g.size w.at.next (omega (arith, z))) refl) (λ q. refl)
 
-empty_said : (g : Graph) (t : ℕ) (w : Walk) → g.size ≡ 0 → w.at.current ≡ false → events_of g t w ≡ []
+empty_said : (g : Graph) (t : ℕ) (w : Walk) → g.size ≡ 0 → w.at.here ≡ None → events_of g t w ≡ []
 unfolding events_of
 empty_said g zero w z c = refl
 empty_said g (suc t) w z c = ap (λ (x : Turn). x.said ++ events_of g t x.after) (empty_step g w z c) ∙ empty_said g t w z c
@@ -249,7 +248,7 @@ unfolding parse line_p atom_p found_p miss_p atom_at organic_at aromatic_of alip
 empty_lost = miss _
 
 -- ---- the law
-pub turns_never_rings : (room : ℕ) (atoms : List ℕ) (n : ℕ) (bonds : List ℕ) (m len : ℕ) (out : List ℕ) → write_of room atoms n bonds m ≡ write_leaves (Done len) out
+pub turns_never_rings : (room : ℕ) (atoms : List ℕ) (n : ℕ) (bonds : List ℕ) (m len : ℕ) (out : List ℕ) → write_of room atoms n bonds m ≡ write_leaves (Ok len) out
     → (la lb : ℕ) → blames_ring (read.read_text (take len out) la lb).answer ≡ false
 unfolding read.read_text sketch_of blames_ring
 turns_never_rings room atoms zero bonds m len out e la lb =

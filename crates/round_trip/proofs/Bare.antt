@@ -15,11 +15,9 @@ use Rattle.feature.specs.Kinds.{invert_of}
 use Rattle.feature.specs.Bonds.{reverse_of, reconcile_of}
 use Rattle.feature.specs.declared.atom_kind.AtomKind.{AtomKind}
 use Rattle.feature.specs.declared.atom_kind.AtomKind.TheVariants.{Star}
-use Rattle.feature.specs.declared.atom_kind.Inverted.{Inverted}
-use Rattle.feature.specs.declared.atom_kind.Inverted.TheVariants.{Turned, Refused}
+use Rattle.std.specs.Prelude as std
+use Rattle.std.specs.Prelude.{Some}
 use Rattle.feature.specs.declared.bond_kind.BondKind.{BondKind}
-use Rattle.feature.specs.declared.bond_kind.Reconciled.{Reconciled}
-use Rattle.feature.specs.declared.bond_kind.Reconciled.TheVariants.{Both, Fails}
 use Rattle.read_token.specs.declared.scanner.Missing.{Missing}
 use Rattle.read_token.specs.declared.scanner.Missing.TheVariants.{EndOfLine, Character}
 use Rattle.desk_numbers.specs.Numbers.{nesting}
@@ -126,10 +124,10 @@ module _ (p l : ℕ) where
         pick_bare (leb d.places (next_number d)) (leb p (next_number (bare d))) _ _ _ _ few (λ z. omega arith)
         (same (added (d.nodes ++ (node k [] ∷ [])) _ (sym (bares_more d.nodes (node k [])))) hp hl)
 
-    bonded_bare : (e : BondKind) (s : ℕ) (x : Inverted) → Bares (bonded_s d e s x) (bonded_s (bare d) e s (Turned Star))
+    bonded_bare : (e : BondKind) (s : ℕ) (x : std.Option AtomKind) → Bares (bonded_s d e s x) (bonded_s (bare d) e s (Some Star))
     unfolding bonded_s bare_node
-    bonded_bare e s Refused = off (λ z. omega arith)
-    bonded_bare e s (Turned k) =
+    bonded_bare e s std.None = off (λ z. omega arith)
+    bonded_bare e s (Some k) =
         let ns : List Node = upd s (add_edge (edge e (To (next_number d)))) d.nodes in
         same (added (ns ++ (node k (edge (reverse_of e) (To s) ∷ []) ∷ [])) _
         (ap (λ (n : ℕ). upd s (add_edge (edge e (To n))) (bares d.nodes) ++ (node Star (edge (reverse_of e) (To s) ∷ []) ∷ [])) next_bare
@@ -154,10 +152,10 @@ module _ (p l : ℕ) where
     unfolding opened_s
     opened_bare e n s = same (joined_as (upd s (add_edge (edge e (Open d.joins))) d.nodes) _ _ _ (sym (bares_add s (edge e (Open d.joins)) d.nodes))) hp hl
 
-    closed_bare : (n place i s : ℕ) (h : Held) (r : Reconciled) → Bares (closed_s d n place s h r) (closed_s (bare d) n i s h r)
+    closed_bare : (n place i s : ℕ) (h : Held) (r : std.Option (BondKind × BondKind)) → Bares (closed_s d n place s h r) (closed_s (bare d) n i s h r)
     unfolding closed_s
-    closed_bare n place i s h Fails = same refl hp hl
-    closed_bare n place i s h (Both a b) =
+    closed_bare n place i s h std.None = same refl hp hl
+    closed_bare n place i s h (Some (a, b)) =
         pick_bare (ltb d.slots (count_of d.nodes + 1)) (ltb l (count_of (bares d.nodes) + 1)) _ _ _ _ (less 1) (λ z. omega arith)
         (same (joined_as (upd s (add_edge (edge b (To h.atom))) (upd h.atom (fill h.join a s) d.nodes)) _ _ _
         (ap (upd s (add_edge (edge b (To h.atom)))) (sym (bares_fill h.atom h.join a s d.nodes))
@@ -176,10 +174,10 @@ module _ (p l : ℕ) where
     join_bare e n place i [] = off (λ z. omega arith)
     join_bare e n place i (s ∷ rest) = ring_bare e n place i s (lookup n d.opens)
 
-    judged_bare : (x : Inverted) → Bares (judged_s d x) (judged_s (bare d) (Turned Star))
+    judged_bare : (x : std.Option AtomKind) → Bares (judged_s d x) (judged_s (bare d) (Some Star))
     unfolding judged_s
-    judged_bare Refused = off (λ z. omega arith)
-    judged_bare (Turned k) = same refl hp hl
+    judged_bare std.None = off (λ z. omega arith)
+    judged_bare (Some k) = same refl hp hl
 
     enter_bare : (a : Lead) (k : AtomKind) (place i : ℕ) (f : Failure) → Bares (enter_s d a k place f) (enter_s (bare d) a Star i f)
     unfolding enter_s invert_of

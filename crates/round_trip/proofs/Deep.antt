@@ -15,10 +15,11 @@ use Rattle.read_line.specs.Events as reader
 use Rattle.read_line.specs.Parse.{parse}
 use Rattle.writer.specs.Line.{Event}
 use Rattle.builder_meaning.specs.Sketch.{Sketch, start_s, step_s, run_s, sketch_of}
-use Rattle.read.specs.declared.Answer.TheVariants as answer
+use Rattle.std.specs.Prelude.{Err}
+use Rattle.read.specs.declared.ReadError.TheVariants as answer
 use Rattle.read.specs.Read.{read_refusal}
 use Rattle.read.specs.Line as read
-use Rattle.write.specs.declared.answer.Written.TheVariants.{Done}
+use Rattle.std.specs.Prelude.{Ok}
 use Rattle.write.specs.Write.{graph_of, walk_events, line_said, write_leaves, write_of}
 use Rattle.trip_text.specs.Steps.{retold, depth, SaysWithin, all, cut}
 use Rattle.trip_text.proofs.Retold.{retold_line}
@@ -96,14 +97,14 @@ says_refused d D x l h (cut A B g q e) =
 
 -- ---- the answer
 refused_answer : (s : List ℕ) (la lb : ℕ) → length s ≤ text_limit → (sketch_of s la lb).refusal ≡ nesting
-    → (read.read_text s la lb).answer ≡ answer.Nesting (sketch_of s la lb).carried
+    → (read.read_text s la lb).answer ≡ Err (answer.Nesting (sketch_of s la lb).carried)
 unfolding read.read_text read.whole_or_refused read_refusal
 refused_answer s la lb short e =
     rw (le-ltb text_limit (length s) short, ne_eqb (sketch_of s la lb).refusal 0 (λ z. let y : nesting ≡ 0 = sym e ∙ z in omega arith), e)
 
 -- where more branches are open at once than the reader has room for, a builder with room for the atoms and entries refuses that
 pub deep_refused : (room : ℕ) (atoms : List ℕ) (n : ℕ) (bonds : List ℕ) (m len : ℕ) (out : List ℕ)
-    → Plain (graph_of n atoms bonds) → write_of room atoms n bonds m ≡ write_leaves (Done len) out → has_nest (parse (take len out)) ≡ true
+    → Plain (graph_of n atoms bonds) → write_of room atoms n bonds m ≡ write_leaves (Ok len) out → has_nest (parse (take len out)) ≡ true
     → (places slots : ℕ) → n ≤ places → m ≤ slots → (run_s (start_s places slots) (parse (take len out))).refusal ≡ nesting
 deep_refused room atoms n bonds m len out P e deep places slots ra rb =
     let d = was_done room atoms n bonds m len out e in
@@ -118,9 +119,9 @@ deep_refused room atoms n bonds m len out P e deep places slots ra rb =
 
 -- and so, if the rest of the limits is kept, the answer is 15
 pub turns_too_deep : (room : ℕ) (atoms : List ℕ) (n : ℕ) (bonds : List ℕ) (m len : ℕ) (out : List ℕ) (la lb : ℕ)
-    → Plain (graph_of n atoms bonds) → write_of room atoms n bonds m ≡ write_leaves (Done len) out
+    → Plain (graph_of n atoms bonds) → write_of room atoms n bonds m ≡ write_leaves (Ok len) out
     → length (take len out) ≤ text_limit → has_nest (parse (take len out)) ≡ true → n ≤ lesser_of atom_limit (la / atom_words) → m ≤ lesser_of bond_limit (lb / bond_words)
-    → (p : ℕ) × ((read.read_text (take len out) la lb).answer ≡ answer.Nesting p)
+    → (p : ℕ) × ((read.read_text (take len out) la lb).answer ≡ Err (answer.Nesting p))
 unfolding sketch_of
 turns_too_deep room atoms n bonds m len out la lb P e short deep ra rb =
     (_, refused_answer (take len out) la lb short (deep_refused room atoms n bonds m len out P e deep (lesser_of atom_limit (la / atom_words)) (lesser_of bond_limit (lb / bond_words)) ra rb))
@@ -128,9 +129,9 @@ turns_too_deep room atoms n bonds m len out la lb P e short deep ra rb =
 -- The round trip, asked of the answer: a line that is not too long, with room lent for its atoms and entries, is read back
 -- unless the answer is 15, a branch too many.
 pub turns_trip_answer : (room : ℕ) (atoms : List ℕ) (n : ℕ) (bonds : List ℕ) (m len : ℕ) (out : List ℕ) (la lb : ℕ)
-    → Plain (graph_of n atoms bonds) → write_of room atoms n bonds m ≡ write_leaves (Done len) out
+    → Plain (graph_of n atoms bonds) → write_of room atoms n bonds m ≡ write_leaves (Ok len) out
     → length (take len out) ≤ text_limit → n ≤ lesser_of atom_limit (la / atom_words) → m ≤ lesser_of bond_limit (lb / bond_words)
-    → ((p : ℕ) → (read.read_text (take len out) la lb).answer ≡ answer.Nesting p → ⊥)
+    → ((p : ℕ) → (read.read_text (take len out) la lb).answer ≡ Err (answer.Nesting p) → ⊥)
     → read.read_text (take len out) la lb ≡ read_as n m la lb (back_by_turns atoms n bonds m)
 turns_trip_answer room atoms n bonds m len out la lb P e short ra rb never =
     by_bool (has_nest (parse (take len out)))

@@ -16,7 +16,7 @@ use Rattle.builder_meaning.specs.Sketch.{count_of, sketch_of, left_s}
 use Rattle.read.specs.Read.{Said, built_answer}
 use Rattle.read.specs.Line as read
 use Rattle.walk.specs.Walk.{turns_of}
-use Rattle.write.specs.declared.answer.Written.TheVariants.{Done}
+use Rattle.std.specs.Prelude.{Ok}
 use Rattle.table.specs.Zeros.{zeros}
 use Rattle.write.specs.Write.{pair_words, graph_of, walk_of, said_in, walk_events, line_said, write_leaves, write_of}
 use Rattle.walk_laws.specs.Trek.{Room, AllAccepted}
@@ -41,7 +41,7 @@ use Rattle.read_line.specs.Events.{has_nest}
 
 -- ---- what a line says of the walk
 module _ (room : ℕ) (atoms : List ℕ) (n : ℕ) (bonds : List ℕ) (m len : ℕ) (out : List ℕ) (P : Plain (graph_of n atoms bonds))
-    (done : write_of room atoms n bonds m ≡ write_leaves (Done len) out) where
+    (done : write_of room atoms n bonds m ≡ write_leaves (Ok len) out) where
   few : n ≤ atom_limit
   few = (was_done room atoms n bonds m len out done).few
 
@@ -89,7 +89,7 @@ read_back g p s n m la lb short c =
     rw (le-ltb text_limit (length s) short, eq-eqb (sketch_of s la lb).refusal 0 c.built.refusal, c.built.says, c.atoms, c.entries, c.built.nodes) refl
 
 -- the line in an output
-pub line_is : (room : ℕ) (atoms : List ℕ) (n : ℕ) (bonds : List ℕ) (m len : ℕ) (out : List ℕ) → write_of room atoms n bonds m ≡ write_leaves (Done len) out
+pub line_is : (room : ℕ) (atoms : List ℕ) (n : ℕ) (bonds : List ℕ) (m len : ℕ) (out : List ℕ) → write_of room atoms n bonds m ≡ write_leaves (Ok len) out
     → take len out ≡ line_said (walk_events atoms n bonds m)
 line_is room atoms n bonds m len out e =
     let d = was_done room atoms n bonds m len out e in
@@ -97,7 +97,7 @@ line_is room atoms n bonds m len out e =
 
 -- what the builder makes of it, where no branch is too many: the graph renumbered
 line_comes_back : (room : ℕ) (atoms : List ℕ) (n : ℕ) (bonds : List ℕ) (m len : ℕ) (out : List ℕ) → Plain (graph_of n atoms bonds)
-    → write_of room atoms n bonds m ≡ write_leaves (Done len) out → has_nest (parse (take len out)) ≡ false
+    → write_of room atoms n bonds m ≡ write_leaves (Ok len) out → has_nest (parse (take len out)) ≡ false
     → (la lb : ℕ) → n ≤ lesser_of atom_limit (la / atom_words) → m ≤ lesser_of bond_limit (lb / bond_words)
     → graph-steps.ComesBack (graph_of n atoms bonds) (by_walk (walk_of atoms n bonds m)) (sketch_of (take len out) la lb) n m
 line_comes_back room atoms n bonds m len out P e flat la lb ra rb =
@@ -117,7 +117,7 @@ turns_trip room atoms n bonds m len out la lb P e r =
 -- The same with no word on what the reader says: no line that is too long, at most as many branches open at once as the reader
 -- has room for, and room lent for the atoms and entries.
 pub turns_trip_shallow : (room : ℕ) (atoms : List ℕ) (n : ℕ) (bonds : List ℕ) (m len : ℕ) (out : List ℕ) (la lb : ℕ)
-    → Plain (graph_of n atoms bonds) → write_of room atoms n bonds m ≡ write_leaves (Done len) out
+    → Plain (graph_of n atoms bonds) → write_of room atoms n bonds m ≡ write_leaves (Ok len) out
     → len ≤ text_limit → depth (walk_events atoms n bonds m) ≤ branch_limit → n ≤ lesser_of atom_limit (la / atom_words) → m ≤ lesser_of bond_limit (lb / bond_words)
     → read.read_text (take len out) la lb ≡ read_as n m la lb (back_by_turns atoms n bonds m)
 turns_trip_shallow room atoms n bonds m len out la lb P e short deep ra rb =
@@ -133,7 +133,7 @@ turns_trip_shallow room atoms n bonds m len out la lb P e short deep ra rb =
 
 -- And with room lent for the largest job, whatever was written: only the line's length and its branches are asked for.
 pub turns_trip_wide : (room : ℕ) (atoms : List ℕ) (n : ℕ) (bonds : List ℕ) (m len : ℕ) (out : List ℕ)
-    → Plain (graph_of n atoms bonds) → write_of room atoms n bonds m ≡ write_leaves (Done len) out
+    → Plain (graph_of n atoms bonds) → write_of room atoms n bonds m ≡ write_leaves (Ok len) out
     → length (take len out) ≤ text_limit → has_nest (parse (take len out)) ≡ false
     → read.read_text (take len out) (atom_limit * atom_words) (bond_limit * bond_words) ≡ read_as n m (atom_limit * atom_words) (bond_limit * bond_words) (back_by_turns atoms n bonds m)
 unfolding lesser_of
@@ -144,7 +144,7 @@ turns_trip_wide room atoms n bonds m len out P e short shallow =
 
 -- Looked at as a walk looks at tables, what is read is the graph renumbered.
 pub turns_same : (room : ℕ) (atoms : List ℕ) (n : ℕ) (bonds : List ℕ) (m len : ℕ) (out : List ℕ) (la lb : ℕ)
-    → Plain (graph_of n atoms bonds) → write_of room atoms n bonds m ≡ write_leaves (Done len) out → Readable (take len out) n m la lb
+    → Plain (graph_of n atoms bonds) → write_of room atoms n bonds m ≡ write_leaves (Ok len) out → Readable (take len out) n m la lb
     → Same (graph_of n atoms bonds) (graph_of n (read.read_text (take len out) la lb).atoms (read.read_text (take len out) la lb).bonds) (by_walk (walk_of atoms n bonds m))
 turns_same room atoms n bonds m len out la lb P e r =
     let d = was_done room atoms n bonds m len out e in
@@ -169,7 +169,7 @@ turns_one_line r1 a1 n1 b1 m1 l1 o1 r2 a2 n2 b2 m2 l2 o2 P1 P2 e1 e2 q flat =
 
 -- So they have as many atoms and as many entries.
 pub turns_one_count : (r1 : ℕ) (a1 : List ℕ) (n1 : ℕ) (b1 : List ℕ) (m1 l1 : ℕ) (o1 : List ℕ) (r2 : ℕ) (a2 : List ℕ) (n2 : ℕ) (b2 : List ℕ) (m2 l2 : ℕ) (o2 : List ℕ)
-    → Plain (graph_of n1 a1 b1) → Plain (graph_of n2 a2 b2) → write_of r1 a1 n1 b1 m1 ≡ write_leaves (Done l1) o1 → write_of r2 a2 n2 b2 m2 ≡ write_leaves (Done l2) o2
+    → Plain (graph_of n1 a1 b1) → Plain (graph_of n2 a2 b2) → write_of r1 a1 n1 b1 m1 ≡ write_leaves (Ok l1) o1 → write_of r2 a2 n2 b2 m2 ≡ write_leaves (Ok l2) o2
     → take l1 o1 ≡ take l2 o2 → has_nest (parse (take l1 o1)) ≡ false
     → (n1 ≡ n2) × (m1 ≡ m2)
 turns_one_count r1 a1 n1 b1 m1 l1 o1 r2 a2 n2 b2 m2 l2 o2 P1 P2 e1 e2 q flat =

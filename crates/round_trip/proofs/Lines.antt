@@ -14,10 +14,13 @@ use Rattle.feature.specs.declared.bond_kind.BondKind.{BondKind}
 use Rattle.feature.proofs.Bonds.{same_code}
 use Rattle.feature.proofs.Cases.{by_either, both_first, both_second, both_pass, impossible}
 use Rattle.table.specs.Limits.{text_limit, atom_limit}
-use Rattle.builder.specs.declared.build.Built.{Built}
-use Rattle.builder.specs.declared.build.Built.TheVariants as built
+use Rattle.std.specs.Prelude.{Err, Ok}
+use Rattle.read.specs.declared.GraphSize.{GraphSize}
+use Rattle.read.specs.Read.{graph_size}
+use Rattle.builder.specs.Build.{Built}
+use Rattle.builder.specs.declared.build.BuildError.TheVariants as built
 use Rattle.builder_meaning.specs.Sketch.{Target, To, Open, Edge, Node, Failure, None, Failed, Sketch, sketch_of, next_number, count_of, edges_at, open_here, open_in, first_open_s, rings_say, says_s, finish_s, target_of, atom_table, bond_table, padded, leads, is_edge_to, bonds_to, BothEnds}
-use Rattle.read.specs.declared.Answer.TheVariants as answer
+use Rattle.read.specs.declared.ReadError.TheVariants as answer
 use Rattle.read.specs.Read.{Said, built_answer}
 use Rattle.read.specs.Line.{read_text, whole_of, whole_or_refused}
 use Rattle.read.proofs.Lines.{not_done, done_holds}
@@ -107,27 +110,29 @@ record DoneBuilt (d : Sketch) (n m : ℕ) : Type 0 where
   atoms : length d.nodes ≤ n
   entries : m ≡ count_of d.nodes
 
-says_closed : (o : Option ℕ) → rings_say o ≡ built.Done → o ≡ none
+says_closed : (o : Option ℕ) → rings_say o ≡ Ok tt → o ≡ none
 unfolding rings_say
 says_closed none e = refl
 says_closed (some j) e = impossible cc
 
-finish_closed : (f : Failure) (ns : List Node) → says_s f ns ≡ built.Done → first_open_s ns ≡ none
+finish_closed : (f : Failure) (ns : List Node) → says_s f ns ≡ Ok tt → first_open_s ns ≡ none
 unfolding says_s
 finish_closed None ns e = says_closed (first_open_s ns) e
 finish_closed (Failed x y) ns e = impossible cc
 
-answer_done : (w : Built) (x y n m : ℕ) → built_answer w x y ≡ answer.Done n m → (w ≡ built.Done) × (n ≡ x) × (m ≡ y)
+answer_done : (w : Built) (x y n m : ℕ) → built_answer w x y ≡ Ok (graph_size n m) → (w ≡ Ok tt) × (n ≡ x) × (m ≡ y)
 unfolding built_answer
-answer_done built.Done x y n m e = (refl, cc, cc)
-answer_done (built.Join a b) x y n m e = impossible cc
-answer_done (built.Rnum j) x y n m e = impossible cc
+answer_done (Ok _) x y n m e =
+    let q : graph_size x y ≡ graph_size n m = cc in
+    (refl, sym (ap (λ (g : GraphSize). g.atoms) q), sym (ap (λ (g : GraphSize). g.entries) q))
+answer_done (Err (built.Join a b)) x y n m e = impossible cc
+answer_done (Err (built.Rnum j)) x y n m e = impossible cc
 
-done_built : (s : List ℕ) (la lb n m : ℕ) → (read_text s la lb).answer ≡ answer.Done n m → DoneBuilt (sketch_of s la lb) n m
+done_built : (s : List ℕ) (la lb n m : ℕ) → (read_text s la lb).answer ≡ Ok (graph_size n m) → DoneBuilt (sketch_of s la lb) n m
 unfolding read_text whole_or_refused whole_of finish_s next_number
 done_built s la lb n m =
     let d = sketch_of s la lb in
-    let B : Said → Type 0 = λ x. x.answer ≡ answer.Done n m → DoneBuilt d n m in
+    let B : Said → Type 0 = λ x. x.answer ≡ Ok (graph_size n m) → DoneBuilt d n m in
     by_either B (ltb text_limit (length s)) (λ e. impossible cc)
     (by_either B (eqb d.refusal 0)
     (λ e. let r = answer_done (finish_s d) (next_number d) (count_of d.nodes) n m e in
@@ -190,7 +195,7 @@ module _ (ns : List Node) (n la lb : ℕ) (E : BothEnds ns) (closed : first_open
 
 -- ---- the law
 -- A line that is read with 0 and written again, whatever room is lent, is never answered with 5, 7 or 9.
-pub rewritten_says : (s : List ℕ) (la lb n m room : ℕ) → (read_text s la lb).answer ≡ answer.Done n m
+pub rewritten_says : (s : List ℕ) (la lb n m room : ℕ) → (read_text s la lb).answer ≡ Ok (graph_size n m)
     → blames_end (write_plain room (read_text s la lb).atoms n (read_text s la lb).bonds m).answer ≡ false
 rewritten_says s la lb n m room e =
     let d = done_holds s la lb n m e in

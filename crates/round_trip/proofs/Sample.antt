@@ -20,7 +20,9 @@ use Rattle.table.specs.Limits.{lesser_of}
 use Rattle.read_line.specs.Parse as parse
 use Rattle.table.specs.Starts.{entry_starts, sum_of}
 use Rattle.builder_meaning.specs.Sketch.{To, edge, node, atom_table, target_of, edge_table, bond_table, padded}
-use Rattle.read.specs.declared.Answer.TheVariants as answer
+use Rattle.std.specs.Prelude.{Ok}
+use Rattle.read.specs.Read.{graph_size}
+use Rattle.read.specs.declared.ReadError.TheVariants as answer
 use Rattle.read.specs.Read.{said}
 use Rattle.read.specs.Line as read
 use Rattle.writer.specs.Line as writer
@@ -29,7 +31,6 @@ use Rattle.walk_entry.specs.Ways.{is_refused, is_fixed, even, said_as, scan_in, 
 use Rattle.walk_entry.specs.Ties.{leading, last_leading, tie_of}
 use Rattle.walk.specs.Walk.{pops_of, root_turn, left_in, numbered_of, ring_turn, tied_of, tie_turn, entered_of, enter_turn, bond_turn, entry_turn, atom_of, turn_of, step_of, walk_to, events_of, turns_of}
 use Rattle.table_check.specs.Judge.{is_entry, bond_stands, atoms_from, first_bad_bond, after_atoms, bad_record}
-use Rattle.write.specs.declared.answer.Written.TheVariants.{Done}
 use Rattle.write.specs.Write.{graph_of, walk_in, said_in, atom_places, bond_slots, write_leaves, put_line, line_concluded, graph_written, write_of}
 use Rattle.write.specs.Plain.{order_plain}
 use Rattle.write.proofs.Plain.{write_plain_lem}
@@ -62,7 +63,7 @@ bonds = 2 ∷ 1 ∷ 2 ∷ 2 ∷ 2 ∷ 0 ∷ 2 ∷ 1 ∷ []
 abbrev line : List ℕ
 line = bytes "C-[C@H]-C"
 
-written : write_of 12 atoms 3 bonds 4 ≡ write_leaves (Done 9) (line ++ (0 ∷ 0 ∷ 0 ∷ []))
+written : write_of 12 atoms 3 bonds 4 ≡ write_leaves (Ok 9) (line ++ (0 ∷ 0 ∷ 0 ∷ []))
 unfolding words.list_of words.words_of words.pair_of words.bracket_pair words.load_at words.load_of words.plain_of words.bracket_of words.entry_stored words.entry_of_words words.entry_coded kind_of code_of reverse_of bracket_in_range in_range invert_bracket invert_of kind_or sure_kind kind_in bond_in is_refused is_fixed turned_or even said_as scan_in judged_back way_of leading last_leading tie_of pops_of root_turn left_in numbered_of ring_turn tied_of tie_turn entered_of enter_turn bond_turn entry_turn atom_of turn_of step_of walk_to events_of turns_of words.is_held is_entry words.is_atom bond_stands atoms_from first_bad_bond after_atoms bad_record entry_starts sum_of lesser_of walk_in said_in atom_places bond_slots put_line line_concluded graph_written write_of writer.line_of writer.dot_text writer.add_piece writer.on_last writer.wrapped writer.pop_pieces writer.write_event writer.write_events spell.atom_text spell.kind_text spell.name_text spell.symbol_text spell.organic_symbols spell.bracket_text spell.number_text spell.configuration_text spell.hydrogens_text spell.charge_text spell.map_text spell.bond_text spell.digits names
 written = refl
 
@@ -98,7 +99,7 @@ unfolding words.list_of words.words_of words.pair_of words.bracket_pair words.lo
 chain_renumbered = refl
 
 -- so the tables that the reading leaves are these, word for word
-chain_back : read.read_text line 12 11 ≡ said (answer.Done 3 4)
+chain_back : read.read_text line 12 11 ≡ said (Ok (graph_size 3 4))
     (words.list_of carbon ++ (1 ∷ words.list_of (marked 2) ++ (2 ∷ words.list_of carbon ++ (1 ∷ 0 ∷ 0 ∷ 0 ∷ []))))
     (2 ∷ 1 ∷ 2 ∷ 0 ∷ 2 ∷ 2 ∷ 2 ∷ 1 ∷ 0 ∷ 0 ∷ 0 ∷ [])
 unfolding padded atom_table bond_table edge_table target_of words.list_of code_of
@@ -123,7 +124,7 @@ back_bonds = 2 ∷ 1 ∷ 2 ∷ 0 ∷ 2 ∷ 2 ∷ 2 ∷ 1 ∷ []
 abbrev back : Graph
 back = graph_of 3 back_atoms back_bonds
 
-back_written : write_of 9 back_atoms 3 back_bonds 4 ≡ write_leaves (Done 9) line
+back_written : write_of 9 back_atoms 3 back_bonds 4 ≡ write_leaves (Ok 9) line
 unfolding words.list_of words.words_of words.pair_of words.bracket_pair words.load_at words.load_of words.plain_of words.bracket_of words.entry_stored words.entry_of_words words.entry_coded kind_of code_of reverse_of bracket_in_range in_range invert_bracket invert_of kind_or sure_kind kind_in bond_in is_refused is_fixed turned_or even said_as scan_in judged_back way_of leading last_leading tie_of pops_of root_turn left_in numbered_of ring_turn tied_of tie_turn entered_of enter_turn bond_turn entry_turn atom_of turn_of step_of walk_to events_of turns_of words.is_held is_entry words.is_atom bond_stands atoms_from first_bad_bond after_atoms bad_record entry_starts sum_of lesser_of walk_in said_in atom_places bond_slots put_line line_concluded graph_written write_of writer.line_of writer.dot_text writer.add_piece writer.on_last writer.wrapped writer.pop_pieces writer.write_event writer.write_events spell.atom_text spell.kind_text spell.name_text spell.symbol_text spell.organic_symbols spell.bracket_text spell.number_text spell.configuration_text spell.hydrogens_text spell.charge_text spell.map_text spell.bond_text spell.digits names
 back_written = refl
 
@@ -145,7 +146,7 @@ chain_one =
 abbrev star_atoms : List ℕ
 star_atoms = words.list_of Star ++ (0 ∷ [])
 
-star_written : write_of 1 star_atoms 1 [] 0 ≡ write_leaves (Done 1) (bytes "*")
+star_written : write_of 1 star_atoms 1 [] 0 ≡ write_leaves (Ok 1) (bytes "*")
 unfolding words.list_of words.words_of words.pair_of words.load_at words.load_of words.plain_of in_range kind_or kind_in even said_as root_turn left_in entry_turn atom_of turn_of step_of walk_to events_of turns_of words.is_held words.is_atom atoms_from first_bad_bond after_atoms bad_record entry_starts sum_of lesser_of walk_in said_in atom_places bond_slots put_line line_concluded graph_written write_of writer.line_of writer.dot_text writer.add_piece writer.write_event writer.write_events spell.atom_text spell.kind_text
 star_written = refl
 
@@ -161,7 +162,7 @@ star_flat : has_nest (parse.parse (bytes "*")) ≡ false
 unfolding has_nest parse.parse parse.line_p parse.atom_p parse.found_p parse.bodies parse.body_at parse.body_of parse.unit_p parse.unit_by parse.union_p parse.union_by parse.ring_p parse.led_at parse.close_p parse.branch_p parse.end_p scan.peek_at scan.bracket_at scan.aromatic_of scan.aliphatic_of scan.wanted_at scan.optional_at scan.organic_at scan.star_at scan.or_else scan.other_at scan.atom_at scan.sign_kind scan.mark_width scan.bond_at scan.percent_at scan.rnum_at scan.missing_at scan.digit_at scan.digit_of
 star_flat = refl
 
-star_back : read.read_text (bytes "*") 3 0 ≡ said (answer.Done 1 0) (1 ∷ 0 ∷ 0 ∷ []) []
+star_back : read.read_text (bytes "*") 3 0 ≡ said (Ok (graph_size 1 0)) (1 ∷ 0 ∷ 0 ∷ []) []
 unfolding lesser_of padded atom_table bond_table edge_table words.list_of words.words_of words.pair_of words.load_at words.load_of words.plain_of in_range kind_or kind_in even said_as root_turn left_in entry_turn atom_of turn_of step_of walk_to turns_of entry_starts sum_of walk_in bears_hydrogen odd_index back_kind others_of parent_entry done_of node_of first_atoms renumbered
 star_back =
     turns_trip 1 star_atoms 1 [] 0 1 (bytes "*") 3 0 star_plain star_written

@@ -12,19 +12,19 @@ use Rattle.feature.specs.declared.atom_kind.AtomKind.{AtomKind}
 use Rattle.feature.specs.declared.bond_kind.BondKind.{BondKind}
 use Rattle.survive.specs.Survive.{survives}
 use Rattle.survive.proofs.ReadBack.{alone}
-use Rattle.join_pool.specs.declared.Given.{Given}
-use Rattle.join_pool.specs.declared.Given.TheVariants.{Number, Full}
+use Rattle.std.specs.Prelude.{Err, None, Ok, Option, Result, Some, is_none}
+use Rattle.walk_entry.specs.declared.WalkError.{WalkError}
+use Rattle.join_pool.specs.declared.Pool.{Pool}
 use Rattle.writer.specs.Line.{Event, Root, Extend, Join, Pop}
-use Rattle.walk_entry.specs.declared.entry.Way.{Way}
-use Rattle.walk_entry.specs.declared.entry.Way.TheVariants.{Enters, Refuses}
 use Rattle.walk_entry.specs.Graph.{BondEntry, Graph, kind_at, degree_at, bond_of}
 use Rattle.walk_entry.specs.Ways.{said_as, way_of}
 use Rattle.walk_entry.specs.Ties.{tie_of}
-use Rattle.walk.specs.Walk.{Walk, Turn, took_at, pops_of, pops_then, root_turn, numbered_of, ring_turn, tied_of, tie_turn, entered_of, enter_turn, bond_turn, entry_turn, atom_of, turn_of, step_of, events_of}
+use Rattle.walk.specs.Walk.{Walk, Turn, took_at, pops_of, pops_then, root_turn, numbered_of, ring_turn, tied_of, tie_turn, entered_of, enter_turn, bond_turn, entry_turn, atom_of, step_of, events_of}
 use Rattle.feature.proofs.Cases.{by_test}
 use Rattle.trip_text.specs.Steps.{Spellable}
 use Rattle.trip_text.proofs.StarredLine.{bare_said, Ranged}
 use Rattle.trip_graph.specs.Opened.{RingsHaveText}
+use Rattle.walk.proofs.Place.{atom_at, by_place}
 
 -- ---- events
 -- each atom's kind passes a test
@@ -76,20 +76,20 @@ module _ (f : AtomKind → Bool) (S : (k : AtomKind) (b : ℕ) → f k ≡ true 
       (λ q. by_test Fine (eqb (get_or w.met w.at.next 0) 0)
       (λ z. (S _ 0 (K w.at.next (leb-false _ _ q)), tt)) (λ z. tt))
 
-  fine_given : (k : BondKind) (s t : ℕ) (x : Given) (pairs : List ℕ) → Fine (numbered_of w k s t x pairs)
+  fine_given : (k : BondKind) (s t : ℕ) (x : Option (Pool × ℕ)) (pairs : List ℕ) → Fine (numbered_of w k s t x pairs)
   unfolding numbered_of
-  fine_given k s t Full pairs = tt
-  fine_given k s t (Number p n) pairs = kept_pops f w.at.pend (Join k n) tt
+  fine_given k s t None pairs = tt
+  fine_given k s t (Some (p, n)) pairs = kept_pops f w.at.pend (Join k n) tt
 
-  fine_way : (k : BondKind) (t : ℕ) → t < g.size → (x : Way) → Fine (entered_of g w k t x)
+  fine_way : (k : BondKind) (t : ℕ) → t < g.size → (x : Result ℕ WalkError) → Fine (entered_of g w k t x)
   unfolding entered_of
-  fine_way k t l (Refuses r a b) = tt
-  fine_way k t l (Enters b) = kept_pops f w.at.pend (Extend k (said_as (kind_at g t) b)) (S (kind_at g t) b (K t l), tt)
+  fine_way k t l (Err why) = tt
+  fine_way k t l (Ok b) = kept_pops f w.at.pend (Extend k (said_as (kind_at g t) b)) (S (kind_at g t) b (K t l), tt)
 
-  fine_tied : (k : BondKind) (s t : ℕ) (x : Way) → Fine (tied_of w k s t x)
+  fine_tied : (k : BondKind) (s t : ℕ) (x : Result ℕ WalkError) → Fine (tied_of w k s t x)
   unfolding tied_of ring_turn
-  fine_tied k s t (Refuses r a b) = tt
-  fine_tied k s t (Enters b) = fine_given k s t _ _
+  fine_tied k s t (Err why) = tt
+  fine_tied k s t (Ok b) = fine_given k s t _ _
 
   fine_bond : (s : ℕ) (b : BondEntry) → Fine (bond_turn g w s b)
   unfolding bond_turn enter_turn tie_turn
@@ -112,10 +112,10 @@ module _ (f : AtomKind → Bool) (S : (k : AtomKind) (b : ℕ) → f k ≡ true 
       (λ z. fine_bond f S g K (took_at w a (get_or w.taken a 0)) a (bond_of g a (get_or w.taken a 0))))
 
   fine_step : (w : Walk) → Said (step_of g w)
-  unfolding step_of turn_of
+  unfolding step_of
   fine_step w =
-      by_test Said (eqb w.at.refusal 0)
-      (λ q. by_test Said w.at.current (λ z. fine_atom w w.at.here) (λ z. fine_root f S g K w)) (λ q. tt)
+      by_test Said (is_none w.at.refusal)
+      (λ q. by_place Said g w (λ z. fine_atom w (atom_at w)) (λ z. fine_root f S g K w)) (λ q. tt)
 
   pub kept_turns : (t : ℕ) (w : Walk) → Kept f (events_of g t w)
   unfolding events_of

@@ -10,11 +10,9 @@ use borrow.Author.Tests.{ne_eqb, leb-true, leb-false, lt-leb, ltb-true, ltb-fals
 use Rattle.feature.specs.Pick.{pick}
 use Rattle.feature.specs.Kinds.{invert_of}
 use Rattle.feature.specs.declared.atom_kind.AtomKind.{AtomKind}
-use Rattle.feature.specs.declared.atom_kind.Inverted.{Inverted}
-use Rattle.feature.specs.declared.atom_kind.Inverted.TheVariants.{Turned, Refused}
+use Rattle.std.specs.Prelude as std
+use Rattle.std.specs.Prelude.{Some}
 use Rattle.feature.specs.declared.bond_kind.BondKind.{BondKind}
-use Rattle.feature.specs.declared.bond_kind.Reconciled.{Reconciled}
-use Rattle.feature.specs.declared.bond_kind.Reconciled.TheVariants.{Both, Fails}
 use Rattle.read_token.specs.declared.scanner.Missing.{Missing}
 use Rattle.read_token.specs.declared.scanner.Missing.TheVariants.{EndOfLine, Character}
 use Rattle.desk_numbers.specs.Numbers.{atom_room, bond_room}
@@ -62,10 +60,10 @@ module _ (p0 l0 p l : ℕ) where
     unfolding root_s next_number
     root_wide k place = atom_wide place _ _ (kept refl hp hl)
 
-    bonded_wide : (e : BondKind) (s : ℕ) (x : Inverted) → Kept (bonded_s d e s x) (bonded_s (wide d) e s x)
+    bonded_wide : (e : BondKind) (s : ℕ) (x : std.Option AtomKind) → Kept (bonded_s d e s x) (bonded_s (wide d) e s x)
     unfolding bonded_s next_number
-    bonded_wide e s Refused = kept refl hp hl
-    bonded_wide e s (Turned k) = kept refl hp hl
+    bonded_wide e s std.None = kept refl hp hl
+    bonded_wide e s (Some k) = kept refl hp hl
 
     extend_wide : (e : BondKind) (k : AtomKind) (place : ℕ) (path : List ℕ) → Kept (extend_s d e k place path) (extend_s (wide d) e k place path)
     unfolding extend_s next_number
@@ -75,10 +73,10 @@ module _ (p0 l0 p l : ℕ) where
         (pick (ltb l (count_of d.nodes + 2)) (refused (wide d) bond_room place) (bonded_s (wide d) e s (invert_of k)))
         (slots_wide (count_of d.nodes + 2) place (bonded_s d e s (invert_of k)) (bonded_s (wide d) e s (invert_of k)) (bonded_wide e s (invert_of k)))
 
-    close_wide : (n place s : ℕ) (h : Held) (r : Reconciled) → Kept (closed_s d n place s h r) (closed_s (wide d) n place s h r)
+    close_wide : (n place s : ℕ) (h : Held) (r : std.Option (BondKind × BondKind)) → Kept (closed_s d n place s h r) (closed_s (wide d) n place s h r)
     unfolding closed_s
-    close_wide n place s h Fails = kept refl hp hl
-    close_wide n place s h (Both a b) = slots_wide (count_of d.nodes + 1) place _ _ (kept refl hp hl)
+    close_wide n place s h std.None = kept refl hp hl
+    close_wide n place s h (Some (a, b)) = slots_wide (count_of d.nodes + 1) place _ _ (kept refl hp hl)
 
     opened_wide : (e : BondKind) (n s : ℕ) → Kept (opened_s d e n s) (opened_s (wide d) e n s)
     unfolding opened_s
@@ -94,10 +92,10 @@ module _ (p0 l0 p l : ℕ) where
     join_wide e n place [] = kept refl hp hl
     join_wide e n place (s ∷ rest) = ring_wide e n place s (lookup n d.opens)
 
-    judged_wide : (x : Inverted) → Kept (judged_s d x) (judged_s (wide d) x)
+    judged_wide : (x : std.Option AtomKind) → Kept (judged_s d x) (judged_s (wide d) x)
     unfolding judged_s next_number
-    judged_wide Refused = kept refl hp hl
-    judged_wide (Turned k) = kept refl hp hl
+    judged_wide std.None = kept refl hp hl
+    judged_wide (Some k) = kept refl hp hl
 
     enter_wide : (a : Lead) (k : AtomKind) (place : ℕ) (f : Failure) → Kept (enter_s d a k place f) (enter_s (wide d) a k place f)
     unfolding enter_s

@@ -3,7 +3,7 @@
 use Rattle.std.specs.Prelude.{ℕ, ◌≤◌, ◌≡◌, List, take}
 use Rattle.read.specs.Read.{Said}
 use Rattle.read.specs.Line.{read_text}
-use Rattle.write.specs.declared.answer.Written.TheVariants.{Done}
+use Rattle.std.specs.Prelude.{Ok}
 use Rattle.write.specs.Write.{graph_of, write_leaves}
 use Rattle.write.specs.Order.{Order}
 use Rattle.write.specs.Plain.{write_plain, order_plain}
@@ -12,7 +12,7 @@ use Rattle.round_trip.specs.RoundTrip.{Plain, Readable, read_as, by_order}
 
 -- The walk order o is done, and the line is read as the graph renumbered by it, into tables of la and le words.
 pub record ReadByOrder (atoms : List ℕ) (n : ℕ) (bonds : List ℕ) (m : ℕ) (o : Order) (la le : ℕ) (x : Said) : Type 0 where
-  pub ordered : o.answer ≡ Done n
+  pub ordered : o.answer ≡ Ok n
   pub read : x ≡ read_as n m la le (renumbered (graph_of n atoms bonds) (by_order o))
 
 -- lengths lent for a walk order that have room for n atoms
@@ -25,5 +25,5 @@ pub record Lent (n lw ln lb : ℕ) : Type 0 where
 -- and le words
 abbrev pub TripByOrder : ℕ → List ℕ → ℕ → List ℕ → ℕ → ℕ → List ℕ → ℕ → ℕ → ℕ → ℕ → ℕ → Type 0
 TripByOrder room atoms n bonds m len out lw ln lb la le =
-    Plain (graph_of n atoms bonds) → write_plain room atoms n bonds m ≡ write_leaves (Done len) out → Lent n lw ln lb → Readable (take len out) n m la le
+    Plain (graph_of n atoms bonds) → write_plain room atoms n bonds m ≡ write_leaves (Ok len) out → Lent n lw ln lb → Readable (take len out) n m la le
     → ReadByOrder atoms n bonds m (order_plain lw ln lb atoms n bonds m) la le (read_text (take len out) la le)

@@ -13,11 +13,12 @@ use Rattle.table.specs.Limits.{text_limit, atom_limit, bond_limit, lesser_of}
 use Rattle.survive.specs.Survive.{Survives}
 use Rattle.read_line.specs.Parse.{parse}
 use Rattle.builder_meaning.specs.Sketch.{Node, atom_table, bond_table, padded}
-use Rattle.read.specs.declared.Answer.TheVariants as answer
+use Rattle.std.specs.Prelude.{Ok}
+use Rattle.read.specs.Read.{graph_size}
+use Rattle.read.specs.declared.ReadError.TheVariants as answer
 use Rattle.read.specs.Read.{Said, said}
 use Rattle.read.specs.Line.{read_text}
 use Rattle.walk_entry.specs.Graph.{Graph, kind_at}
-use Rattle.write.specs.declared.answer.Written.TheVariants.{Done}
 use Rattle.write.specs.Write.{graph_of, write_leaves}
 use Rattle.write.specs.Order.{Order}
 use Rattle.write.specs.Plain.{write_plain, order_plain}
@@ -44,7 +45,7 @@ pub record Readable (line : List ℕ) (n m la lb : ℕ) : Type 0 where
 -- what a reading that made these atoms says of n atoms and m bond entries, and leaves in tables of la and lb words: the words of the
 -- atoms, the words of their entries, and zeros after them up to the end
 abbrev pub read_as : ℕ → ℕ → ℕ → ℕ → List Node → Said
-read_as n m la lb ns = said (answer.Done n m) (padded la (atom_table ns)) (padded lb (bond_table ns))
+read_as n m la lb ns = said (Ok (graph_size n m)) (padded la (atom_table ns)) (padded lb (bond_table ns))
 
 -- the numbers in the tables of a walk order
 abbrev pub by_order : Order → Numbers
@@ -58,14 +59,14 @@ back_of atoms n bonds m = renumbered (graph_of n atoms bonds) (by_order (order_p
 -- the demand of one job: a write into a lent output of so many bytes, and a reading into la and lb words
 abbrev pub RoundTrip : ℕ → List ℕ → ℕ → List ℕ → ℕ → ℕ → List ℕ → ℕ → ℕ → Type 0
 RoundTrip room atoms n bonds m len out la lb =
-    Plain (graph_of n atoms bonds) → write_plain room atoms n bonds m ≡ write_leaves (Done len) out → Readable (take len out) n m la lb
+    Plain (graph_of n atoms bonds) → write_plain room atoms n bonds m ≡ write_leaves (Ok len) out → Readable (take len out) n m la lb
     → read_text (take len out) la lb ≡ read_as n m la lb (back_of atoms n bonds m)
 
 -- The corollary on two jobs: two such graphs with the same line have the same renumbering. Of the line it is asked that no branch in
 -- it is too many; nothing of its length, and no room is lent.
 abbrev pub OneLine : ℕ → List ℕ → ℕ → List ℕ → ℕ → ℕ → List ℕ → ℕ → List ℕ → ℕ → List ℕ → ℕ → ℕ → List ℕ → Type 0
 OneLine r1 a1 n1 b1 m1 l1 o1 r2 a2 n2 b2 m2 l2 o2 =
-    Plain (graph_of n1 a1 b1) → Plain (graph_of n2 a2 b2) → write_plain r1 a1 n1 b1 m1 ≡ write_leaves (Done l1) o1 → write_plain r2 a2 n2 b2 m2 ≡ write_leaves (Done l2) o2
+    Plain (graph_of n1 a1 b1) → Plain (graph_of n2 a2 b2) → write_plain r1 a1 n1 b1 m1 ≡ write_leaves (Ok l1) o1 → write_plain r2 a2 n2 b2 m2 ≡ write_leaves (Ok l2) o2
     → take l1 o1 ≡ take l2 o2 → has_nest (parse (take l1 o1)) ≡ false
     → back_of a1 n1 b1 m1 ≡ back_of a2 n2 b2 m2
 

@@ -1,10 +1,11 @@
 // An atom, a bond and a ring number as text: purr's Display, slips included, but for ring number 73.
 //
 // Each call lays its bytes into the output that it is lent, from the first byte on. A byte that finds no room is not laid
-// and is still counted, so the answer is the text's length whatever was lent.
+// and is still counted, so the answer is the text's length whatever was lent. So a place beside the output is no part of it that is
+// left, and no struct holds the two.
 #![tactic(auto)]
 
-ghost use Rattle.std.specs.Prelude.{◌≡◌, [], ◌∷◌, ◌+◌, ◌-◌, ◌<◌, ◌≤◌, ◌/◌, ◌%◌, get_or};
+ghost use Rattle.std.specs.Prelude.{◌≡◌, [], ◌∷◌, ◌+◌, ◌-◌, ◌^◌, ◌<◌, ◌≤◌, ◌/◌, ◌%◌, get_or};
 ghost use Rattle.feature.specs.Kinds.{no_number, no_hydrogens, no_charge, configurations, sp};
 ghost use Rattle.feature.specs.Steps.{GoodKind, Within};
 ghost use Rattle.feature.specs.Names.{symbols};
@@ -18,13 +19,12 @@ use feature::bond_kind::BondKind;
 use feature::element;
 
 // A byte at a place, where there is room; the place after it.
-fn put(out: &mut [u8], at: usize, b: u8) -> usize
-    requires { at ≤ 1000 }
+pub fn put(out: &mut [u8], at: usize, b: u8) -> usize
+    requires { at < 2 ^ 62 }
     ensures { Laid 1 out.old at (b ∷ []) out.new result }
 {
     if at < out.len() {
         out[at] = b;
-        return at + 1;
     }
     at + 1
 }
@@ -37,6 +37,7 @@ fn put_digit(out: &mut [u8], at: usize, d: u32) -> usize
 }
 
 // A number below 100, with no zero in front.
+#[tactic(auto, unfolding(crate::specs::Spell::digits))]
 fn put_pair(out: &mut [u8], at: usize, n: u32) -> usize
     requires { (at ≤ 900) × (n < 100) }
     ensures { Laid 2 out.old at (digits n) out.new result }
@@ -49,6 +50,7 @@ fn put_pair(out: &mut [u8], at: usize, n: u32) -> usize
 }
 
 // A number below 1,000, with no zeros in front.
+#[tactic(auto, unfolding(crate::specs::Spell::digits))]
 fn put_digits(out: &mut [u8], at: usize, n: u32) -> usize
     requires { (at ≤ 900) × (n < 1000) }
     ensures { Laid 3 out.old at (digits n) out.new result }
@@ -61,6 +63,7 @@ fn put_digits(out: &mut [u8], at: usize, n: u32) -> usize
     put_digit(out, b, n % 10)
 }
 
+#[tactic(auto, unfolding(crate::specs::Spell::number_text))]
 fn put_isotope(out: &mut [u8], at: usize, isotope: u32) -> usize
     requires { (at ≤ 900) × (isotope ≤ no_number) }
     ensures { Laid 3 out.old at (number_text isotope) out.new result }
@@ -72,6 +75,7 @@ fn put_isotope(out: &mut [u8], at: usize, isotope: u32) -> usize
 }
 
 // A symbol's name as the table has it.
+#[tactic(auto, using(feature::proofs::Names::first_small, feature::proofs::Names::second_small), unfolding(crate::specs::Spell::name_text))]
 fn put_name(out: &mut [u8], at: usize, symbol: u32) -> usize
     requires { (at ≤ 900) × (symbol < symbols) }
     ensures { Laid 2 out.old at (name_text symbol) out.new result }
@@ -87,6 +91,7 @@ fn put_name(out: &mut [u8], at: usize, symbol: u32) -> usize
 }
 
 // Caesium is written as actinium, a slip of the Rust.
+#[tactic(auto, unfolding(crate::specs::Spell::symbol_text))]
 fn put_symbol(out: &mut [u8], at: usize, symbol: u32) -> usize
     requires { (at ≤ 900) × (symbol < symbols) }
     ensures { Laid 2 out.old at (symbol_text symbol) out.new result }
@@ -98,6 +103,7 @@ fn put_symbol(out: &mut [u8], at: usize, symbol: u32) -> usize
 }
 
 // "@", two letters and a number.
+#[tactic(auto, unfolding(crate::specs::Spell::template_text))]
 fn put_template(out: &mut [u8], at: usize, first: u8, second: u8, n: u32) -> usize
     requires { (at ≤ 800) × (n < 100) }
     ensures { Laid 5 out.old at (template_text first second n) out.new result }
@@ -109,6 +115,7 @@ fn put_template(out: &mut [u8], at: usize, first: u8, second: u8, n: u32) -> usi
 }
 
 // Five templates are not written as their own: AL1, AL2, TB20, OH3 and OH14, slips of the Rust.
+#[tactic(auto, unfolding(crate::specs::Spell::marked_text))]
 fn put_marked(out: &mut [u8], at: usize, c: u32) -> usize
     requires { (at ≤ 800) × (c < configurations) × (sp < c) }
     ensures { Laid 5 out.old at (marked_text c) out.new result }
@@ -116,14 +123,11 @@ fn put_marked(out: &mut [u8], at: usize, c: u32) -> usize
     if c <= TB {
         return put_template(out, at, b'S', b'P', c - SP);
     }
-    if c == TB + 20 {
+    if c == TB + 20 || c == OH + 3 {
         return put_template(out, at, b'T', b'H', 1);
     }
     if c <= OH {
         return put_template(out, at, b'T', b'B', c - TB);
-    }
-    if c == OH + 3 {
-        return put_template(out, at, b'T', b'H', 1);
     }
     if c == OH + 14 {
         return put_template(out, at, b'O', b'H', 6);
@@ -131,6 +135,7 @@ fn put_marked(out: &mut [u8], at: usize, c: u32) -> usize
     put_template(out, at, b'O', b'H', c - OH)
 }
 
+#[tactic(auto, unfolding(crate::specs::Spell::configuration_text))]
 fn put_configuration(out: &mut [u8], at: usize, c: u32) -> usize
     requires { (at ≤ 800) × (c < configurations) }
     ensures { Laid 5 out.old at (configuration_text c) out.new result }
@@ -142,24 +147,19 @@ fn put_configuration(out: &mut [u8], at: usize, c: u32) -> usize
         return put_marked(out, at, c);
     }
     let a = put(out, at, b'@');
-    if c == TH2 {
-        return put(out, a, b'@');
-    }
-    if c == AL + 2 {
+    if c == TH2 || c == AL + 2 {
         return put(out, a, b'@');
     }
     a
 }
 
 // H0 is written as nothing, a slip of the Rust.
+#[tactic(auto, unfolding(crate::specs::Spell::hydrogens_text))]
 fn put_hydrogens(out: &mut [u8], at: usize, h: u32) -> usize
     requires { (at ≤ 900) × (h ≤ no_hydrogens) }
     ensures { Laid 2 out.old at (hydrogens_text h) out.new result }
 {
-    if h == NO_HYDROGENS {
-        return at;
-    }
-    if h == 0 {
+    if h == NO_HYDROGENS || h == 0 {
         return at;
     }
     let a = put(out, at, b'H');
@@ -171,14 +171,12 @@ fn put_hydrogens(out: &mut [u8], at: usize, h: u32) -> usize
 
 // A sign and a number; the number 1 is not written. A charge of 0 is written as nothing, and before a charge of 5 comes
 // a blank: slips of the Rust.
+#[tactic(auto, unfolding(crate::specs::Spell::charge_text))]
 fn put_charge(out: &mut [u8], at: usize, q: u32) -> usize
     requires { (at ≤ 800) × (q ≤ no_charge) }
     ensures { Laid 3 out.old at (charge_text q) out.new result }
 {
-    if q == NO_CHARGE {
-        return at;
-    }
-    if q == NEUTRAL {
+    if q == NO_CHARGE || q == NEUTRAL {
         return at;
     }
     if q == NEUTRAL + 1 {
@@ -200,6 +198,7 @@ fn put_charge(out: &mut [u8], at: usize, q: u32) -> usize
     put_pair(out, a, NEUTRAL - q)
 }
 
+#[tactic(auto, unfolding(crate::specs::Spell::map_text))]
 fn put_map(out: &mut [u8], at: usize, map: u32) -> usize
     requires { (at ≤ 800) × (map ≤ no_number) }
     ensures { Laid 4 out.old at (map_text map) out.new result }
@@ -226,6 +225,7 @@ fn put_bracket(out: &mut [u8], b: BracketAtom) -> usize
 }
 
 // An organic symbol's place in the table of names: B C N O S P F Cl Br I At Ts, then b c n o p s.
+#[tactic(auto, unfolding(crate::specs::Spell::organic_symbols))]
 fn organic_symbol(n: u32) -> u32
     requires { n < 18 }
     ensures { (result ≡ get_or organic_symbols n 0) × (result < symbols) }
@@ -253,6 +253,7 @@ fn organic_symbol(n: u32) -> u32
     }
 }
 
+#[tactic(auto, unfolding(crate::specs::Spell::kind_text))]
 fn put_kind(out: &mut [u8], k: AtomKind) -> usize
     requires { GoodKind k }
     ensures { Laid 21 out.old 0 (kind_text k) out.new result }
@@ -265,7 +266,8 @@ fn put_kind(out: &mut [u8], k: AtomKind) -> usize
     }
 }
 
-// An atom's text. Numbers that stand for no atom have none.
+// An atom's text. Numbers that stand for no atom have none, whose length is 0.
+#[tactic(auto, using(feature::proofs::Ranges::good), unfolding(crate::specs::Spell::atom_text))]
 pub fn spell_atom(out: &mut [u8], k: AtomKind) -> usize
     ensures { Laid 21 out.old 0 (atom_text k) out.new result }
 {
@@ -276,6 +278,7 @@ pub fn spell_atom(out: &mut [u8], k: AtomKind) -> usize
 }
 
 // A bond's text: nothing where it is elided.
+#[tactic(auto, unfolding(crate::specs::Spell::bond_text))]
 pub fn spell_bond(out: &mut [u8], k: BondKind) -> usize
     ensures { Laid 1 out.old 0 (bond_text k) out.new result }
 {
@@ -291,7 +294,8 @@ pub fn spell_bond(out: &mut [u8], k: BondKind) -> usize
     }
 }
 
-// A ring number's text: a digit, or "%" and two. A number above 99 has none.
+// A ring number's text: a digit, or "%" and two. A number above 99 has none, whose length is 0.
+#[tactic(auto, unfolding(crate::specs::Spell::rnum_text))]
 pub fn spell_rnum(out: &mut [u8], n: u32) -> usize
     ensures { Laid 3 out.old 0 (rnum_text n) out.new result }
 {

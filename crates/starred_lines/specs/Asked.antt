@@ -9,8 +9,7 @@ use Rattle.table.specs.Zeros.{zeros}
 use Rattle.write.specs.Write.{WriteLeft, pair_words}
 use Rattle.write.specs.Plain.{write_plain}
 use Rattle.join_pool.specs.declared.Pool.{Pool}
-use Rattle.join_pool.specs.declared.Given.{Given}
-use Rattle.join_pool.specs.declared.Given.TheVariants.{Number, Full}
+use Rattle.std.specs.Prelude.{None, Option, Some}
 use Rattle.join_pool.specs.Pairs.{hit_of, empty_of}
 use Rattle.desk_report.specs.declared.answer.Report.{Report}
 use Rattle.desk_report.specs.Report.{report, of_read, of_written}
@@ -48,13 +47,13 @@ rewrite_of s =
     (read_answered s)
 
 -- the number that a call of a pool is answered, 0 for none, and the pool after it
-unfoldable pub number_given : Given → ℕ
-number_given (Number p n) = n
-number_given Full = 0
+unfoldable pub number_given : Option (Pool × ℕ) → ℕ
+number_given (Some (p, n)) = n
+number_given None = 0
 
-unfoldable pub pool_given : Pool → Given → Pool
-pool_given q (Number p n) = p
-pool_given q Full = q
+unfoldable pub pool_given : Pool → Option (Pool × ℕ) → Pool
+pool_given q (Some (p, n)) = p
+pool_given q None = q
 
 unfoldable pub calls_from : Pool → List ℕ → List (ℕ × ℕ) → List ℕ
 calls_from p pairs [] = []

@@ -9,10 +9,9 @@ use Rattle.feature.specs.Text.{byte}
 use Rattle.feature.specs.Steps.{Within}
 use Rattle.feature.specs.declared.atom_kind.BracketAtom.{BracketAtom}
 use Rattle.feature.specs.declared.atom_kind.AtomKind.TheVariants.{Bracket}
-use Rattle.feature.proofs.Cases.{both_true}
+use Rattle.feature.proofs.Cases.{both_true, ok_parts}
 use Rattle.read_token.specs.declared.scanner.Part.{Part}
-use Rattle.read_token.specs.declared.scanner.Step.TheVariants.{Got}
-use Rattle.read_token.specs.declared.scanner.Found.TheVariants.{Atom}
+use Rattle.std.specs.Prelude.{Ok, Some}
 use Rattle.read_token.specs.Scan.{part, peek_at, isotope_at, symbol_at, configuration_at, hydrogens_at, charge_at, map_at, close_at, after_map, after_charge, after_hydrogens, after_configuration, configured, after_symbol, after_isotope, inside_at}
 use Rattle.spell.specs.Spell.{number_text, symbol_text, configuration_text, hydrogens_text, charge_text, map_text}
 use Rattle.survive.specs.Survive.{fields_survive}
@@ -109,23 +108,22 @@ bracketed s n b rest w e =
       close = front s (at_close n b) e6;
     }
 
-pub of_got : (p : Part) (v k : ℕ) → got p ≡ Got v k → p ≡ part v k
+pub of_got : (p : Part ℕ) (v k : ℕ) → got p ≡ Ok (v, k) → p ≡ part v k
 of_got p v k e =
-    let a : p.value ≡ v = cc in
-    let b : p.next ≡ k = cc in
-    ap (λ (x : ℕ). part x p.next) a ∙ ap (λ (x : ℕ). part v x) b
+    let d = ok_parts e in
+    ap (λ (x : ℕ). part x p.next) d.0 ∙ ap (λ (x : ℕ). part v x) d.1
 
 -- if the fields survive, what is read is the atom
-pub inside_back : (s : List ℕ) (n : ℕ) (b : BracketAtom) → Bracketed s n b → fields_survive b ≡ true → inside_at s n ≡ Atom (Bracket b) (at_close n b + 1)
+pub inside_back : (s : List ℕ) (n : ℕ) (b : BracketAtom) → Bracketed s n b → fields_survive b ≡ true → inside_at s n ≡ Ok (Some (Bracket b, at_close n b + 1))
 unfolding fields_survive inside_at after_isotope after_symbol configured after_configuration after_hydrogens after_charge after_map close_at
 inside_back s n b h ok =
     let o1 = both_true (symbol.stays b.symbol) _ ok in
     let o2 = both_true (configuration.stays b.configuration) _ o1.1 in
     let o3 = both_true (hydrogens.stays b.hydrogens) (charge.stays b.charge) o2.1 in
     let i : isotope_at s n ≡ part b.isotope (at_symbol n b) = of_got _ _ _ (back h.isotope refl) in
-    let y : symbol_at s (at_symbol n b) ≡ Got b.symbol (at_configuration n b) = back h.symbol o1.0 in
-    let c : configuration_at s (at_configuration n b) ≡ Got b.configuration (at_hydrogens n b) = back h.configuration o2.0 in
+    let y : symbol_at s (at_symbol n b) ≡ Ok (b.symbol, at_configuration n b) = back h.symbol o1.0 in
+    let c : configuration_at s (at_configuration n b) ≡ Ok (b.configuration, at_hydrogens n b) = back h.configuration o2.0 in
     let d : hydrogens_at s (at_hydrogens n b) ≡ part b.hydrogens (at_charge n b) = of_got _ _ _ (back h.hydrogens o3.0) in
     let q : charge_at s (at_charge n b) ≡ part b.charge (at_map n b) = of_got _ _ _ (back h.charge o3.1) in
-    let m : map_at s (at_map n b) ≡ Got b.map (at_close n b) = back h.map refl in
+    let m : map_at s (at_map n b) ≡ Ok (b.map, at_close n b) = back h.map refl in
     simp (i, y, c, d, q, m, h.close)

@@ -9,8 +9,8 @@ use lib.ListN.{replicate, length-replicate}
 use lib.Dec.{T, eqb, eqb→eq}
 use Rattle.feature.specs.Pick.{pick, both, neither}
 use Rattle.feature.proofs.Table.{at, every_entry, both_left, both_right}
-use Rattle.read_token.specs.declared.scanner.Step.{Step}
-use Rattle.read_token.specs.declared.scanner.Step.TheVariants.{Got, Stop}
+use Rattle.std.specs.Prelude.{Err, Ok}
+use Rattle.read_token.specs.Scan.{Step}
 
 -- a byte is one of a list's
 abbrev pub mem : List ℕ → ℕ → Bool
@@ -39,7 +39,7 @@ checked f n ys t k x h m = all_mem (f k) ys x (below (λ k. all (f k) ys) n t k 
 
 -- what is read is the value and its text's end where the value survives, and another value, or none, where it doesn't
 abbrev pub agrees : Bool → Step → ℕ → ℕ → Bool
-agrees true (Got w j) v k = both (eqb w v) (eqb j k)
-agrees true (Stop j) v k = false
-agrees false (Got w j) v k = neither (eqb w v)
-agrees false (Stop j) v k = true
+agrees true (Ok (w, j)) v k = both (eqb w v) (eqb j k)
+agrees true (Err j) v k = false
+agrees false (Ok (w, j)) v k = neither (eqb w v)
+agrees false (Err j) v k = true

@@ -10,8 +10,8 @@ use Rattle.feature.proofs.Ranges.{good}
 use Rattle.feature.specs.declared.atom_kind.BracketAtom.{BracketAtom}
 use Rattle.feature.specs.declared.atom_kind.AtomKind.{AtomKind}
 use Rattle.feature.specs.declared.atom_kind.AtomKind.TheVariants.{Star, Aliphatic, Aromatic, Bracket}
-use Rattle.read_token.specs.declared.scanner.Found.{Found}
-use Rattle.read_token.specs.declared.scanner.Found.TheVariants.{Atom, Nothing, Lacks}
+use Rattle.std.specs.Prelude.{Err, None, Ok, Some}
+use Rattle.read_token.specs.Scan.{Found}
 use Rattle.read_token.specs.Scan.{peek_at, inside_at, bracket_at, aromatic_of, aliphatic_of, organic_at, star_at, or_else, other_at, atom_at}
 use Rattle.spell.specs.Spell.{bracket_text, kind_text}
 use Rattle.survive.specs.Survive.{fields_survive, survives, Survives}
@@ -32,15 +32,15 @@ fields_survive_lem s n b k h r =
     simp (y.0, c.0, d.0, q.0)
 
 -- what is read from "[" on is what is read after it
-bracket_read : (s : List ℕ) (n : ℕ) (b : BracketAtom) (k : ℕ) → peek_at s n ≡ byte "[" → atom_at s n ≡ Atom (Bracket b) k → inside_at s (n + 1) ≡ Atom (Bracket b) k
+bracket_read : (s : List ℕ) (n : ℕ) (b : BracketAtom) (k : ℕ) → peek_at s n ≡ byte "[" → atom_at s n ≡ Ok (Some (Bracket b, k)) → inside_at s (n + 1) ≡ Ok (Some (Bracket b, k))
 unfolding atom_at organic_at aromatic_of aliphatic_of other_at bracket_at star_at or_else
 bracket_read s n b k z e = split (inside_at s (n + 1)) (simp z at e) where
-  split : (f : Found) → or_else f Nothing ≡ Atom (Bracket b) k → f ≡ Atom (Bracket b) k
-  split (Atom j m) e = e
-  split Nothing e = e
-  split (Lacks m) e = e
+  split : (f : Found) → or_else f (Ok None) ≡ Ok (Some (Bracket b, k)) → f ≡ Ok (Some (Bracket b, k))
+  split (Ok (Some (j, m))) e = e
+  split (Ok None) e = e
+  split (Err m) e = e
 
-bracket_exactly : (b : BracketAtom) (k : ℕ) → bracket_in_range b ≡ true → atom_at (bracket_text b) 0 ≡ Atom (Bracket b) k → fields_survive b ≡ true
+bracket_exactly : (b : BracketAtom) (k : ℕ) → bracket_in_range b ≡ true → atom_at (bracket_text b) 0 ≡ Ok (Some (Bracket b, k)) → fields_survive b ≡ true
 unfolding in_range bracket_text peek_at
 bracket_exactly b k ok e =
     let s = bracket_text b in

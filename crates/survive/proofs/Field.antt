@@ -11,16 +11,16 @@ use lib.Dec.{T, eqb, eqb→eq}
 use borrow.Author.Tests.{eq-eqb}
 use Rattle.feature.specs.Pick.{neither}
 use Rattle.feature.proofs.Table.{every_entry, both_left, both_right}
-use Rattle.feature.proofs.Cases.{impossible}
+use Rattle.feature.proofs.Cases.{impossible, ok_parts}
 use Rattle.read_token.specs.declared.scanner.Part.{Part}
-use Rattle.read_token.specs.declared.scanner.Step.{Step}
-use Rattle.read_token.specs.declared.scanner.Step.TheVariants.{Got, Stop}
+use Rattle.std.specs.Prelude.{Err, Ok}
+use Rattle.read_token.specs.Scan.{Step}
 use Rattle.survive.proofs.Checked.{mem, all, all_mem, below, agrees}
 use Rattle.survive.proofs.Shift.{onward, onward_got}
 
 -- a reader that always finds something, as one that may not
-abbrev pub got : Part → Step
-got p = Got p.value p.next
+abbrev pub got : Part ℕ → Step
+got p = Ok (p.value, p.next)
 
 -- whether a value is read as it should be where its text is with a byte after it
 abbrev pub test : (List ℕ → ℕ → Step) → (ℕ → List ℕ) → (ℕ → Bool) → List ℕ → ℕ → ℕ → Bool
@@ -77,24 +77,24 @@ here_read {F} {s} {n} {v} h =
     ap (λ (m : ℕ). F.read s m) (sym (add-zero n)) ∙ F.moves s n 0
     ∙ ap (λ (l : List ℕ). onward n (F.read l 0)) (h.stands ∙ ap (λ (l : List ℕ). F.text v ++ l) h.next.is)
 
-agrees_got : (r : Step) (v k : ℕ) → T (agrees true r v k) → r ≡ Got v k
-agrees_got (Got w j) v k t =
-    ap (λ (x : ℕ). Got x j) (eqb→eq w v (both_left (eqb w v) (eqb j k) t)) ∙ ap (λ (x : ℕ). Got v x) (eqb→eq j k (both_right (eqb w v) (eqb j k) t))
-agrees_got (Stop j) v k t = absurd t
+agrees_got : (r : Step) (v k : ℕ) → T (agrees true r v k) → r ≡ Ok (v, k)
+agrees_got (Ok (w, j)) v k t =
+    ap (λ (x : ℕ). Ok (x, j)) (eqb→eq w v (both_left (eqb w v) (eqb j k) t)) ∙ ap (λ (x : ℕ). Ok (v, x)) (eqb→eq j k (both_right (eqb w v) (eqb j k) t))
+agrees_got (Err j) v k t = absurd t
 
-agrees_only : (q : Bool) (r : Step) (n v k j : ℕ) → T (agrees q r v k) → onward n r ≡ Got v j → (q ≡ true) × (j ≡ n + k)
+agrees_only : (q : Bool) (r : Step) (n v k j : ℕ) → T (agrees q r v k) → onward n r ≡ Ok (v, j) → (q ≡ true) × (j ≡ n + k)
 unfolding onward
-agrees_only true (Got w i) n v k j t e =
-    let d : n + i ≡ j = cc in
+agrees_only true (Ok (w, i)) n v k j t e =
+    let d = (ok_parts e).1 in
     (refl, omega (arith, eqb→eq i k (both_right (eqb w v) (eqb i k) t)))
-agrees_only true (Stop i) n v k j t e = absurd t
-agrees_only false (Got w i) n v k j t e =
-    let d : w ≡ v = cc in
+agrees_only true (Err i) n v k j t e = absurd t
+agrees_only false (Ok (w, i)) n v k j t e =
+    let d = (ok_parts e).0 in
     absurd (subst (λ (b : Bool). T (neither b)) (eq-eqb w v d) t)
-agrees_only false (Stop i) n v k j t e = impossible cc
+agrees_only false (Err i) n v k j t e = impossible cc
 
 -- a value that survives is read back
-pub back : {F : Field} {s : List ℕ} {n v : ℕ} → Here F s n v → F.stays v ≡ true → F.read s n ≡ Got v (n + length (F.text v))
+pub back : {F : Field} {s : List ℕ} {n v : ℕ} → Here F s n v → F.stays v ≡ true → F.read s n ≡ Ok (v, n + length (F.text v))
 back {F} {s} {n} {v} h ok =
     let r = F.read (F.text v ++ (h.next.head ∷ h.next.rest)) 0 in
     let k = length (F.text v) in
@@ -103,7 +103,7 @@ back {F} {s} {n} {v} h ok =
     ∙ onward_got n v k
 
 -- and only such a value is
-pub only : {F : Field} {s : List ℕ} {n v j : ℕ} → Here F s n v → F.read s n ≡ Got v j → (F.stays v ≡ true) × (j ≡ n + length (F.text v))
+pub only : {F : Field} {s : List ℕ} {n v j : ℕ} → Here F s n v → F.read s n ≡ Ok (v, j) → (F.stays v ≡ true) × (j ≡ n + length (F.text v))
 only {F} {s} {n} {v} {j} h e =
     agrees_only (F.stays v) (F.read (F.text v ++ (h.next.head ∷ h.next.rest)) 0) n v (length (F.text v)) j
     (F.reads v h.next.head h.next.rest h.small h.next.ok) (sym (here_read h) ∙ e)

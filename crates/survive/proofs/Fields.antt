@@ -22,7 +22,7 @@ abbrev pub any : ℕ → Bool
 any v = true
 
 -- the law of a part's place as the law of a step's
-pub lifted : (R : List ℕ → ℕ → Part) → ((s : List ℕ) (n j : ℕ) → R s (n + j) ≡ shift n (R (drop n s) j)) → (s : List ℕ) (n j : ℕ) → got (R s (n + j)) ≡ onward n (got (R (drop n s) j))
+pub lifted : (R : List ℕ → ℕ → Part ℕ) → ((s : List ℕ) (n j : ℕ) → R s (n + j) ≡ shift n (R (drop n s) j)) → (s : List ℕ) (n j : ℕ) → got (R s (n + j)) ≡ onward n (got (R (drop n s) j))
 unfolding shift onward
 lifted R h s n j = ap got (h s n j)
 
@@ -80,14 +80,14 @@ digit_swap [] t x y (suc j) e = refl
 digit_swap (z ∷ xs) t x y zero e = refl
 digit_swap (z ∷ xs) t x y (suc j) e = digit_swap xs t x y j e
 
-step_swap : (xs t : List ℕ) (x y : ℕ) (p : Part) → digit_of x ≡ digit_of y → digit_step (xs ++ (x ∷ t)) p ≡ digit_step (xs ++ (y ∷ t)) p
+step_swap : (xs t : List ℕ) (x y : ℕ) (p : Part ℕ) → digit_of x ≡ digit_of y → digit_step (xs ++ (x ∷ t)) p ≡ digit_step (xs ++ (y ∷ t)) p
 unfolding digit_step
 step_swap xs t x y p e = rw (digit_swap xs t x y p.next e)
 
 isotope_swap : (xs t : List ℕ) (x y n : ℕ) → digit_of x ≡ digit_of y → isotope_at (xs ++ (x ∷ t)) n ≡ isotope_at (xs ++ (y ∷ t)) n
 unfolding isotope_at number_at
 isotope_swap xs t x y n e =
-    let h : (p : Part) → digit_step (xs ++ (x ∷ t)) p ≡ digit_step (xs ++ (y ∷ t)) p = λ p. step_swap xs t x y p e in
+    let h : (p : Part ℕ) → digit_step (xs ++ (x ∷ t)) p ≡ digit_step (xs ++ (y ∷ t)) p = λ p. step_swap xs t x y p e in
     simp h
 
 no_digit : (x : ℕ) → T (mem after_isotope x) → digit_of x ≡ digit_of (byte "*")
@@ -97,7 +97,7 @@ no_digit x m = eqb→eq _ _ (all_mem (λ y. eqb (digit_of y) (digit_of (byte "*"
 pub isotope_reads : (v x : ℕ) (t : List ℕ) → v < 1001 → T (mem after_isotope x) → T (test (λ s n. got (isotope_at s n)) number_text any t v x)
 unfolding isotope_at number_at digit_step digit_at digit_of peek_at number_text digits
 isotope_reads v x t l m =
-    subst (λ (p : Part). T (agrees true (got p) v (length (number_text v)))) (sym (isotope_swap (number_text v) t x (byte "*") 0 (no_digit x m)))
+    subst (λ (p : Part ℕ). T (agrees true (got p) v (length (number_text v)))) (sym (isotope_swap (number_text v) t x (byte "*") 0 (no_digit x m)))
     (checked (test (λ s n. got (isotope_at s n)) number_text any t) 1001 (bytes "*") tt v (byte "*") l tt)
 
 -- ---- the fields

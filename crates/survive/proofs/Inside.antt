@@ -1,6 +1,6 @@
 -- What a bracket atom that was read came from: each field was read where the one before it ended. Assumes nothing.
 use Prim.Native.Nat.{ℕ, ◌+◌}
-use mathlib.Core.Path.{◌≡◌, refl}
+use mathlib.Core.Path.{sym, ◌≡◌, refl}
 use mathlib.Core.List.{List}
 use mathlib.Core.Bool.{Bool, true, false}
 use lib.Dec.{eqb}
@@ -11,12 +11,11 @@ use Rattle.feature.specs.Kinds.{bracket_of_six}
 use Rattle.feature.specs.declared.atom_kind.BracketAtom.{BracketAtom}
 use Rattle.feature.specs.declared.atom_kind.AtomKind.{AtomKind}
 use Rattle.feature.specs.declared.atom_kind.AtomKind.TheVariants.{Bracket}
-use Rattle.feature.proofs.Cases.{impossible}
+use Rattle.feature.proofs.Cases.{impossible, found_parts}
 use Rattle.read_token.specs.declared.scanner.Missing.{Missing}
-use Rattle.read_token.specs.declared.scanner.Step.{Step}
-use Rattle.read_token.specs.declared.scanner.Step.TheVariants.{Got, Stop}
-use Rattle.read_token.specs.declared.scanner.Found.{Found}
-use Rattle.read_token.specs.declared.scanner.Found.TheVariants.{Atom, Lacks}
+use Rattle.std.specs.Prelude.{Err, Ok, Some}
+use Rattle.read_token.specs.Scan.{Step}
+use Rattle.read_token.specs.Scan.{Found}
 use Rattle.read_token.specs.Scan.{peek_at, missing_at, isotope_at, symbol_at, configuration_at, hydrogens_at, charge_at, map_at, close_at, after_map, after_charge, after_hydrogens, after_configuration, configured, after_symbol, after_isotope, inside_at}
 use Rattle.survive.proofs.Field.{got}
 
@@ -28,12 +27,12 @@ pub record Inside (s : List ℕ) (at : ℕ) (b : BracketAtom) (n : ℕ) : Type 0
   pub e4 : ℕ
   pub e5 : ℕ
   pub e6 : ℕ
-  pub isotope : got (isotope_at s at) ≡ Got b.isotope e1
-  pub symbol : symbol_at s e1 ≡ Got b.symbol e2
-  pub configuration : configuration_at s e2 ≡ Got b.configuration e3
-  pub hydrogens : got (hydrogens_at s e3) ≡ Got b.hydrogens e4
-  pub charge : got (charge_at s e4) ≡ Got b.charge e5
-  pub map : map_at s e5 ≡ Got b.map e6
+  pub isotope : got (isotope_at s at) ≡ Ok (b.isotope, e1)
+  pub symbol : symbol_at s e1 ≡ Ok (b.symbol, e2)
+  pub configuration : configuration_at s e2 ≡ Ok (b.configuration, e3)
+  pub hydrogens : got (hydrogens_at s e3) ≡ Ok (b.hydrogens, e4)
+  pub charge : got (charge_at s e4) ≡ Ok (b.charge, e5)
+  pub map : map_at s e5 ≡ Ok (b.map, e6)
   pub close : peek_at s e6 ≡ byte "]"
   pub end : n ≡ e6 + 1
 
@@ -41,12 +40,12 @@ pub record Inside (s : List ℕ) (at : ℕ) (b : BracketAtom) (n : ℕ) : Type 0
 record Gets (st : Step) : Type 0 where
   value : ℕ
   next : ℕ
-  is : st ≡ Got value next
+  is : st ≡ Ok (value, next)
 
 -- an atom comes of a step that got something
-gets : (f : Step → Found) (m : ℕ → Missing) (st : Step) (k : AtomKind) (n : ℕ) → ((p : ℕ) → f (Stop p) ≡ Lacks (m p)) → f st ≡ Atom k n → Gets st
-gets f m (Got v j) k n h e = record { value = v; next = j; is = refl }
-gets f m (Stop p) k n h e = impossible (cc (h p))
+gets : (f : Step → Found) (m : ℕ → Missing) (st : Step) (k : AtomKind) (n : ℕ) → ((p : ℕ) → f (Err p) ≡ Err (m p)) → f st ≡ Ok (Some (k, n)) → Gets st
+gets f m (Ok (v, j)) k n h e = record { value = v; next = j; is = refl }
+gets f m (Err p) k n h e = impossible (cc (h p))
 
 -- a bracket that was closed
 record Closed (s : List ℕ) (b : BracketAtom) (at : ℕ) (k : AtomKind) (n : ℕ) : Type 0 where
@@ -55,11 +54,13 @@ record Closed (s : List ℕ) (b : BracketAtom) (at : ℕ) (k : AtomKind) (n : �
   end : n ≡ at + 1
 
 -- an atom comes of such a bracket
-closed : (s : List ℕ) (b : BracketAtom) (at : ℕ) (k : AtomKind) (n : ℕ) → close_at s b at ≡ Atom k n → Closed s b at k n
+closed : (s : List ℕ) (b : BracketAtom) (at : ℕ) (k : AtomKind) (n : ℕ) → close_at s b at ≡ Ok (Some (k, n)) → Closed s b at k n
 unfolding close_at
 closed s b at k n = split (eqb (peek_at s at) (byte "]")) refl where
-  split : (q : Bool) → eqb (peek_at s at) (byte "]") ≡ q → pick q (Atom (Bracket b) (at + 1)) (Lacks (missing_at s at)) ≡ Atom k n → Closed s b at k n
-  split true p e = record { is = cc; close = eqb-true (peek_at s at) (byte "]") p; end = cc }
+  split : (q : Bool) → eqb (peek_at s at) (byte "]") ≡ q → pick {A = Found} q (Ok (Some (Bracket b, at + 1))) (Err (missing_at s at)) ≡ Ok (Some (k, n)) → Closed s b at k n
+  split true p e =
+      let d = found_parts e in
+      record { is = d.0; close = eqb-true (peek_at s at) (byte "]") p; end = sym d.1 }
   split false p e = impossible cc
 
 -- an atom that is a bracket's
@@ -69,7 +70,7 @@ pub record Read (s : List ℕ) (at : ℕ) (k : AtomKind) (n : ℕ) : Type 0 wher
   pub inside : Inside s at atom n
 
 -- what is read after "[" is one
-pub inside_read : (s : List ℕ) (at : ℕ) (k : AtomKind) (n : ℕ) → inside_at s at ≡ Atom k n → Read s at k n
+pub inside_read : (s : List ℕ) (at : ℕ) (k : AtomKind) (n : ℕ) → inside_at s at ≡ Ok (Some (k, n)) → Read s at k n
 unfolding inside_at after_isotope after_symbol configured after_configuration after_hydrogens after_charge after_map
 inside_read s at k n e =
     let i = isotope_at s at in

@@ -12,8 +12,8 @@ use Rattle.feature.specs.Pick.{pick}
 use Rattle.feature.specs.Text.{byte}
 use Rattle.feature.specs.declared.bond_kind.BondKind.{BondKind}
 use Rattle.feature.specs.declared.bond_kind.BondKind.TheVariants.{Elided, Single, Double, Triple, Quadruple, Aromatic, Up, Down}
-use Rattle.read_token.specs.declared.read_bond.Bond.{Bond}
-use Rattle.read_token.specs.declared.read_rnum.Ring.TheVariants.{Number}
+use Rattle.read_token.specs.declared.scanner.Part.{Part}
+use Rattle.std.specs.Prelude.{Ok, Some}
 use Rattle.read_token.specs.Scan.{peek_at, digit_of, digit_at, percent_at, rnum_at, sign_kind, mark_width, bond_at}
 use Rattle.spell.specs.Spell.{figure, digits, rnum_text, bond_text}
 use Rattle.survive.proofs.Checked.{below}
@@ -26,11 +26,11 @@ unfolding digit_of
 figure_digit d h = eqb→eq (digit_of (figure d)) d (below (λ d. eqb (digit_of (figure d)) d) 10 tt d h)
 
 module _ (s : List ℕ) (n : ℕ) where
-  one_figure : (m : ℕ) (rest : List ℕ) → m < 10 → drop n s ≡ figure m ∷ rest → rnum_at s n ≡ Number m (n + 1)
+  one_figure : (m : ℕ) (rest : List ℕ) → m < 10 → drop n s ≡ figure m ∷ rest → rnum_at s n ≡ Ok (Some (m, n + 1))
   unfolding rnum_at digit_at peek_at
   one_figure m rest h e = simp (front s n e, figure_digit m h, lt-ltb m 10 h)
 
-  two_figures : (a b : ℕ) (rest : List ℕ) → a < 10 → b < 10 → drop n s ≡ byte "%" ∷ figure a ∷ figure b ∷ rest → rnum_at s n ≡ Number (a * 10 + b) (n + 3)
+  two_figures : (a b : ℕ) (rest : List ℕ) → a < 10 → b < 10 → drop n s ≡ byte "%" ∷ figure a ∷ figure b ∷ rest → rnum_at s n ≡ Ok (Some (a * 10 + b, n + 3))
   unfolding rnum_at percent_at digit_at digit_of peek_at
   two_figures a b rest p q e =
       let x : peek_at s n ≡ byte "%" = front s n e in
@@ -41,24 +41,24 @@ module _ (s : List ℕ) (n : ℕ) where
       simp (add_assoc, x, y, z, figure_digit a p, figure_digit b q, c, d)
 
   -- a ring number's text is read as the number, whatever follows
-  pub ring_back_at : (m : ℕ) (rest : List ℕ) → m < 100 → drop n s ≡ rnum_text m ++ rest → rnum_at s n ≡ Number m (n + length (rnum_text m))
+  pub ring_back_at : (m : ℕ) (rest : List ℕ) → m < 100 → drop n s ≡ rnum_text m ++ rest → rnum_at s n ≡ Ok (Some (m, n + length (rnum_text m)))
   unfolding rnum_text digits
   ring_back_at m rest h = split (ltb m 10) refl where
-    split : (q : Bool) → ltb m 10 ≡ q → drop n s ≡ pick q (figure m ∷ []) (pick (ltb m 100) (byte "%" ∷ digits m) []) ++ rest → rnum_at s n ≡ Number m (n + length (pick q (figure m ∷ []) (pick (ltb m 100) (byte "%" ∷ digits m) [])))
+    split : (q : Bool) → ltb m 10 ≡ q → drop n s ≡ pick q (figure m ∷ []) (pick (ltb m 100) (byte "%" ∷ digits m) []) ++ rest → rnum_at s n ≡ Ok (Some (m, n + length (pick q (figure m ∷ []) (pick (ltb m 100) (byte "%" ∷ digits m) []))))
     split true p e = one_figure m rest (ltb-true m 10 p) e
     split false p e =
         let t = simp (p, lt-ltb m 100 h) at e in
         simp (p, lt-ltb m 100 h)
-        (two_figures (m / 10) (m % 10) rest (omega arith) (omega arith) t ∙ ap (λ (k : ℕ). Number k (n + 3)) (omega arith))
+        (two_figures (m / 10) (m % 10) rest (omega arith) (omega arith) t ∙ ap (λ (k : ℕ). Ok (Some (k, n + 3))) (omega arith))
 
 -- the same at the start of a line
-pub ring_back : (m : ℕ) → m < 100 → (rest : List ℕ) → rnum_at (rnum_text m ++ rest) 0 ≡ Number m (length (rnum_text m))
+pub ring_back : (m : ℕ) → m < 100 → (rest : List ℕ) → rnum_at (rnum_text m ++ rest) 0 ≡ Ok (Some (m, length (rnum_text m)))
 ring_back m h rest =
-    ring_back_at (rnum_text m ++ rest) 0 m rest h refl ∙ ap (Number m) (zero-add (length (rnum_text m)))
+    ring_back_at (rnum_text m ++ rest) 0 m rest h refl ∙ ap ((λ (place : ℕ). Ok (Some (m, place)))) (zero-add (length (rnum_text m)))
 
 -- ---- bonds
-abbrev pub bond : BondKind → ℕ → Bond
-bond k n = record { kind = k; next = n }
+abbrev pub bond : BondKind → ℕ → Part BondKind
+bond k n = record { value = k; next = n }
 
 bond_read : (s : List ℕ) (n x : ℕ) (k : BondKind) (rest : List ℕ) → sign_kind x ≡ k → drop n s ≡ x ∷ rest → bond_at s n ≡ bond k (n + mark_width k)
 unfolding bond_at peek_at

@@ -17,8 +17,8 @@ use Rattle.feature.specs.declared.atom_kind.AtomKind.TheVariants.{Aliphatic, Aro
 use Rattle.feature.proofs.Cases.{impossible}
 use Rattle.read_token.specs.declared.scanner.Missing.{Missing}
 use Rattle.read_token.specs.declared.scanner.Missing.TheVariants.{EndOfLine, Character}
-use Rattle.read_token.specs.declared.scanner.Found.{Found}
-use Rattle.read_token.specs.declared.scanner.Found.TheVariants.{Atom, Nothing, Lacks}
+use Rattle.std.specs.Prelude.{Err, None, Ok, Some}
+use Rattle.read_token.specs.Scan.{Found}
 use Rattle.read_token.specs.Scan.{peek_at, missing_at, aromatic_of, aliphatic_of, wanted_at, optional_at, organic_at}
 use Rattle.spell.specs.Spell.{name_text, organic_symbols, kind_text}
 use Rattle.survive.specs.Survive.{can_follow}
@@ -30,19 +30,19 @@ missed n EndOfLine = EndOfLine
 missed n (Character k) = Character (n + k)
 
 moved : ℕ → Found → Found
-moved n (Atom k j) = Atom k (n + j)
-moved n Nothing = Nothing
-moved n (Lacks m) = Lacks (missed n m)
+moved n (Ok (Some (k, j))) = Ok (Some (k, n + j))
+moved n (Ok None) = (Ok None)
+moved n (Err m) = Err (missed n m)
 
-moved_atom : (n : ℕ) (k : AtomKind) (j : ℕ) → moved n (Atom k j) ≡ Atom k (n + j)
+moved_atom : (n : ℕ) (k : AtomKind) (j : ℕ) → moved n (Ok (Some (k, j))) ≡ Ok (Some (k, n + j))
 unfolding moved
 moved_atom n k j = refl
 
-moved_nothing : (n : ℕ) → moved n Nothing ≡ Nothing
+moved_nothing : (n : ℕ) → moved n (Ok None) ≡ (Ok None)
 unfolding moved
 moved_nothing n = refl
 
-moved_lacks : (n : ℕ) (m : Missing) → moved n (Lacks m) ≡ Lacks (missed n m)
+moved_lacks : (n : ℕ) (m : Missing) → moved n (Err m) ≡ Err (missed n m)
 unfolding moved
 moved_lacks n m = refl
 
@@ -88,7 +88,7 @@ follows (x ∷ rest) e = split (eqb x (byte "l")) (eqb x (byte "r")) e where
 
 module _ (rest : List ℕ) where
   abbrev Reads : AtomKind → Type 0
-  Reads k = organic_at (kind_text k ++ rest) 0 ≡ Atom k (length (kind_text k))
+  Reads k = organic_at (kind_text k ++ rest) 0 ≡ Ok (Some (k, length (kind_text k)))
 
   -- B and C are the last two: what follows is no second letter of theirs
   aliphatic_reads : can_follow rest ≡ true → Each (λ n. Reads (Aliphatic n)) aliphatic_count
@@ -102,15 +102,15 @@ module _ (rest : List ℕ) where
   aromatic_reads = (refl, (refl, (refl, (refl, (refl, (refl, tt))))))
 
   -- from what is read of the text to what is read where it is
-  stands : (s : List ℕ) (n : ℕ) (k : AtomKind) → Reads k → drop n s ≡ kind_text k ++ rest → organic_at s n ≡ Atom k (n + length (kind_text k))
+  stands : (s : List ℕ) (n : ℕ) (k : AtomKind) → Reads k → drop n s ≡ kind_text k ++ rest → organic_at s n ≡ Ok (Some (k, n + length (kind_text k)))
   stands s n k r e =
       ap (λ (m : ℕ). organic_at s m) (sym (add-zero n)) ∙ organic_shift s n 0 ∙ ap (λ (l : List ℕ). moved n (organic_at l 0)) e ∙ ap (moved n) r
       ∙ moved_atom n k (length (kind_text k))
 
-  pub aliphatic_back : (s : List ℕ) (n m : ℕ) → m < aliphatic_count → can_follow rest ≡ true → drop n s ≡ kind_text (Aliphatic m) ++ rest → organic_at s n ≡ Atom (Aliphatic m) (n + length (kind_text (Aliphatic m)))
+  pub aliphatic_back : (s : List ℕ) (n m : ℕ) → m < aliphatic_count → can_follow rest ≡ true → drop n s ≡ kind_text (Aliphatic m) ++ rest → organic_at s n ≡ Ok (Some (Aliphatic m, n + length (kind_text (Aliphatic m))))
   aliphatic_back s n m l c e =
       stands s n (Aliphatic m) (each_at (λ m. Reads (Aliphatic m)) aliphatic_count (aliphatic_reads c) m l) e
 
-  pub aromatic_back : (s : List ℕ) (n m : ℕ) → m < aromatic_count → drop n s ≡ kind_text (Aromatic m) ++ rest → organic_at s n ≡ Atom (Aromatic m) (n + length (kind_text (Aromatic m)))
+  pub aromatic_back : (s : List ℕ) (n m : ℕ) → m < aromatic_count → drop n s ≡ kind_text (Aromatic m) ++ rest → organic_at s n ≡ Ok (Some (Aromatic m, n + length (kind_text (Aromatic m))))
   aromatic_back s n m l e =
       stands s n (Aromatic m) (each_at (λ m. Reads (Aromatic m)) aromatic_count aromatic_reads m l) e

@@ -17,10 +17,9 @@ use Rattle.feature.specs.declared.atom_kind.BracketAtom.{BracketAtom}
 use Rattle.feature.specs.declared.atom_kind.AtomKind.{AtomKind}
 use Rattle.feature.proofs.Cases.{by_test}
 use Rattle.read_token.specs.declared.scanner.Part.{Part}
-use Rattle.read_token.specs.declared.scanner.Step.{Step}
-use Rattle.read_token.specs.declared.scanner.Step.TheVariants.{Got, Stop}
-use Rattle.read_token.specs.declared.scanner.Found.{Found}
-use Rattle.read_token.specs.declared.scanner.Found.TheVariants.{Atom, Nothing, Lacks}
+use Rattle.std.specs.Prelude.{Err, None, Ok, Some}
+use Rattle.read_token.specs.Scan.{Step}
+use Rattle.read_token.specs.Scan.{Found}
 use Rattle.read_token.specs.Scan.{no_byte, part, peek_at, digit_at, digit_step, number_at, isotope_at, slip, symbol_at, symbol_of, short_at, long_at, allene_at, octahedral_at, square_at, trigonal_at, configuration_at, hydrogens_at, fifteen_at, signed_at, charge_at, map_at, inside_at, bracket_at, aromatic_of, aliphatic_of, wanted_at, optional_at, organic_at, star_at, or_else, other_at, atom_at}
 use Rattle.spell.specs.Spell.{atom_text}
 use Rattle.survive.specs.Survive.{survives, Survives}
@@ -31,15 +30,15 @@ use Rattle.survive.proofs.Inside.{Inside, inside_read}
 
 -- what a reader got is below a limit
 abbrev Below : ℕ → Step → Type 0
-Below limit (Got v n) = v < limit
-Below limit (Stop p) = Unit {0}
+Below limit (Ok (v, n)) = v < limit
+Below limit (Err p) = Unit {0}
 
 -- ---- numbers
 -- the same of a reader that always finds something
-abbrev Under : ℕ → Part → Type 0
+abbrev Under : ℕ → Part ℕ → Type 0
 Under limit p = p.value < limit
 
-digit_under : (s : List ℕ) (limit : ℕ) (p : Part) → Under limit p → Under (limit * 10) (digit_step s p)
+digit_under : (s : List ℕ) (limit : ℕ) (p : Part ℕ) → Under limit p → Under (limit * 10) (digit_step s p)
 unfolding digit_step
 digit_under s limit p h =
     by_test (Under (limit * 10)) (ltb (digit_at s p.next) 10)
@@ -145,9 +144,9 @@ charge_under s at =
 -- ---- atoms
 -- what was found is in range
 abbrev Ranged : Found → Type 0
-Ranged (Atom k n) = GoodKind k
-Ranged Nothing = Unit {0}
-Ranged (Lacks m) = Unit {0}
+Ranged (Ok (Some (k, n))) = GoodKind k
+Ranged (Ok None) = Unit {0}
+Ranged (Err m) = Unit {0}
 
 inside_within : (s : List ℕ) (at : ℕ) (b : BracketAtom) (n : ℕ) → Inside s at b n → Within b
 inside_within s at b n r =
@@ -167,11 +166,11 @@ inside_within s at b n r =
 inside_ranged : (s : List ℕ) (at : ℕ) → Ranged (inside_at s at)
 inside_ranged s at = split (inside_at s at) refl where
   split : (f : Found) → inside_at s at ≡ f → Ranged f
-  split (Atom k n) e =
+  split (Ok (Some (k, n))) e =
       let r = inside_read s at k n e in
       subst GoodKind r.is (inside_within s at r.atom n r.inside)
-  split Nothing e = tt
-  split (Lacks m) e = tt
+  split (Ok None) e = tt
+  split (Err m) e = tt
 
 wanted_ranged : (s : List ℕ) (at x two : ℕ) → two < aliphatic_count → Ranged (wanted_at s at x two)
 unfolding wanted_at
@@ -195,9 +194,9 @@ organic_ranged s at =
 
 first_ranged : (f g : Found) → Ranged f → Ranged g → Ranged (or_else f g)
 unfolding or_else
-first_ranged (Atom k n) g a b = a
-first_ranged Nothing g a b = b
-first_ranged (Lacks m) g a b = tt
+first_ranged (Ok (Some (k, n))) g a b = a
+first_ranged (Ok None) g a b = b
+first_ranged (Err m) g a b = tt
 
 atom_ranged : (s : List ℕ) (at : ℕ) → Ranged (atom_at s at)
 unfolding atom_at other_at bracket_at star_at
@@ -207,7 +206,7 @@ atom_ranged s at =
     first_ranged (organic_at s at) (other_at s at) (organic_ranged s at) (first_ranged (bracket_at s at) (star_at s at) bracketed star)
 
 -- whatever is read as an atom is in range, and is followed by a later place that is within the line
-pub read_good : (s : List ℕ) (at : ℕ) (k : AtomKind) (n : ℕ) → atom_at s at ≡ Atom k n → (in_range k ≡ true) × (at < n) × (n ≤ length s)
+pub read_good : (s : List ℕ) (at : ℕ) (k : AtomKind) (n : ℕ) → atom_at s at ≡ Ok (Some (k, n)) → (in_range k ≡ true) × (at < n) × (n ≤ length s)
 read_good s at k n e =
     let p = atom_in s at e in
     (ranged k (subst Ranged e (atom_ranged s at)), p.0, p.1)

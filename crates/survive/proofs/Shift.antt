@@ -12,8 +12,8 @@ use lib.Dec.{eqb}
 use borrow.Author.Tests.{eq-eqb, ne_eqb, eqb-true, eqb-false}
 use Rattle.feature.specs.Pick.{pick}
 use Rattle.read_token.specs.declared.scanner.Part.{Part}
-use Rattle.read_token.specs.declared.scanner.Step.{Step}
-use Rattle.read_token.specs.declared.scanner.Step.TheVariants.{Got, Stop}
+use Rattle.std.specs.Prelude.{Err, Ok}
+use Rattle.read_token.specs.Scan.{Step}
 use Rattle.read_token.specs.Scan.{part, peek_at, digit_at, digit_step, number_at, isotope_at, symbol_at, symbol_of, short_at, late_at, long_at, allene_at, octahedral_at, square_at, trigonal_at, configuration_at, hydrogens_at, fifteen_at, signed_at, charge_at, map_at}
 
 -- a function of what is picked picks among its values
@@ -29,30 +29,30 @@ eqb_add n a b = split (eqb a b) refl where
   split false e = ne_eqb (n + a) (n + b) (λ h. eqb-false a b e (omega arith))
 
 -- ---- what is read, n bytes further on
-unfoldable pub shift : ℕ → Part → Part
+unfoldable pub shift : ℕ → Part ℕ → Part ℕ
 shift n p = part p.value (n + p.next)
 
 shift_part : (n v k : ℕ) → shift n (part v k) ≡ part v (n + k)
 unfolding shift
 shift_part n v k = refl
 
-shift_value : (n : ℕ) (p : Part) → (shift n p).value ≡ p.value
+shift_value : (n : ℕ) (p : Part ℕ) → (shift n p).value ≡ p.value
 unfolding shift
 shift_value n p = refl
 
-shift_next : (n : ℕ) (p : Part) → (shift n p).next ≡ n + p.next
+shift_next : (n : ℕ) (p : Part ℕ) → (shift n p).next ≡ n + p.next
 unfolding shift
 shift_next n p = refl
 
 unfoldable pub onward : ℕ → Step → Step
-onward n (Got v k) = Got v (n + k)
-onward n (Stop k) = Stop (n + k)
+onward n (Ok (v, k)) = Ok (v, n + k)
+onward n (Err k) = Err (n + k)
 
-pub onward_got : (n v k : ℕ) → onward n (Got v k) ≡ Got v (n + k)
+pub onward_got : (n v k : ℕ) → onward n (Ok (v, k)) ≡ Ok (v, n + k)
 unfolding onward
 onward_got n v k = refl
 
-onward_stop : (n k : ℕ) → onward n (Stop k) ≡ Stop (n + k)
+onward_stop : (n k : ℕ) → onward n (Err k) ≡ Err (n + k)
 unfolding onward
 onward_stop n k = refl
 
@@ -66,7 +66,7 @@ module _ (s : List ℕ) (n : ℕ) where
   digit_shift j = rw peek_shift
 
   -- ---- isotope
-  step_shift : (p : Part) → digit_step s (shift n p) ≡ shift n (digit_step (drop n s) p)
+  step_shift : (p : Part ℕ) → digit_step s (shift n p) ≡ shift n (digit_step (drop n s) p)
   unfolding digit_step
   step_shift p = simp (add_assoc, digit_shift, shift_value, shift_next, through (shift n), shift_part)
 

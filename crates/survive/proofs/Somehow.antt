@@ -14,15 +14,14 @@ use Rattle.feature.specs.Kinds.{configurations, in_range}
 use Rattle.feature.specs.declared.atom_kind.BracketAtom.{BracketAtom}
 use Rattle.feature.specs.declared.atom_kind.AtomKind.{AtomKind}
 use Rattle.feature.specs.declared.atom_kind.AtomKind.TheVariants.{Star, Aliphatic, Aromatic, Bracket}
-use Rattle.feature.proofs.Cases.{by_test, true_of}
+use Rattle.feature.proofs.Cases.{by_test, true_of, ok_parts}
 use borrow.Author.Tests.{eqb-true}
 use Rattle.feature.proofs.Ranges.{good}
 use Rattle.read_token.specs.declared.scanner.Missing.{Missing}
 use Rattle.read_token.specs.declared.scanner.Part.{Part}
-use Rattle.read_token.specs.declared.scanner.Step.{Step}
-use Rattle.read_token.specs.declared.scanner.Step.TheVariants.{Got, Stop}
-use Rattle.read_token.specs.declared.scanner.Found.{Found}
-use Rattle.read_token.specs.declared.scanner.Found.TheVariants.{Atom, Nothing, Lacks}
+use Rattle.std.specs.Prelude.{Err, None, Ok, Some}
+use Rattle.read_token.specs.Scan.{Step}
+use Rattle.read_token.specs.Scan.{Found}
 use Rattle.read_token.specs.Scan.{part, peek_at, digit_of, digit_at, slip, isotope_at, symbol_at, symbol_of, short_at, late_at, long_at, allene_at, octahedral_at, square_at, trigonal_at, configuration_at, hydrogens_at, fifteen_at, signed_at, charge_at, map_at, close_at, after_map, after_charge, after_hydrogens, after_configuration, configured, after_symbol, after_isotope, inside_at, bracket_at, aromatic_of, aliphatic_of, organic_at, star_at, or_else, other_at, atom_at}
 use Rattle.spell.specs.Spell.{digits, name_text, symbol_text, template_text, marked_text, configuration_text, hydrogens_text, charge_text, bracket_text, kind_text, atom_text}
 use Rattle.survive.specs.Survive.{survives, can_follow}
@@ -36,20 +35,20 @@ use Rattle.survive.proofs.ReadBack.{survives_ranged, text_of, read_back_at}
 -- ---- one field
 -- whether a step ends at k, if it ends
 abbrev ends_at : Step → ℕ → Bool
-ends_at (Got w j) k = eqb j k
-ends_at (Stop j) k = true
+ends_at (Ok (w, j)) k = eqb j k
+ends_at (Err j) k = true
 
 abbrev ends : (List ℕ → ℕ → Step) → (ℕ → List ℕ) → List ℕ → ℕ → ℕ → Bool
 ends read text t v x = ends_at (read (text v ++ (x ∷ t)) 0) (length (text v))
 
 data Ended : Step → ℕ → Type 0 where
-  to : (w k : ℕ) → Ended (Got w k) k
-  none : (p k : ℕ) → Ended (Stop p) k
+  to : (w k : ℕ) → Ended (Ok (w, k)) k
+  none : (p k : ℕ) → Ended (Err p) k
 
 ended : (n : ℕ) (r : Step) (k : ℕ) → T (ends_at r k) → Ended (onward n r) (n + k)
 unfolding onward
-ended n (Got w j) k h = subst (λ (i : ℕ). Ended (Got w (n + i)) (n + k)) (sym (eqb→eq j k h)) (to w (n + k))
-ended n (Stop j) k h = none (n + j) (n + k)
+ended n (Ok (w, j)) k h = subst (λ (i : ℕ). Ended (Ok (w, n + i)) (n + k)) (sym (eqb→eq j k h)) (to w (n + k))
+ended n (Err j) k h = none (n + j) (n + k)
 
 field_ends : {F : Field} {s : List ℕ} {n v : ℕ} (h : Here F s n v) → T (ends F.read F.text h.next.rest v h.next.head) → Ended (F.read s n) (n + length (F.text v))
 field_ends {F} {s} {n} {v} h e =
@@ -83,10 +82,10 @@ charge_ends v x t l m = checked (charged t) 32 charge.after tt v x l m
 -- ---- the whole of a bracket
 -- some atom that ends at n, or something that lacks
 pub data Somehow : Found → ℕ → Type 0 where
-  atom : (k : AtomKind) (n : ℕ) → Somehow (Atom k n) n
-  lacks : (m : Missing) (n : ℕ) → Somehow (Lacks m) n
+  atom : (k : AtomKind) (n : ℕ) → Somehow (Ok (Some (k, n))) n
+  lacks : (m : Missing) (n : ℕ) → Somehow (Err m) n
 
-part_ended : (p : Part) (k : ℕ) → Ended (got p) k → p.next ≡ k
+part_ended : (p : Part ℕ) (k : ℕ) → Ended (got p) k → p.next ≡ k
 part_ended p k (to w j) = refl
 
 module _ (s : List ℕ) (n : ℕ) (b : BracketAtom) (h : Bracketed s n b) where
@@ -97,7 +96,7 @@ module _ (s : List ℕ) (n : ℕ) (b : BracketAtom) (h : Bracketed s n b) where
   map_somehow : (i y c d q : ℕ) → Somehow (after_map s i y c d q (map_at s (at_map n b))) end
   unfolding after_map close_at
   map_somehow i y c d q =
-      let m : map_at s (at_map n b) ≡ Got b.map (at_close n b) = back h.map refl in
+      let m : map_at s (at_map n b) ≡ Ok (b.map, at_close n b) = back h.map refl in
       rw (m, h.close) (atom _ end)
 
   -- and at another byte
@@ -124,7 +123,7 @@ module _ (s : List ℕ) (n : ℕ) (b : BracketAtom) (h : Bracketed s n b) where
 
   charge_at_lem : (charge_at s (at_charge n b)).next ≡ at_charge n b + (charge_at rest 0).next
   unfolding onward
-  charge_at_lem = let e = here_read h.charge in cc
+  charge_at_lem = (ok_parts (here_read h.charge)).1
 
   peek_at_lem : (j : ℕ) → peek_at s (at_charge n b + j) ≡ peek_at rest j
   peek_at_lem j =
@@ -155,15 +154,15 @@ module _ (s : List ℕ) (n : ℕ) (b : BracketAtom) (h : Bracketed s n b) where
 
   configured_somehow : (i y : ℕ) (r : Step) → Ended r (at_hydrogens n b) → Somehow (configured s i y r) end
   unfolding configured
-  configured_somehow i y (Got w k) (to v j) = hydrogens_somehow i y w
-  configured_somehow i y (Stop p) (none q j) = lacks _ end
+  configured_somehow i y (Ok (w, k)) (to v j) = hydrogens_somehow i y w
+  configured_somehow i y (Err p) (none q j) = lacks _ end
 
   symbol_somehow : (i : ℕ) (r : Step) → Ended r (at_configuration n b) → Somehow (after_symbol s i r) end
   unfolding after_symbol
-  symbol_somehow i (Got w k) (to v j) =
+  symbol_somehow i (Ok (w, k)) (to v j) =
       configured_somehow i w (configuration_at s (at_configuration n b))
       (field_ends h.configuration (configuration_ends b.configuration h.configuration.next.head h.configuration.next.rest h.configuration.small h.configuration.next.ok))
-  symbol_somehow i (Stop p) (none q j) = lacks _ end
+  symbol_somehow i (Err p) (none q j) = lacks _ end
 
   pub inside_somehow : Somehow (inside_at s n) end
   unfolding inside_at after_isotope
@@ -176,9 +175,9 @@ module _ (s : List ℕ) (n : ℕ) (b : BracketAtom) (h : Bracketed s n b) where
 -- ---- any atom in range
 else_somehow : (f g : Found) (m : ℕ) → Somehow f m → Somehow (or_else f g) m
 unfolding or_else
-else_somehow (Atom k n) g m (atom j i) = atom k m
-else_somehow (Lacks x) g m (lacks y i) = lacks x m
-else_somehow Nothing g m x = elim x [ ]
+else_somehow (Ok (Some (k, n))) g m (atom j i) = atom k m
+else_somehow (Err x) g m (lacks y i) = lacks x m
+else_somehow (Ok None) g m x = elim x [ ]
 
 module _ (s : List ℕ) (n : ℕ) (rest : List ℕ) where
   bracket_somehow : (b : BracketAtom) → in_range (Bracket b) ≡ true → drop n s ≡ kind_text (Bracket b) ++ rest → Somehow (atom_at s n) (n + length (kind_text (Bracket b)))
@@ -194,7 +193,7 @@ module _ (s : List ℕ) (n : ℕ) (rest : List ℕ) where
   organic : (k : AtomKind) → survives k ≡ true → can_follow rest ≡ true → drop n s ≡ kind_text k ++ rest → Somehow (atom_at s n) (n + length (kind_text k))
   organic k ok c e =
       let t = text_of k (survives_ranged k ok) in
-      let r : atom_at s n ≡ Atom k (n + length (kind_text k)) = rw t at (read_back_at s n rest k ok c (rw t e)) in
+      let r : atom_at s n ≡ Ok (Some (k, n + length (kind_text k))) = rw t at (read_back_at s n rest k ok c (rw t e)) in
       rw r (atom k _)
 
   kind_somehow : (k : AtomKind) → in_range k ≡ true → can_follow rest ≡ true → drop n s ≡ kind_text k ++ rest → Somehow (atom_at s n) (n + length (kind_text k))

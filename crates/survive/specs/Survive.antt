@@ -10,7 +10,7 @@ use Rattle.feature.specs.declared.atom_kind.AtomKind.{AtomKind}
 use Rattle.feature.specs.declared.atom_kind.AtomKind.TheVariants.{Star, Aliphatic, Aromatic, Bracket}
 use Rattle.spell.specs.Spell.{atom_text}
 use Rattle.read_token.specs.Scan.{atom_at}
-use Rattle.read_token.specs.declared.scanner.Found.TheVariants.{Atom}
+use Rattle.std.specs.Prelude.{Ok, Some}
 
 -- caesium is written as actinium
 unfoldable pub symbol_survives : ℕ → Bool
@@ -62,4 +62,4 @@ can_follow (x ∷ xs) = neither (either (eqb x (byte "l")) (eqb x (byte "r")))
 
 -- what the test means: the text, read alone, is the kind, to its end
 abbrev pub Survives : AtomKind → Type 0
-Survives k = atom_at (atom_text k) 0 ≡ Atom k (length (atom_text k))
+Survives k = atom_at (atom_text k) 0 ≡ Ok (Some (k, length (atom_text k)))

@@ -3,8 +3,6 @@
 #![tactic(auto)]
 
 ghost use Rattle.std.specs.Prelude.{◌≡◌};
-ghost use Rattle.feature.specs.Pick.{both};
-ghost use Rattle.feature.specs.Kinds.{bracket_in_range};
 ghost use Rattle.survive.specs.Survive.{configuration_survives, charge_survives, fields_survive};
 ghost use Rattle.survive.specs.Survive.{survives as kindSurvives};
 
@@ -34,75 +32,35 @@ pub const MINUS_TEN: u32 = NEUTRAL - 10;
 fn configuration_survives(c: u32) -> bool
     ensures { result ≡ configuration_survives c }
 {
-    if c == AL1 {
-        return false;
-    }
-    if c == AL2 {
-        return false;
-    }
-    if c == TB20 {
-        return false;
-    }
-    if c == OH3 {
-        return false;
-    }
-    if c == OH14 {
-        return false;
-    }
-    true
+    !matches!(c, AL1 | AL2 | TB20 | OH3 | OH14)
 }
 
+#[tactic(auto, unfolding(crate::specs::Survive::charge_survives))]
 fn charge_survives(q: u32) -> bool
     ensures { result ≡ charge_survives q }
 {
-    if q == NEUTRAL {
-        return false;
-    }
-    if q == FIVE {
-        return false;
-    }
-    if q == TEN {
-        return false;
-    }
-    if q == MINUS_TEN {
-        return false;
-    }
-    true
+    !matches!(q, NEUTRAL | FIVE | TEN | MINUS_TEN)
 }
 
 // Caesium is written as actinium, and H0 is not.
+#[tactic(auto, unfolding(crate::specs::Survive::fields_survive, crate::specs::Survive::symbol_survives, crate::specs::Survive::hydrogens_survive))]
 fn fields_survive(b: BracketAtom) -> bool
     ensures { result ≡ fields_survive b }
 {
-    if b.symbol == CS {
-        return false;
-    }
-    if configuration_survives(b.configuration) {
-        if b.hydrogens == 0 {
-            return false;
-        }
-        return charge_survives(b.charge);
-    }
-    false
-}
-
-fn bracket_survives(b: BracketAtom) -> bool
-    ensures { result ≡ both (bracket_in_range b) (fields_survive b) }
-{
-    if in_range(AtomKind::Bracket(b)) {
-        return fields_survive(b);
-    }
-    false
+    b.symbol != CS
+        && configuration_survives(b.configuration)
+        && b.hydrogens != 0
+        && charge_survives(b.charge)
 }
 
 // Whether a kind stands for an atom whose text is read as the same kind again.
+#[tactic(auto, unfolding(crate::specs::Survive::survives, feature::specs::Kinds::in_range))]
 pub fn survives(k: AtomKind) -> bool
     ensures { result ≡ kindSurvives k }
 {
     match k {
         AtomKind::Star => true,
-        AtomKind::Aliphatic(n) => in_range(AtomKind::Aliphatic(n)),
-        AtomKind::Aromatic(n) => in_range(AtomKind::Aromatic(n)),
-        AtomKind::Bracket(b) => bracket_survives(b),
+        AtomKind::Bracket(b) => in_range(k) && fields_survive(b),
+        _ => in_range(k),
     }
 }

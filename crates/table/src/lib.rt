@@ -23,13 +23,11 @@ pub const BOND_WORDS: usize = 2;
 pub fn look(t: &[u32], at: usize) -> u32
     ensures { result ≡ slice_index t.now at }
 {
-    if at < t.len() {
-        return t[at];
-    }
-    0
+    t.get(at).copied().unwrap_or(0)
 }
 
 // A word put at a place; past the end nothing changes.
+#[tactic(auto, using(std::proofs::lemmas::List::set_past))]
 pub fn poke(t: &mut [u32], at: usize, word: u32)
     ensures { t.new ≡ slice_set t.old at word }
 {
@@ -42,27 +40,23 @@ pub fn poke(t: &mut [u32], at: usize, word: u32)
 pub fn clear(t: &mut [u32])
     ensures { t.new ≡ replicate (length t.old) 0 }
 {
-    let mut at: usize = 0;
-    while at < t.len() {
-        t[at] = 0;
-        at += 1;
-    }
+    t.fill(0);
 }
 
 // Zeros from a place on, in a table of bytes.
+#[tactic(auto, unfolding(crate::specs::Zeros::cleared_from))]
 pub fn clear_from(out: &mut [u8], from: usize)
     ensures { out.new ≡ cleared_from from out.old }
 {
-    let mut at = from;
-    while at < out.len() {
-        out[at] = 0;
-        at += 1;
+    if from < out.len() {
+        out[from..].fill(0);
     }
 }
 
-// Zeros all through it.
+// Zeros all through it. As `clear` it is a call of std's `fill`: one function of both types would ask for a bound and say less plainly
+// that what it leaves are zeros.
 pub fn clear_bytes(out: &mut [u8])
     ensures { out.new ≡ replicate (length out.old) 0 }
 {
-    clear_from(out, 0);
+    out.fill(0);
 }

@@ -22,13 +22,12 @@ pub const FEW_ATOMS: usize = 128;
 // So many bond entries are few: tables with room for no more are read into, and no more are compared, with little work room.
 pub const FEW_BONDS: usize = 256;
 
+// std's `min`, with what is promised of a room in one clause.
+#[tactic(auto, unfolding(crate::specs::Limits::lesser_of))]
 pub fn lesser(limit: usize, lent: usize) -> usize
     ensures { RoomOf limit lent result }
 {
-    if lent < limit {
-        return lent;
-    }
-    limit
+    lent.min(limit)
 }
 
 // How many atoms a lent table has room for.

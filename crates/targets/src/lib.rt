@@ -8,7 +8,7 @@ ghost use Rattle.targets.specs.Targets.{boron, carbon, nitrogen, oxygen, phospho
 use feature::atom_kind::{ALIPHATICS, AtomKind, NEUTRAL, NO_CHARGE};
 use feature::element;
 
-#[derive(Clone, Copy)]
+#[derive(Clone, Copy, Debug, PartialEq, Eq)]
 pub enum Valences {
     None,
     One(u32),
@@ -28,6 +28,7 @@ const ELEMENTS: [u32; 8] = [
     element::SE,
 ];
 
+#[tactic(auto, unfolding(feature::specs::Names::aromatic_elements))]
 fn aromatic_element(i: usize) -> u32
     requires { i < 8 }
     ensures { result ≡ get_or aromatic_elements i 0 }
@@ -35,7 +36,8 @@ fn aromatic_element(i: usize) -> u32
     ELEMENTS[i]
 }
 
-// A symbol's element: the same but for the aromatic ones.
+// A symbol's element: the same but for the aromatic ones. A number that is no symbol is taken for the star, which has no targets.
+#[tactic(auto, unfolding(crate::specs::Targets::element_of))]
 fn element_of(symbol: u32) -> u32
     ensures { result ≡ element_of symbol }
 {
@@ -48,6 +50,7 @@ fn element_of(symbol: u32) -> u32
     0
 }
 
+#[tactic(auto, unfolding(crate::specs::Targets::boron))]
 fn boron_targets(charge: u32) -> Valences
     ensures { result ≡ boron charge }
 {
@@ -60,16 +63,14 @@ fn boron_targets(charge: u32) -> Valences
     if charge == NEUTRAL - 1 {
         return Valences::One(4);
     }
-    if charge == NEUTRAL {
-        return Valences::One(3);
-    }
-    if charge == NO_CHARGE {
+    if charge == NEUTRAL || charge == NO_CHARGE {
         return Valences::One(3);
     }
     Valences::None
 }
 
 // A charge that is written as 0 makes it bond like a charge of 1: so the Rust has it.
+#[tactic(auto, unfolding(crate::specs::Targets::carbon))]
 fn carbon_targets(charge: u32) -> Valences
     ensures { result ≡ carbon charge }
 {
@@ -79,10 +80,7 @@ fn carbon_targets(charge: u32) -> Valences
     if charge == NEUTRAL - 1 {
         return Valences::Two(3, 5);
     }
-    if charge == NEUTRAL {
-        return Valences::One(3);
-    }
-    if charge == NEUTRAL + 1 {
+    if charge == NEUTRAL || charge == NEUTRAL + 1 {
         return Valences::One(3);
     }
     if charge == NO_CHARGE {
@@ -91,13 +89,11 @@ fn carbon_targets(charge: u32) -> Valences
     Valences::None
 }
 
+#[tactic(auto, unfolding(crate::specs::Targets::nitrogen))]
 fn nitrogen_targets(charge: u32) -> Valences
     ensures { result ≡ nitrogen charge }
 {
-    if charge == NEUTRAL {
-        return Valences::Two(3, 5);
-    }
-    if charge == NO_CHARGE {
+    if charge == NEUTRAL || charge == NO_CHARGE {
         return Valences::Two(3, 5);
     }
     if charge == NEUTRAL + 1 {
@@ -106,13 +102,11 @@ fn nitrogen_targets(charge: u32) -> Valences
     Valences::None
 }
 
+#[tactic(auto, unfolding(crate::specs::Targets::oxygen))]
 fn oxygen_targets(charge: u32) -> Valences
     ensures { result ≡ oxygen charge }
 {
-    if charge == NEUTRAL {
-        return Valences::One(2);
-    }
-    if charge == NO_CHARGE {
+    if charge == NEUTRAL || charge == NO_CHARGE {
         return Valences::One(2);
     }
     if charge == NEUTRAL + 1 {
@@ -121,28 +115,24 @@ fn oxygen_targets(charge: u32) -> Valences
     Valences::None
 }
 
+#[tactic(auto, unfolding(crate::specs::Targets::phosphorus))]
 fn phosphorus_targets(charge: u32) -> Valences
     ensures { result ≡ phosphorus charge }
 {
     if charge == NEUTRAL - 1 {
         return Valences::Three(2, 4, 6);
     }
-    if charge == NEUTRAL {
-        return Valences::Two(3, 5);
-    }
-    if charge == NO_CHARGE {
+    if charge == NEUTRAL || charge == NO_CHARGE {
         return Valences::Two(3, 5);
     }
     Valences::None
 }
 
+#[tactic(auto, unfolding(crate::specs::Targets::sulfur))]
 fn sulfur_targets(charge: u32) -> Valences
     ensures { result ≡ sulfur charge }
 {
-    if charge == NEUTRAL {
-        return Valences::Three(2, 4, 6);
-    }
-    if charge == NO_CHARGE {
+    if charge == NEUTRAL || charge == NO_CHARGE {
         return Valences::Three(2, 4, 6);
     }
     if charge == NEUTRAL + 1 {
@@ -151,89 +141,53 @@ fn sulfur_targets(charge: u32) -> Valences
     Valences::None
 }
 
+#[tactic(auto, unfolding(crate::specs::Targets::element_targets))]
 fn element_targets(symbol: u32, charge: u32) -> Valences
     ensures { result ≡ element_targets symbol charge }
 {
-    if symbol == element::B {
-        return boron_targets(charge);
+    match symbol {
+        element::B => boron_targets(charge),
+        element::C => carbon_targets(charge),
+        element::N => nitrogen_targets(charge),
+        element::O => oxygen_targets(charge),
+        element::P | element::AS => phosphorus_targets(charge),
+        element::S | element::SE => sulfur_targets(charge),
+        _ => Valences::None,
     }
-    if symbol == element::C {
-        return carbon_targets(charge);
-    }
-    if symbol == element::N {
-        return nitrogen_targets(charge);
-    }
-    if symbol == element::O {
-        return oxygen_targets(charge);
-    }
-    if symbol == element::P {
-        return phosphorus_targets(charge);
-    }
-    if symbol == element::AS {
-        return phosphorus_targets(charge);
-    }
-    if symbol == element::S {
-        return sulfur_targets(charge);
-    }
-    if symbol == element::SE {
-        return sulfur_targets(charge);
-    }
-    Valences::None
 }
 
 // B C N O S P, then the halogens F Cl Br I At Ts.
+#[tactic(auto, unfolding(crate::specs::Targets::aliphatic_targets))]
 fn aliphatic_targets(n: u32) -> Valences
     ensures { result ≡ aliphatic_targets n }
 {
-    if n == 0 {
-        return Valences::One(3);
+    match n {
+        0 => Valences::One(3),
+        1 => Valences::One(4),
+        2 | 5 => Valences::Two(3, 5),
+        3 => Valences::One(2),
+        4 => Valences::Three(2, 4, 6),
+        6..ALIPHATICS => Valences::One(1),
+        _ => Valences::None,
     }
-    if n == 1 {
-        return Valences::One(4);
-    }
-    if n == 2 {
-        return Valences::Two(3, 5);
-    }
-    if n == 3 {
-        return Valences::One(2);
-    }
-    if n == 4 {
-        return Valences::Three(2, 4, 6);
-    }
-    if n == 5 {
-        return Valences::Two(3, 5);
-    }
-    if n < ALIPHATICS {
-        return Valences::One(1);
-    }
-    Valences::None
 }
 
 // b c n o p s.
+#[tactic(auto, unfolding(crate::specs::Targets::aromatic_targets))]
 fn aromatic_targets(n: u32) -> Valences
     ensures { result ≡ aromatic_targets n }
 {
-    if n == 0 {
-        return Valences::One(3);
+    match n {
+        0 => Valences::One(3),
+        1 => Valences::One(4),
+        2 | 4 => Valences::Two(3, 5),
+        3 => Valences::One(2),
+        5 => Valences::Three(2, 4, 6),
+        _ => Valences::None,
     }
-    if n == 1 {
-        return Valences::One(4);
-    }
-    if n == 2 {
-        return Valences::Two(3, 5);
-    }
-    if n == 3 {
-        return Valences::One(2);
-    }
-    if n == 4 {
-        return Valences::Two(3, 5);
-    }
-    if n == 5 {
-        return Valences::Three(2, 4, 6);
-    }
-    Valences::None
 }
 
+#[tactic(auto, unfolding(crate::specs::Targets::targets_of))]
 pub fn targets(k: AtomKind) -> Valences
     ensures { result ≡ targets_of k }
 {

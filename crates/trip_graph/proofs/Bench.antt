@@ -4,6 +4,7 @@ use mathlib.Core.Path.{◌≡◌, refl, subst}
 use mathlib.Core.List.{List, [], ◌∷◌, ◌++◌}
 use native.Mathlib.Omega.{arith}
 use lib.ListN.{replicate}
+use Rattle.std.specs.Prelude.{None}
 use Rattle.feature.specs.Kinds.{bracket_of_six, bracket_in_range, in_range, invert_bracket, invert_of, turned_or}
 use Rattle.feature.specs.Bonds.{code_of, kind_of, sure_kind, reverse_of}
 use Rattle.feature.specs.declared.atom_kind.AtomKind.{AtomKind}
@@ -42,7 +43,7 @@ ring =
 abbrev walked : Walk
 walked = walk_to ring (turns_of 3 6) (fresh 3 3 3 3 (replicate pair_words 0))
 
-not_refused : walked.at.refusal ≡ 0
+not_refused : walked.at.refusal ≡ None
 unfolding words.list_of words.words_of words.pair_of words.bracket_pair words.load_at words.load_of words.plain_of words.bracket_of words.entry_stored words.entry_of_words words.entry_coded kind_of code_of reverse_of bracket_in_range in_range invert_bracket invert_of pool.opens pool.open_number pool.slot pool.counter_next pool.counter_of pool.next_of pool.open_of pool.close_of pool.open_or_close pool.hit_pair pool.hit_of kind_or sure_kind kind_in bond_in is_refused is_fixed turned_or even said_as scan_in judged_back way_of leading last_leading tie_of pops_of root_turn left_in numbered_of ring_turn tied_of tie_turn entered_of enter_turn bond_turn entry_turn atom_of turn_of step_of walk_to turns_of
 not_refused = refl
 

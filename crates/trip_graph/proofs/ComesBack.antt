@@ -11,7 +11,7 @@ use Rattle.read_line.specs.Events.{ReadEvent}
 use Rattle.read_line.specs.Parse.{parse}
 use Rattle.builder_meaning.specs.Sketch.{next_number, count_of, start_s, run_s, sketch_of, atom_table, bond_table, padded}
 use Rattle.walk_entry.specs.Graph.{kind_at}
-use Rattle.write.specs.declared.answer.Written.TheVariants.{Done}
+use Rattle.std.specs.Prelude.{Ok}
 use Rattle.write.specs.Write.{graph_of, walk_of, walk_events, write_leaves, write_of}
 use Rattle.trip_graph.specs.Renumber.{Simple, Renumbers}
 use Rattle.trip_graph.specs.Steps.{ComesBack}
@@ -25,7 +25,7 @@ use Rattle.trip_text.specs.Steps.{retold}
 
 module _ (room : ℕ) (atoms : List ℕ) (n : ℕ) (bonds : List ℕ) (m len : ℕ) (out : List ℕ)
     (W : Simple (graph_of n atoms bonds)) (T : (a : ℕ) → a < n → Tetrahedral (kind_at (graph_of n atoms bonds) a))
-    (e : write_of room atoms n bonds m ≡ write_leaves (Done len) out) where
+    (e : write_of room atoms n bonds m ≡ write_leaves (Ok len) out) where
   -- events that differ from those of the walk only in their places
   pub events_come_back : (places slots : ℕ) → n ≤ places → m ≤ slots → (es : List ReadEvent) → unplaced es ≡ retold (walk_events atoms n bonds m)
       → ComesBack (graph_of n atoms bonds) (by_walk (walk_of atoms n bonds m)) (run_s (start_s places slots) es) n m

@@ -12,10 +12,10 @@ use lib.Dec.{leb, eqb}
 use borrow.Author.Tests.{eqb-true, eqb-false, leb-true, leb-false}
 use Rattle.feature.specs.Bonds.{reverse_of}
 use Rattle.feature.proofs.Bonds.{reverse_twice}
-use Rattle.join_pool.specs.declared.Given.{Given}
-use Rattle.join_pool.specs.declared.Given.TheVariants.{Number, Full}
-use Rattle.walk_entry.specs.declared.entry.Way.{Way}
-use Rattle.walk_entry.specs.declared.entry.Way.TheVariants.{Enters, Refuses}
+use Rattle.std.specs.Prelude as std
+use Rattle.std.specs.Prelude.{Err, None, Ok, Option, Some, is_none, is_some}
+use Rattle.walk_entry.specs.declared.WalkError.{WalkError}
+use Rattle.join_pool.specs.declared.Pool.{Pool}
 use Rattle.walk_entry.specs.Graph.{BondEntry, Graph, degree_at, bond_of}
 use Rattle.walk_entry.specs.Ways.{way_of}
 use Rattle.walk_entry.specs.Ties.{tie_of}
@@ -34,9 +34,11 @@ use Rattle.trip_graph.proofs.Lists.{memb, by_bool}
 use Rattle.trip_graph.proofs.View.{has_t}
 use Rattle.trip_graph.proofs.Entries.{done_has}
 use Rattle.trip_graph.proofs.State.{done_in, Sta, line_above, is_met, is_new, here_held, sta_start, sta_skip, sta_ends, sta_leaves, sta_pass, sta_joins, sta_root, sta_enters}
+use Rattle.trip_graph.proofs.Stops.{some_stops}
 use Rattle.trip_graph.proofs.Refusals.{Only, only_refusals}
-use Rattle.walk.proofs.Going.{walk_off}
+use Rattle.walk.proofs.Going.{walk_off, not_none}
 use Rattle.trip_graph.proofs.Ways.{Answers, Passes, way_passes, Ties, tie_ties}
+use Rattle.walk.proofs.Place.{atom_at, by_place}
 
 -- what a walk finds of the entry i of the atom a: it leads to another atom, to which no entry before it leads, and which holds its
 -- reverse
@@ -56,11 +58,11 @@ record Fine (g : Graph) (w : Walk) : Type 0 where
   frame : List ℕ
   sta : Sta g w order frame
   fair : Fair g w
-  fine : w.at.refusal ≡ 0
+  fine : w.at.refusal ≡ None
 
 data Result (g : Graph) (x : Turn) : Type 0 where
   goes : Fine g x.after → Result g x
-  stops : x.after.at.refusal ≢ 0 → Result g x
+  stops : x.after.at.refusal ≢ None → Result g x
 
 -- the entry that answers the bond is backed by it
 answers_backed : (g : Graph) (s i b : ℕ) → Answers g (bond_of g s i).kind s (bond_of g s i).to b → Backed g s (bond_of g s i).to (bond_of g s i)
@@ -89,7 +91,7 @@ module _ (g : Graph) (w : Walk) (dep : ℕ) (snd : Sound g w dep) (I : Fine g w)
   R x = Result g x
 
   -- ---- a root
-  new_root : w.at.current ≡ false → w.at.next < g.size → get_or w.met w.at.next 0 ≡ 0 → Fine g (met_at w (root_passed w.at) w.at.next 0)
+  new_root : is_some w.at.here ≡ false → w.at.next < g.size → get_or w.met w.at.next 0 ≡ 0 → Fine g (met_at w (root_passed w.at) w.at.next 0)
   new_root r hi m =
       let i : ℕ = w.at.next in
       let S = I.sta in
@@ -110,7 +112,7 @@ module _ (g : Graph) (w : Walk) (dep : ℕ) (snd : Sound g w dep) (I : Fine g w)
         fine = I.fine;
       }
 
-  root_turn_lem : w.at.current ≡ false → R (root_turn g w)
+  root_turn_lem : is_some w.at.here ≡ false → R (root_turn g w)
   unfolding root_turn
   root_turn_lem r =
       by_test R (leb g.size w.at.next) (λ q. goes I)
@@ -119,18 +121,18 @@ module _ (g : Graph) (w : Walk) (dep : ℕ) (snd : Sound g w dep) (I : Fine g w)
       (λ z. goes (record { order = I.order; frame = I.frame; sta = sta_skip I.sta; fair = record { taken = I.fair.taken; parent = I.fair.parent }; fine = I.fine })))
 
   -- ---- the way back
-  left_turn : w.at.current ≡ true → degree_at g w.at.here ≤ get_or w.taken w.at.here 0 → R (leave_of g w w.at.here)
+  left_turn : is_some w.at.here ≡ true → degree_at g (atom_at w) ≤ get_or w.taken (atom_at w) 0 → R (leave_of g w (atom_at w))
   unfolding left_in
   left_turn r h =
-      by_test (λ (z : Walker). R (quiet (with_walker w z))) (eqb (get_or w.back w.at.here 0) 0)
+      by_test (λ (z : Walker). R (quiet (with_walker w z))) (eqb (get_or w.back (atom_at w) 0) 0)
       (λ q. goes (record { order = I.order; frame = []; sta = sta_ends I.sta r (eqb-true _ _ q) h; fair = record { taken = I.fair.taken; parent = I.fair.parent }; fine = I.fine }))
       (λ q. let A = line_above (I.sta.line r) (eqb-false _ _ q) in
       goes (record { order = I.order; frame = A.rest; sta = sta_leaves I.sta r (eqb-false _ _ q) A h; fair = record { taken = I.fair.taken; parent = I.fair.parent }; fine = I.fine }))
 
   -- ---- at an entry
-  module _ (r : w.at.current ≡ true) (more : get_or w.taken w.at.here 0 < degree_at g w.at.here) where
+  module _ (r : is_some w.at.here ≡ true) (more : get_or w.taken (atom_at w) 0 < degree_at g (atom_at w)) where
     abbrev s0 : ℕ
-    s0 = w.at.here
+    s0 = atom_at w
 
     abbrev i0 : ℕ
     i0 = get_or w.taken s0 0
@@ -162,16 +164,16 @@ module _ (g : Graph) (w : Walk) (dep : ℕ) (snd : Sound g w dep) (I : Fine g w)
 
     module _ (q : get_or w.back s0 0 ≢ i0 + 1) (known : e0.to < g.size) (apart : e0.to ≢ s0) where
       -- ---- an atom met before
-      given_turn : memb e0.to I.order ≡ true → Good g s0 i0 → (x : Given) (pairs : List ℕ) → R (numbered_of w1 e0.kind s0 e0.to x pairs)
+      given_turn : memb e0.to I.order ≡ true → Good g s0 i0 → (x : Option (Pool × ℕ)) (pairs : List ℕ) → R (numbered_of w1 e0.kind s0 e0.to x pairs)
       unfolding numbered_of
-      given_turn mt G Full pairs = stops (λ z. omega arith)
-      given_turn mt G (Number p n) pairs =
+      given_turn mt G None pairs = stops (some_stops _)
+      given_turn mt G (Some (p, n)) pairs =
           goes (record { order = I.order; frame = I.frame; sta = sta_joins I.sta rt r more q pairs p mt; fair = record { taken = took_good G; parent = I.fair.parent }; fine = I.fine })
 
-      tied_turn : memb e0.to I.order ≡ true → (x : Way) → Ties g e0.kind s0 e0.to x → R (tied_of w1 e0.kind s0 e0.to x)
+      tied_turn : memb e0.to I.order ≡ true → (x : std.Result ℕ WalkError) → Ties g e0.kind s0 e0.to x → R (tied_of w1 e0.kind s0 e0.to x)
       unfolding tied_of Ties ring_turn
-      tied_turn mt (Refuses n a b) h = stops h
-      tied_turn mt (Enters b) h =
+      tied_turn mt (Err why) h = stops (some_stops why)
+      tied_turn mt (Ok b) h =
           given_turn mt (record {
             known = known;
             apart = apart;
@@ -180,10 +182,10 @@ module _ (g : Graph) (w : Walk) (dep : ℕ) (snd : Sound g w dep) (I : Fine g w)
           }) _ _
 
       -- ---- a new atom
-      entered_turn : get_or w.met e0.to 0 ≡ 0 → (x : Way) → Passes g e0.kind s0 e0.to x → R (entered_of g w1 e0.kind e0.to x)
+      entered_turn : get_or w.met e0.to 0 ≡ 0 → (x : std.Result ℕ WalkError) → Passes g e0.kind s0 e0.to x → R (entered_of g w1 e0.kind e0.to x)
       unfolding entered_of Passes done_in answers_backed
-      entered_turn m (Refuses n a b) h = stops h
-      entered_turn m (Enters b) A =
+      entered_turn m (Err why) h = stops (some_stops why)
+      entered_turn m (Ok b) A =
           let S = I.sta in
           let o : List ℕ = I.order in
           let t : ℕ = e0.to in
@@ -215,8 +217,8 @@ module _ (g : Graph) (w : Walk) (dep : ℕ) (snd : Sound g w dep) (I : Fine g w)
     bond_turn_lem : get_or w.back s0 0 ≢ i0 + 1 → R (bond_turn g w1 s0 e0)
     unfolding bond_turn enter_turn tie_turn
     bond_turn_lem q =
-        by_test R (leb g.size e0.to) (λ z. stops (λ y. omega arith))
-        (λ z. by_test R (eqb e0.to s0) (λ y. stops (λ x. omega arith))
+        by_test R (leb g.size e0.to) (λ z. stops (some_stops _))
+        (λ z. by_test R (eqb e0.to s0) (λ y. stops (some_stops _))
         (λ y. by_test R (eqb (get_or w.met e0.to 0) 0)
         (λ x. entered_turn q (leb-false _ _ z) (eqb-false _ _ y) (eqb-true _ _ x) (way_of g e0.kind s0 e0.to) (way_passes g e0.kind s0 e0.to))
         (λ x. tied_turn q (leb-false _ _ z) (eqb-false _ _ y) (is_met I.sta e0.to (eqb-false _ _ x)) (tie_of g e0.kind s0 e0.to) (tie_ties g e0.kind s0 e0.to))))
@@ -225,31 +227,30 @@ module _ (g : Graph) (w : Walk) (dep : ℕ) (snd : Sound g w dep) (I : Fine g w)
     unfolding entry_turn
     entry_turn_lem = by_test R (eqb (get_or w.back s0 0) (i0 + 1)) (λ z. pass_turn (eqb-true _ _ z)) (λ z. bond_turn_lem (eqb-false _ _ z))
 
-  atom_turn : w.at.current ≡ true → R (atom_of g w w.at.here)
+  atom_turn : is_some w.at.here ≡ true → R (atom_of g w (atom_at w))
   unfolding atom_of
   atom_turn r =
-      by_test R (leb (degree_at g w.at.here) (get_or w.taken w.at.here 0))
+      by_test R (leb (degree_at g (atom_at w)) (get_or w.taken (atom_at w) 0))
       (λ z. left_turn r (leb-true _ _ z)) (λ z. entry_turn_lem r (leb-false _ _ z))
 
   one_turn : R (turn_of g w)
-  unfolding turn_of
-  one_turn = by_test R w.at.current atom_turn root_turn_lem
+  one_turn = by_place R g w atom_turn root_turn_lem
 
 -- ---- turns
 next_fine : (g : Graph) (t : ℕ) (w : Walk) (n : ℕ) → Sound g (turn_of g w).after n
-    → ((v : Walk) (m : ℕ) → Sound g v m → Fine g v → (walk_to g t v).at.refusal ≡ 0 → Fine g (walk_to g t v))
-    → Result g (turn_of g w) → (walk_to g t (turn_of g w).after).at.refusal ≡ 0 → Fine g (walk_to g t (turn_of g w).after)
+    → ((v : Walk) (m : ℕ) → Sound g v m → Fine g v → (walk_to g t v).at.refusal ≡ None → Fine g (walk_to g t v))
+    → Result g (turn_of g w) → (walk_to g t (turn_of g w).after).at.refusal ≡ None → Fine g (walk_to g t (turn_of g w).after)
 next_fine g t w n s f (goes I) e = f (turn_of g w).after n s I e
 next_fine g t w n s f (stops r) e =
     absurd (r (ap (λ (v : Walk). v.at.refusal) (sym (walk_off g t (turn_of g w).after r)) ∙ e))
 
-turns_fine : (g : Graph) (t : ℕ) (w : Walk) (dep : ℕ) → Sound g w dep → Fine g w → (walk_to g t w).at.refusal ≡ 0 → Fine g (walk_to g t w)
+turns_fine : (g : Graph) (t : ℕ) (w : Walk) (dep : ℕ) → Sound g w dep → Fine g w → (walk_to g t w).at.refusal ≡ None → Fine g (walk_to g t w)
 unfolding walk_to step_of
 turns_fine g zero w dep s I = λ e. I
 turns_fine g (suc t) w dep s I =
     let m = turn_moves g w dep in
-    by_test (λ (x : Turn). (walk_to g t x.after).at.refusal ≡ 0 → Fine g (walk_to g t x.after)) (eqb w.at.refusal 0)
-    (λ q. next_fine g t w m.0 (step_sound s m.1) (turns_fine g t) (one_turn g w dep s I)) (λ q. absurd (eqb-false _ _ q I.fine))
+    by_test (λ (x : Turn). (walk_to g t x.after).at.refusal ≡ None → Fine g (walk_to g t x.after)) (is_none w.at.refusal)
+    (λ q. next_fine g t w m.0 (step_sound s m.1) (turns_fine g t) (one_turn g w dep s I)) (λ q. absurd (not_none _ q I.fine))
 
 -- ---- the law
 fine_start : (g : Graph) (lm lw lb lt : ℕ) (pairs : List ℕ) → g.size ≤ lw → Fine g (fresh lm lw lb lt pairs)
@@ -269,7 +270,7 @@ fine_start g lm lw lb lt pairs wide =
 fine_good : (g : Graph) (w : Walk) → Fine g w → Finished g w → (a i : ℕ) → a < g.size → i < degree_at g a → Good g a i
 unfolding memb
 fine_good g w I F a i h l =
-    I.fair.taken a i (omega (arith, I.sta.left a (is_met I.sta a (F.met a h)) (rw (I.sta.rest F.current))))
+    I.fair.taken a i (omega (arith, I.sta.left a (is_met I.sta a (F.met a h)) (rw (I.sta.rest (ap is_some F.current)))))
 
 -- no two entries of an atom lead to one atom, for the later of the two would have an earlier beside it
 good_once : (g : Graph) (a i j : ℕ) → Good g a i → Good g a j → (bond_of g a i).to ≡ (bond_of g a j).to → i ≡ j
@@ -284,14 +285,14 @@ module _ (g : Graph) (lm lw lb lt : ℕ) (pairs : List ℕ) (room : Room g lm lb
   abbrev walked : Walk
   walked = walk_to g (turns_of g.size m) (fresh lm lw lb lt pairs)
 
-  all_good : walked.at.refusal ≡ 0 → (a i : ℕ) → a < g.size → i < degree_at g a → Good g a i
+  all_good : walked.at.refusal ≡ None → (a i : ℕ) → a < g.size → i < degree_at g a → Good g a i
   all_good e =
       fine_good g walked
       (turns_fine g (turns_of g.size m) (fresh lm lw lb lt pairs) 0 (sound_start g lm lw lb lt pairs room) (fine_start g lm lw lb lt pairs wide) e)
       (walk-laws.ended g lm lw lb lt pairs room m few e)
 
   -- A graph with at least one atom is then simple: each bond held at both ends as the other's reverse.
-  pub written_simple : 1 ≤ g.size → walked.at.refusal ≡ 0 → Simple g
+  pub written_simple : 1 ≤ g.size → walked.at.refusal ≡ None → Simple g
   written_simple some e =
       record {
         some = some;
@@ -301,10 +302,10 @@ module _ (g : Graph) (lm lw lb lt : ℕ) (pairs : List ℕ) (room : Room g lm lb
       }
 
   -- and every target is an atom
-  pub written_known : walked.at.refusal ≡ 0 → Known g
+  pub written_known : walked.at.refusal ≡ None → Known g
   written_known e a i h l = (all_good e a i h l).known
 
   -- Exactly the simple graphs are walked without refusal, but for a mark that can't be turned (10) and want of a ring number (11).
-  pub fair_exactly : 1 ≤ g.size → (walked.at.refusal ≡ 0 → Simple g) × (Simple g → Only g walked.at.refusal)
+  pub fair_exactly : 1 ≤ g.size → (walked.at.refusal ≡ None → Simple g) × (Simple g → Only g walked.at.refusal)
   fair_exactly some =
       (written_simple some, λ W. only_refusals g W lm lw lb lt pairs room (turns_of g.size m))

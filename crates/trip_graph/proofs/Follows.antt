@@ -13,10 +13,9 @@ use Rattle.feature.specs.Pick.{pick}
 use Rattle.feature.specs.Kinds.{invert_of}
 use Rattle.feature.specs.Bonds.{code_of, reverse_of, is_directional, reconcile_of}
 use Rattle.feature.specs.declared.atom_kind.AtomKind.{AtomKind}
-use Rattle.feature.specs.declared.atom_kind.Inverted.TheVariants.{Turned}
+use Rattle.std.specs.Prelude.{Some}
 use Rattle.feature.specs.declared.bond_kind.BondKind.{BondKind}
 use Rattle.feature.specs.declared.bond_kind.BondKind.TheVariants.{Elided, Single, Double, Triple, Quadruple, Aromatic, Up, Down}
-use Rattle.feature.specs.declared.bond_kind.Reconciled.TheVariants.{Both}
 use Rattle.feature.proofs.Cases.{by_eq}
 use Rattle.read_line.specs.declared.lead.Lead.TheVariants.{Dot, Bond as Bonded}
 use Rattle.read_line.specs.Events.{ReadEvent, Enter, Join, Pop}
@@ -80,7 +79,7 @@ run_pops d n e = ap (run_s d) (map-append retold_one (pops_of n) (e ∷ [])) ∙
 pick_no : {A : Type 0} (q : Bool) (x y : A) → q ≡ false → pick q x y ≡ y
 pick_no q x y h = rw h
 
-pub reconcile_back : (k : BondKind) → reconcile_of (reverse_of k) k ≡ Both (reverse_of k) k
+pub reconcile_back : (k : BondKind) → reconcile_of (reverse_of k) k ≡ Some (reverse_of k, k)
 unfolding reconcile_of reverse_of code_of is_directional
 reconcile_back Elided = refl
 reconcile_back Single = refl
@@ -201,7 +200,7 @@ module _ (g : Graph) (κ : ℕ → AtomKind) (o : List ℕ) (d : ℕ → List Bo
     place_in = rw (length_nodes B) (idx_lt s o E.ms)
 
     -- a new atom
-    pub bld_extend : (k : AtomKind) (κ' : ℕ → AtomKind) → ((v : ℕ) → v ≢ e.to → κ' v ≡ κ v) → invert_of k ≡ Turned (κ' e.to) → memb e.to o ≡ false → d e.to ≡ []
+    pub bld_extend : (k : AtomKind) (κ' : ℕ → AtomKind) → ((v : ℕ) → v ≢ e.to → κ' v ≡ κ v) → invert_of k ≡ Some (κ' e.to) → memb e.to o ≡ false → d e.to ≡ []
         → look P s e.to ≡ none → look P e.to s ≡ none → Froms o P → ((v : ℕ) → memb v fs ≡ true → memb v o ≡ true) → length o < g.size
         → count_of (map (view κ' (o ++ (e.to ∷ [])) P (push e.to (entry_to (reverse_of e.kind) s) (push s e d))) (o ++ (e.to ∷ []))) ≤ degrees g g.size
         → Bld g κ' (e.to ∷ s ∷ fs) zero (o ++ (e.to ∷ [])) (push e.to (entry_to (reverse_of e.kind) s) (push s e d)) P (step_s b (Enter (Bonded e.kind) k 0))
@@ -293,7 +292,7 @@ module _ (g : Graph) (κ : ℕ → AtomKind) (o : List ℕ) (d : ℕ → List Bo
         omega (arith, ap count_of grows, count_add (idx s o) (edge e.kind (To (idx t o))) filled in_filled, count_fill (idx t o) x.join (reverse_of e.kind) (idx s o) b.nodes) in
         let found : lookup x.num b.opens ≡ some h =
         ap (lookup x.num) B.ops ∙ lookup_some o P t s x good l ∙ ap (λ (i : ℕ). some (held x.num (idx i o) x.join)) (sym (look_in P t s x l).from) in
-        let kinds : reconcile_of (open_kind x.join (edges_at (idx t o) b.nodes)) e.kind ≡ Both (reverse_of e.kind) e.kind =
+        let kinds : reconcile_of (open_kind x.join (edges_at (idx t o) b.nodes)) e.kind ≡ Some (reverse_of e.kind, e.kind) =
         ap (λ (k : BondKind). reconcile_of k e.kind)
         (ap (λ (n : List Node). open_kind x.join (edges_at (idx t o) n)) B.gr ∙ close_kind κ o P d s e x nod E.ms mt E.apart l l' one nt has back)
         ∙ reconcile_back e.kind in

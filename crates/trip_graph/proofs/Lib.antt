@@ -9,6 +9,7 @@ pub mod Ways
 pub mod Counts
 pub mod Follows
 pub mod State
+pub mod Stops
 pub mod Turns
 pub mod Trip
 pub mod Refused

@@ -12,8 +12,7 @@ use Rattle.feature.specs.Kinds.{no_hydrogens, no_configuration, th1, th2, with_c
 use Rattle.feature.specs.declared.atom_kind.BracketAtom.{BracketAtom}
 use Rattle.feature.specs.declared.atom_kind.AtomKind.{AtomKind}
 use Rattle.feature.specs.declared.atom_kind.AtomKind.TheVariants.{Star, Aliphatic, Aromatic, Bracket}
-use Rattle.feature.specs.declared.atom_kind.Inverted.{Inverted}
-use Rattle.feature.specs.declared.atom_kind.Inverted.TheVariants.{Turned}
+use Rattle.std.specs.Prelude.{Option, Some}
 use Rattle.feature.proofs.Cases.{by_test, by_eq, by_either}
 use Rattle.feature.proofs.Ranges.{good, ranged}
 use Rattle.survive.specs.Survive.{configuration_survives, fields_survive, survives}
@@ -50,13 +49,13 @@ mark_twice c h =
     by_eq c 0 (λ e. rw (mark_none c e) (mark_none c e))
     (λ n. by_eq c 1 (λ e. rw (mark_one c e) (mark_two 2 refl ∙ sym e)) (λ m. let e : c ≡ 2 = omega arith in rw (mark_two c e) (mark_one 1 refl ∙ sym e)))
 
-invert_bracket_lem : (b : BracketAtom) → b.configuration ≤ 2 → invert_bracket b ≡ Turned (turned (Bracket b))
+invert_bracket_lem : (b : BracketAtom) → b.configuration ≤ 2 → invert_bracket b ≡ Some (turned (Bracket b))
 unfolding invert_bracket turned bears_hydrogen toggled
 invert_bracket_lem b h =
     by_eq b.configuration 0
     (λ e. rw (eq-eqb b.configuration 0 e)
     (by_bool (pick (eqb b.hydrogens no_hydrogens) false (neither (eqb b.hydrogens 0)))
-    (λ q. rw q (ap Turned (sym (mark_same b (other_mark b.configuration) (mark_none b.configuration e)))))
+    (λ q. rw q (ap Some (sym (mark_same b (other_mark b.configuration) (mark_none b.configuration e)))))
     (λ q. rw q)))
     (λ n. by_eq b.hydrogens no_hydrogens (λ e. simp (ne_eqb b.configuration 0 n, eq-eqb b.hydrogens no_hydrogens e))
     (λ m. by_eq b.hydrogens 0 (λ e. simp (ne_eqb b.configuration 0 n, ne_eqb b.hydrogens no_hydrogens m, eq-eqb b.hydrogens 0 e))
@@ -66,7 +65,7 @@ invert_bracket_lem b h =
     simp (ne_eqb b.configuration 0 n, ne_eqb b.hydrogens no_hydrogens m, ne_eqb b.hydrogens 0 l, ne_eqb b.configuration 1 o, eq-eqb b.configuration 2 e, mark_two b.configuration e)))))
 
 -- the mark of such a kind can be turned
-invert_is : (k : AtomKind) → Tetrahedral k → invert_of k ≡ Turned (turned k)
+invert_is : (k : AtomKind) → Tetrahedral k → invert_of k ≡ Some (turned k)
 unfolding invert_of turned bears_hydrogen
 invert_is Star h = refl
 invert_is (Aliphatic n) h = refl
@@ -142,11 +141,11 @@ unfolding odd_index
 back_root k = back_quiet k 0 refl
 
 -- what the builder makes of an atom as it is said
-said_built : (k : AtomKind) (b : ℕ) → Tetrahedral k → b ≢ 0 → invert_of (said_as k b) ≡ Turned (back_kind k b)
+said_built : (k : AtomKind) (b : ℕ) → Tetrahedral k → b ≢ 0 → invert_of (said_as k b) ≡ Some (back_kind k b)
 said_built k b h n =
     by_bool (even b)
-    (λ e. ap invert_of (said_even k b e) ∙ invert_is k h ∙ ap Turned (sym (back_loud k b (odd_index_lem b n ∙ e))))
-    (λ e. ap invert_of (said_odd k b h e) ∙ invert_is (turned k) (turned_stays k h) ∙ ap Turned (turned_twice k h ∙ sym (back_quiet k b (odd_index_lem b n ∙ e))))
+    (λ e. ap invert_of (said_even k b e) ∙ invert_is k h ∙ ap Some (sym (back_loud k b (odd_index_lem b n ∙ e))))
+    (λ e. ap invert_of (said_odd k b h e) ∙ invert_is (turned k) (turned_stays k h) ∙ ap Some (turned_twice k h ∙ sym (back_quiet k b (odd_index_lem b n ∙ e))))
 
 -- ---- ranges
 mark_range : (b : BracketAtom) (c : ℕ) → c ≤ th2 → in_range (Bracket b) ≡ true → in_range (Bracket (with_configuration b c)) ≡ true
@@ -181,7 +180,7 @@ turned_survives Star h = h
 turned_survives (Aliphatic n) h = h
 turned_survives (Aromatic n) h = h
 turned_survives (Bracket b) h =
-    let P : Inverted → Type 0 = λ x. survives (turned_or (Bracket b) x) ≡ true in
+    let P : Option AtomKind → Type 0 = λ x. survives (turned_or (Bracket b) x) ≡ true in
     by_test P (eqb b.configuration no_configuration) (λ q. h)
     (λ q. by_test P (eqb b.hydrogens no_hydrogens) (λ q. h)
     (λ q. by_test P (eqb b.hydrogens 0) (λ q. h)
@@ -200,7 +199,7 @@ turned_range Star h = h
 turned_range (Aliphatic n) h = h
 turned_range (Aromatic n) h = h
 turned_range (Bracket b) h =
-    let P : Inverted → Type 0 = λ x. in_range (turned_or (Bracket b) x) ≡ true in
+    let P : Option AtomKind → Type 0 = λ x. in_range (turned_or (Bracket b) x) ≡ true in
     by_either P (eqb b.configuration no_configuration) h
     (by_either P (eqb b.hydrogens no_hydrogens) h
     (by_either P (eqb b.hydrogens 0) h

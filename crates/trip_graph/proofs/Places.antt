@@ -11,8 +11,8 @@ use Rattle.feature.specs.Pick.{pick}
 use Rattle.feature.specs.Kinds.{invert_of}
 use Rattle.feature.specs.declared.atom_kind.AtomKind.{AtomKind}
 use Rattle.feature.specs.declared.bond_kind.BondKind.{BondKind}
-use Rattle.feature.specs.declared.bond_kind.Reconciled.{Reconciled}
-use Rattle.feature.specs.declared.bond_kind.Reconciled.TheVariants.{Both, Fails}
+use Rattle.std.specs.Prelude as std
+use Rattle.std.specs.Prelude.{Some}
 use Rattle.desk_numbers.specs.Numbers.{atom_room, bond_room}
 use Rattle.read_line.specs.declared.lead.Lead.{Lead}
 use Rattle.read_line.specs.declared.lead.Lead.TheVariants.{Dot, Bond}
@@ -41,10 +41,10 @@ extend_same d e k p (s ∷ rest) =
     (λ z. omega arith)
     (pick_same (ltb d.slots (count_of d.nodes + 2)) (refused d bond_room p) (refused d bond_room 0) (bonded_s d e s (invert_of k)) (bonded_s d e s (invert_of k)) (λ z. omega arith) (λ z. refl))
 
-close_same : (d : Sketch) (n p s : ℕ) (h : Held) (r : Reconciled) → (closed_s d n 0 s h r).refusal ≡ 0 → closed_s d n p s h r ≡ closed_s d n 0 s h r
+close_same : (d : Sketch) (n p s : ℕ) (h : Held) (r : std.Option (BondKind × BondKind)) → (closed_s d n 0 s h r).refusal ≡ 0 → closed_s d n p s h r ≡ closed_s d n 0 s h r
 unfolding closed_s
-close_same d n p s h Fails = λ z. refl
-close_same d n p s h (Both l r) =
+close_same d n p s h std.None = λ z. refl
+close_same d n p s h (Some (l, r)) =
     pick_same (ltb d.slots (count_of d.nodes + 1)) (refused d bond_room p) (refused d bond_room 0) _ _ (λ z. omega arith) (λ z. refl)
 
 ring_same : (d : Sketch) (e : BondKind) (n p s : ℕ) (h : Option Held) → (ring_s d e n 0 s h).refusal ≡ 0 → ring_s d e n p s h ≡ ring_s d e n 0 s h

@@ -14,7 +14,7 @@ use Rattle.feature.specs.Pick.{pick}
 use Rattle.feature.proofs.Cases.{by_eq, clash, impossible}
 use Rattle.table.proofs.Zeros.{zero_at}
 use Rattle.join_pool.specs.declared.Pool.{Pool}
-use Rattle.join_pool.specs.declared.Given.TheVariants.{Number}
+use Rattle.std.specs.Prelude.{None, Option, Some}
 use Rattle.join_pool.specs.Pairs.{highest, slot_words, pool, opens, open_number, slot, counter_next, counter_of, next_of, hits, open_of, close_of, open_or_close, hit_pair, hit_of}
 use Rattle.join_pool.proofs.Slots.{slot_length, slot_beside, slot_open, slot_lower, slot_higher, words_of, found, finds, counter_on}
 use Rattle.trip_graph.specs.Opened.{Pair, ring_pair, pair_is, look, del, num_in, Distinct, Opens, full, number, Serves}
@@ -79,11 +79,15 @@ slot_kept pairs n v lo hi x ne s =
 
 -- ---- the search
 module _ (pairs : List ℕ) (lo hi : ℕ) where
-  search_none : (n : ℕ) → ((m : ℕ) → opens pairs m lo hi ≡ true → ⊥) → open_number pairs lo hi n ≡ 0
-  search_none n h = by_eq (open_number pairs lo hi n) 0 (λ e. e) (λ z. absurd (h _ (found pairs lo hi n z).1))
+  search_none : (n : ℕ) → ((m : ℕ) → opens pairs m lo hi ≡ true → ⊥) → open_number pairs lo hi n ≡ None
+  search_none n h = go (open_number pairs lo hi n) refl
+    where
+      go : (o : Option ℕ) → open_number pairs lo hi n ≡ o → open_number pairs lo hi n ≡ None
+      go None e = e
+      go (Some r) e = absurd (h r (found pairs lo hi n r e).2)
 
-  search_is : (r n : ℕ) → 1 ≤ r → r ≤ n → opens pairs r lo hi ≡ true → ((m : ℕ) → opens pairs m lo hi ≡ true → m ≡ r) → open_number pairs lo hi n ≡ r
-  search_is r n l h o u = u _ (found pairs lo hi n (finds pairs lo hi n r l h o)).1
+  search_is : (r n : ℕ) → 1 ≤ r → r ≤ n → opens pairs r lo hi ≡ true → ((m : ℕ) → opens pairs m lo hi ≡ true → m ≡ r) → open_number pairs lo hi n ≡ Some r
+  search_is r n l h o u = let f = finds pairs lo hi n r l h o in f.1 ∙ ap Some (u f.0 (found pairs lo hi n f.0 f.1).2)
 
 -- ---- the counter
 grown : (c : ℕ) → c ≤ highest → c < counter_next c
@@ -134,7 +138,7 @@ module _ (p : Pool) (pairs : List ℕ) (P : List Pair) (H : Holds p pairs P) (g 
           (λ e f. absurd (no_member P s t y l' i (sym e) (sym f)))
           (λ e f. some_inj (sym (in_look P y t s g i (sym e) (sym f)) ∙ l))
 
-      found_x : open_number pairs (lo_of s t) (hi_of s t) p.counter ≡ x.num
+      found_x : open_number pairs (lo_of s t) (hi_of s t) p.counter ≡ Some x.num
       found_x =
           let f = look_in P t s x l in
           let b = H.below x.num (in_num x P f.member) in
@@ -145,12 +149,10 @@ module _ (p : Pool) (pairs : List ℕ) (P : List Pair) (H : Holds p pairs P) (g 
           (slot_opens pairs x (lo_of s t) (hi_of s t) (H.slots x f.member) lo hi)
           (λ m o. let k = opened m (lo_of s t) (hi_of s t) o in sym k.is ∙ ap (λ (y : Pair). y.num) (is_x k.it k.member k.lower k.higher))
 
-      close_is : hit_of p pairs s t ≡ hits (Number (pool (counter_of p) x.num) x.num) (slot pairs x.num 0 0 0)
+      close_is : hit_of p pairs s t ≡ hits (Some (pool (counter_of p) x.num, x.num)) (slot pairs x.num 0 0 0)
       unfolding hit_pair open_or_close close_of
       close_is =
-          let f = look_in P t s x l in
-          let b = H.below x.num (in_num x P f.member) in
-          hit_is p pairs s t ∙ rw (found_x, ne_eqb x.num 0 (λ z. omega arith))
+          hit_is p pairs s t ∙ rw found_x
 
       close_small : x.num ≤ highest
       close_small = omega (arith, (H.below x.num (in_num x P (look_in P t s x l).member)).1, H.high)
@@ -183,7 +185,7 @@ module _ (p : Pool) (pairs : List ℕ) (P : List Pair) (H : Holds p pairs P) (g 
 
     -- where it is not
     module _ (l : look P t s ≡ none) (l' : look P s t ≡ none) where
-      found_none : open_number pairs (lo_of s t) (hi_of s t) p.counter ≡ 0
+      found_none : open_number pairs (lo_of s t) (hi_of s t) p.counter ≡ None
       found_none =
           search_none pairs (lo_of s t) (hi_of s t) p.counter
           (λ m o. let k = opened m (lo_of s t) (hi_of s t) o in

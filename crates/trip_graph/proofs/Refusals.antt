@@ -10,10 +10,10 @@ use lib.ListN.{get_or}
 use lib.Dec.{leb, eqb}
 use borrow.Author.Tests.{eqb-true, leb-true, leb-false}
 use Rattle.feature.specs.Pick.{both}
-use Rattle.desk_numbers.specs.Numbers.{unknown_target, ring_numbers, inversion}
-use Rattle.join_pool.specs.declared.Given.{Given}
-use Rattle.join_pool.specs.declared.Given.TheVariants.{Number, Full}
-use Rattle.walk_entry.specs.declared.entry.Way.{Way}
+use Rattle.std.specs.Prelude.{None, Option, Result, Some, is_some}
+use Rattle.walk_entry.specs.declared.WalkError.{WalkError}
+use Rattle.walk_entry.specs.declared.WalkError.TheVariants.{UnknownTarget, RingNumbers, Inversion}
+use Rattle.join_pool.specs.declared.Pool.{Pool}
 use Rattle.walk_entry.specs.Graph.{BondEntry, Graph, kind_at, degree_at, bond_of}
 use Rattle.walk_entry.specs.Ways.{is_fixed, even}
 use Rattle.walk.specs.Walk.{Walk, Turn, took_at, numbered_of, ring_turn, tied_of, tie_turn, entered_of, enter_turn, bond_turn, walk_to}
@@ -25,21 +25,22 @@ use Rattle.trip_graph.specs.Marks.{Tetrahedral}
 use Rattle.trip_graph.proofs.Marks.{marks_serve}
 use Rattle.trip_graph.proofs.Ways.{way_is, tie_is}
 use Rattle.trip_graph.proofs.Refused.{turns_hold}
+use Rattle.walk.proofs.Place.{atom_at}
 
 -- none, an entry whose target is no atom, want of a ring number, or a mark that can't be turned
-pub data Only (g : Graph) (r : ℕ) : Type 0 where
-  none : r ≡ 0 → Only g r
-  unknown : r ≡ unknown_target → (a i : ℕ) → a < g.size → i < degree_at g a → g.size ≤ (bond_of g a i).to → Only g r
-  numbers : r ≡ ring_numbers → Only g r
-  mark : r ≡ inversion → (t : ℕ) → t < g.size → is_fixed (kind_at g t) ≡ true → Only g r
+pub data Only (g : Graph) (r : Option WalkError) : Type 0 where
+  none : r ≡ None → Only g r
+  unknown : (a i : ℕ) → r ≡ Some (UnknownTarget a (bond_of g a i).to) → a < g.size → i < degree_at g a → g.size ≤ (bond_of g a i).to → Only g r
+  numbers : (s t : ℕ) → r ≡ Some (RingNumbers s t) → Only g r
+  mark : (t : ℕ) → r ≡ Some (Inversion t) → t < g.size → is_fixed (kind_at g t) ≡ true → Only g r
 
-module _ (g : Graph) (W : Simple g) (w : Walk) (dep : ℕ) (snd : Sound g w dep) (fine : w.at.refusal ≡ 0) where
+module _ (g : Graph) (W : Simple g) (w : Walk) (dep : ℕ) (snd : Sound g w dep) (fine : w.at.refusal ≡ None) where
   abbrev O : Turn → Type 0
   O x = Only g x.after.at.refusal
 
-  module _ (r : w.at.current ≡ true) (more : get_or w.taken w.at.here 0 < degree_at g w.at.here) where
+  module _ (r : is_some w.at.here ≡ true) (more : get_or w.taken (atom_at w) 0 < degree_at g (atom_at w)) where
     abbrev s0 : ℕ
-    s0 = w.at.here
+    s0 = atom_at w
 
     abbrev i0 : ℕ
     i0 = get_or w.taken s0 0
@@ -50,29 +51,29 @@ module _ (g : Graph) (W : Simple g) (w : Walk) (dep : ℕ) (snd : Sound g w dep)
     hs : s0 < g.size
     hs = up_within (snd.stands r)
 
-    given_only : (x : Given) (pairs : List ℕ) → O (numbered_of (took_at w s0 i0) e0.kind s0 e0.to x pairs)
+    given_only : (x : Option (Pool × ℕ)) (pairs : List ℕ) → O (numbered_of (took_at w s0 i0) e0.kind s0 e0.to x pairs)
     unfolding numbered_of
-    given_only Full pairs = numbers refl
-    given_only (Number p n) pairs = none fine
+    given_only None pairs = numbers s0 e0.to refl
+    given_only (Some (p, n)) pairs = none fine
 
     enter_only : e0.to < g.size → O (enter_turn g (took_at w s0 i0) e0.kind s0 e0.to)
     unfolding enter_turn entered_of
     enter_only ht =
         let k = W.backed s0 i0 hs more in
-        subst (λ (y : Way). O (entered_of g (took_at w s0 i0) e0.kind e0.to y)) (sym (way_is g W s0 i0 e0.to ht refl k))
-        (by_test (λ (y : Way). O (entered_of g (took_at w s0 i0) e0.kind e0.to y)) (both (is_fixed (kind_at g e0.to)) (even k.place))
-        (λ q. mark refl e0.to ht (both_first _ _ q)) (λ q. none fine))
+        subst (λ (y : Result ℕ WalkError). O (entered_of g (took_at w s0 i0) e0.kind e0.to y)) (sym (way_is g W s0 i0 e0.to ht refl k))
+        (by_test (λ (y : Result ℕ WalkError). O (entered_of g (took_at w s0 i0) e0.kind e0.to y)) (both (is_fixed (kind_at g e0.to)) (even k.place))
+        (λ q. mark e0.to refl ht (both_first _ _ q)) (λ q. none fine))
 
     tie_only : e0.to < g.size → O (tie_turn g (took_at w s0 i0) e0.kind s0 e0.to)
     unfolding tie_turn tied_of ring_turn
     tie_only ht =
-        subst (λ (y : Way). O (tied_of (took_at w s0 i0) e0.kind s0 e0.to y)) (sym (tie_is g W s0 i0 e0.to hs more ht refl (W.backed s0 i0 hs more)))
+        subst (λ (y : Result ℕ WalkError). O (tied_of (took_at w s0 i0) e0.kind s0 e0.to y)) (sym (tie_is g W s0 i0 e0.to hs more ht refl (W.backed s0 i0 hs more)))
         (given_only _ _)
 
     bond_only : O (bond_turn g (took_at w s0 i0) s0 e0)
     unfolding bond_turn
     bond_only =
-        by_test O (leb g.size e0.to) (λ z. unknown refl s0 i0 hs more (leb-true g.size e0.to z))
+        by_test O (leb g.size e0.to) (λ z. unknown s0 i0 refl hs more (leb-true g.size e0.to z))
         (λ z. by_test O (eqb e0.to s0) (λ y. absurd (W.apart s0 i0 hs more (eqb-true _ _ y)))
         (λ y. by_test O (eqb (get_or w.met e0.to 0) 0) (λ x. enter_only (leb-false _ _ z)) (λ x. tie_only (leb-false _ _ z))))
 
@@ -84,11 +85,11 @@ only_refusals g W lm lw lb lt pairs r t =
 
 -- and not with 5 where every target is an atom, nor with 10 where no kind has a configuration but TH1 or TH2
 pub rings_only : (g : Graph) → Simple g → Known g → ((a : ℕ) → a < g.size → Tetrahedral (kind_at g a)) → (lm lw lb lt : ℕ) (pairs : List ℕ) → Room g lm lb lt → (t : ℕ)
-    → (walk_to g t (fresh lm lw lb lt pairs)).at.refusal ≢ 0 → (walk_to g t (fresh lm lw lb lt pairs)).at.refusal ≡ ring_numbers
+    → (walk_to g t (fresh lm lw lb lt pairs)).at.refusal ≢ None → (s : ℕ) × (u : ℕ) × ((walk_to g t (fresh lm lw lb lt pairs)).at.refusal ≡ Some (RingNumbers s u))
 rings_only g W K T lm lw lb lt pairs r t h = go (only_refusals g W lm lw lb lt pairs r t)
   where
-    go : Only g (walk_to g t (fresh lm lw lb lt pairs)).at.refusal → (walk_to g t (fresh lm lw lb lt pairs)).at.refusal ≡ ring_numbers
+    go : Only g (walk_to g t (fresh lm lw lb lt pairs)).at.refusal → (s : ℕ) × (u : ℕ) × ((walk_to g t (fresh lm lw lb lt pairs)).at.refusal ≡ Some (RingNumbers s u))
     go (none e) = absurd (h e)
-    go (unknown e a i l q f) = absurd (omega (arith, f, K a i l q))
-    go (numbers e) = e
-    go (mark e a l f) = clash f (marks_serve.free (kind_at g a) (T a l))
+    go (unknown a i e l q f) = absurd (omega (arith, f, K a i l q))
+    go (numbers s u e) = (s, u, e)
+    go (mark a e l f) = clash f (marks_serve.free (kind_at g a) (T a l))

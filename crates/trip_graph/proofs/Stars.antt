@@ -8,7 +8,7 @@ use native.Mathlib.Omega.{arith}
 use native.Mathlib.Nat.{zero-add}
 use lib.ListN.{get_or}
 use lib.Dec.{leb, eqb}
-use borrow.Author.Tests.{eqb-true, eqb-false, leb-false}
+use borrow.Author.Tests.{leb-false}
 use Rattle.feature.specs.Pick.{pick, both}
 use Rattle.feature.specs.Kinds.{invert_of, in_range, turned_or}
 use Rattle.feature.specs.declared.atom_kind.AtomKind.{AtomKind}
@@ -19,23 +19,24 @@ use Rattle.packing.specs.Words as words
 use Rattle.table.specs.Records.{degree_in}
 use Rattle.walk_entry.specs.declared.entry.Back.{Back}
 use Rattle.walk_entry.specs.declared.entry.Back.TheVariants.{Found, Twice, Fixed}
-use Rattle.walk_entry.specs.declared.entry.Way.{Way}
-use Rattle.walk_entry.specs.declared.entry.Way.TheVariants.{Enters, Refuses}
+use Rattle.std.specs.Prelude.{Err, None, Ok, Option, Result, Some, is_none, is_some}
+use Rattle.walk_entry.specs.declared.WalkError.{WalkError}
+use Rattle.join_pool.specs.declared.Pool.{Pool}
 use Rattle.walk_entry.specs.Graph.{BondEntry, Graph, graph, kind_at, degree_at, bond_of, bond_in, kind_or, kind_in}
 use Rattle.walk_entry.specs.Ties.{leading, last_leading, count_to, place_to, tie_of}
 use Rattle.writer.specs.Line.{Event, Root, Extend, Join, Pop}
 use Rattle.walk.specs.Walk.{Walk, Turn, quiet, pops_of, pops_then, took_at, left_in, root_turn, leave_of, numbered_of, ring_turn, tied_of, tie_turn, entered_of, enter_turn, bond_turn, entry_turn, atom_of, turn_of, step_of, walk_to, events_of}
-use Rattle.join_pool.specs.declared.Given.{Given}
-use Rattle.join_pool.specs.declared.Given.TheVariants.{Number, Full}
 use Rattle.walk_laws.proofs.Moves.{turn_moves}
 use Rattle.walk_laws.proofs.Sound.{Sound, step_sound, up_within}
-use Rattle.walk.proofs.Going.{walk_off}
+use Rattle.walk.proofs.Going.{walk_off, none_is, not_none}
 use Rattle.trip_text.proofs.StarredLine.{bare_said}
+use Rattle.trip_graph.proofs.Stops.{some_stops}
 use Rattle.trip_graph.proofs.Ways.{Passes, way_passes}
 use Rattle.trip_graph.proofs.Lists.{by_bool}
 use Rattle.walk_entry.specs.Ways.{said_as, is_refused, is_fixed, even, scan_in, scan_of, judged_back, way_of}
 use Rattle.trip_graph.specs.Renumber.{Simple, Known}
 use Rattle.trip_graph.specs.Marks.{Tetrahedral}
+use Rattle.walk.proofs.Place.{atom_at, turn_is}
 
 -- ---- the graph of stars
 pub stars_from : List ℕ → ℕ → ℕ → List ℕ
@@ -95,14 +96,14 @@ scan_free bonds first t s fixed (suc i) back b =
     by_both false q r f g e = g e
 
 -- a way that enters does so among stars
-way_free : (g : Graph) (k : BondKind) (s t b : ℕ) → t < g.size → way_of g k s t ≡ Enters b → way_of (starred g) k s t ≡ Enters b
+way_free : (g : Graph) (k : BondKind) (s t b : ℕ) → t < g.size → way_of g k s t ≡ Ok b → way_of (starred g) k s t ≡ Ok b
 unfolding way_of judged_back is_fixed is_refused invert_of
 way_free g k s t b h e =
     let d : degree_at (starred g) t ≡ degree_at g t = star_degree g t h in
     let f : kind_at (starred g) t ≡ Star = star_kind g t h in
     ap₂ (λ (x : AtomKind) (n : ℕ). judged_back (starred g) k s t (scan_in g.bonds g.first t s (is_fixed x) n 0)) f d ∙ by (scan_of g t s) refl e
   where
-    by : (x : Back) → scan_of g t s ≡ x → judged_back g k s t x ≡ Enters b → judged_back (starred g) k s t (scan_in g.bonds g.first t s false (degree_at g t) 0) ≡ Enters b
+    by : (x : Back) → scan_of g t s ≡ x → judged_back g k s t x ≡ Ok b → judged_back (starred g) k s t (scan_in g.bonds g.first t s false (degree_at g t) 0) ≡ Ok b
     by (Found c) q e = ap (judged_back (starred g) k s t) (scan_free g.bonds g.first t s (is_fixed (kind_at g t)) (degree_at g t) 0 c q) ∙ e
     by Twice q e = impossible cc
     by Fixed q e = impossible cc
@@ -145,7 +146,7 @@ pops_bared n e = by (eqb n 0)
 
 -- so it is, if x is not refused
 abbrev Agrees : Turn → Turn → Type 0
-Agrees x y = x.after.at.refusal ≡ 0 → Bared x y
+Agrees x y = x.after.at.refusal ≡ None → Bared x y
 
 both_agree : (b : Bool) (x y x' y' : Turn) → (b ≡ true → Agrees x x') → (b ≡ false → Agrees y y') → Agrees (pick b x y) (pick b x' y')
 both_agree true x y x' y' f g = f refl
@@ -172,9 +173,9 @@ module _ (g : Graph) (w : Walk) (dep : ℕ) (snd : Sound g w dep) where
       (λ z e. record { after = refl; said = ap (λ (k : AtomKind). Root k ∷ []) (star_kind g w.at.next (leb-false _ _ q)) })
       (λ z e. quiet_bared _))
 
-  module _ (r : w.at.current ≡ true) (more : get_or w.taken w.at.here 0 < degree_at g w.at.here) where
+  module _ (r : is_some w.at.here ≡ true) (more : get_or w.taken (atom_at w) 0 < degree_at g (atom_at w)) where
     abbrev s0 : ℕ
-    s0 = w.at.here
+    s0 = atom_at w
 
     abbrev i0 : ℕ
     i0 = get_or w.taken s0 0
@@ -188,28 +189,28 @@ module _ (g : Graph) (w : Walk) (dep : ℕ) (snd : Sound g w dep) where
     hs : s0 < g.size
     hs = up_within (snd.stands r)
 
-    given_agrees : (x : Given) (pairs : List ℕ) → Agrees (numbered_of w1 e0.kind s0 e0.to x pairs) (numbered_of w1 e0.kind s0 e0.to x pairs)
+    given_agrees : (x : Option (Pool × ℕ)) (pairs : List ℕ) → Agrees (numbered_of w1 e0.kind s0 e0.to x pairs) (numbered_of w1 e0.kind s0 e0.to x pairs)
     unfolding numbered_of bare_said
-    given_agrees Full pairs e = record { after = refl; said = refl }
-    given_agrees (Number p n) pairs e = record { after = refl; said = pops_bared w1.at.pend (Join e0.kind n) }
+    given_agrees None pairs e = record { after = refl; said = refl }
+    given_agrees (Some (p, n)) pairs e = record { after = refl; said = pops_bared w1.at.pend (Join e0.kind n) }
 
-    tied_agrees : (x : Way) → Agrees (tied_of w1 e0.kind s0 e0.to x) (tied_of w1 e0.kind s0 e0.to x)
+    tied_agrees : (x : Result ℕ WalkError) → Agrees (tied_of w1 e0.kind s0 e0.to x) (tied_of w1 e0.kind s0 e0.to x)
     unfolding tied_of ring_turn
-    tied_agrees (Refuses n a b) = λ e. record { after = refl; said = refl }
-    tied_agrees (Enters b) = given_agrees _ _
+    tied_agrees (Err why) = λ e. record { after = refl; said = refl }
+    tied_agrees (Ok b) = given_agrees _ _
 
     tie_agrees : e0.to < g.size → Agrees (tie_turn g w1 e0.kind s0 e0.to) (tie_turn (starred g) w1 e0.kind s0 e0.to)
     unfolding tie_turn
     tie_agrees ht =
-        subst (λ (x : Way). Agrees (tied_of w1 e0.kind s0 e0.to (tie_of g e0.kind s0 e0.to)) (tied_of w1 e0.kind s0 e0.to x)) (sym (tie_star g e0.kind s0 e0.to hs ht))
+        subst (λ (x : Result ℕ WalkError). Agrees (tied_of w1 e0.kind s0 e0.to (tie_of g e0.kind s0 e0.to)) (tied_of w1 e0.kind s0 e0.to x)) (sym (tie_star g e0.kind s0 e0.to hs ht))
         (tied_agrees (tie_of g e0.kind s0 e0.to))
 
-    entered_agrees : e0.to < g.size → (x : Way) → way_of g e0.kind s0 e0.to ≡ x → Passes g e0.kind s0 e0.to x
+    entered_agrees : e0.to < g.size → (x : Result ℕ WalkError) → way_of g e0.kind s0 e0.to ≡ x → Passes g e0.kind s0 e0.to x
         → Agrees (entered_of g w1 e0.kind e0.to x) (entered_of (starred g) w1 e0.kind e0.to (way_of (starred g) e0.kind s0 e0.to))
     unfolding entered_of Passes
-    entered_agrees ht (Refuses n a b) q h e = absurd (h e)
-    entered_agrees ht (Enters b) q h e =
-        subst (λ (x : Way). Bared (entered_of g w1 e0.kind e0.to (Enters b)) (entered_of (starred g) w1 e0.kind e0.to x)) (sym (way_free g e0.kind s0 e0.to b ht q))
+    entered_agrees ht (Err why) q h e = absurd (some_stops why e)
+    entered_agrees ht (Ok b) q h e =
+        subst (λ (x : Result ℕ WalkError). Bared (entered_of g w1 e0.kind e0.to (Ok b)) (entered_of (starred g) w1 e0.kind e0.to x)) (sym (way_free g e0.kind s0 e0.to b ht q))
         (record { after = refl; said = said_star b })
       where
         said_star : (b : ℕ) → pops_then w1.at.pend (Extend e0.kind (said_as (kind_at (starred g) e0.to) b)) ≡ map bare_said (pops_then w1.at.pend (Extend e0.kind (said_as (kind_at g e0.to) b)))
@@ -230,16 +231,15 @@ module _ (g : Graph) (w : Walk) (dep : ℕ) (snd : Sound g w dep) where
     unfolding entry_turn
     entry_agrees = both_agree (eqb (get_or w.back s0 0) (i0 + 1)) _ _ _ _ (λ q e. quiet_bared _) (λ q. bond_agrees)
 
-  atom_agrees : w.at.current ≡ true → Agrees (atom_of g w w.at.here) (atom_of (starred g) w w.at.here)
+  atom_agrees : is_some w.at.here ≡ true → Agrees (atom_of g w (atom_at w)) (atom_of (starred g) w (atom_at w))
   unfolding atom_of left_in
   atom_agrees r =
-      subst (λ (n : ℕ). Agrees (atom_of g w w.at.here) (pick (leb n (get_or w.taken w.at.here 0)) (leave_of (starred g) w w.at.here) (entry_turn (starred g) w w.at.here (get_or w.taken w.at.here 0))))
-      (sym (star_degree g w.at.here (up_within (snd.stands r))))
-      (both_agree (leb (degree_at g w.at.here) (get_or w.taken w.at.here 0)) _ _ _ _ (λ q e. record { after = refl; said = refl }) (λ q. entry_agrees r (leb-false _ _ q)))
+      subst (λ (n : ℕ). Agrees (atom_of g w (atom_at w)) (pick (leb n (get_or w.taken (atom_at w) 0)) (leave_of (starred g) w (atom_at w)) (entry_turn (starred g) w (atom_at w) (get_or w.taken (atom_at w) 0))))
+      (sym (star_degree g (atom_at w) (up_within (snd.stands r))))
+      (both_agree (leb (degree_at g (atom_at w)) (get_or w.taken (atom_at w) 0)) _ _ _ _ (λ q e. record { after = refl; said = refl }) (λ q. entry_agrees r (leb-false _ _ q)))
 
   turn_agrees : Agrees (turn_of g w) (turn_of (starred g) w)
-  unfolding turn_of
-  turn_agrees = both_agree w.at.current _ _ _ _ atom_agrees (λ q. root_agrees)
+  turn_agrees = rw (turn_is g w, turn_is (starred g) w) (both_agree (is_some w.at.here) _ _ _ _ atom_agrees (λ q. root_agrees))
 
 -- ---- turns
 -- walked without refusal, stars are walked to the same end, and the same is said
@@ -253,20 +253,20 @@ map_two (e ∷ x) y = ap (λ (l : List Event). bare_said e ∷ l) (map_two x y)
 
 step_agrees : (g : Graph) (w : Walk) (dep : ℕ) → Sound g w dep → Agrees (step_of g w) (step_of (starred g) w)
 unfolding step_of
-step_agrees g w dep s = both_agree (eqb w.at.refusal 0) _ _ _ _ (λ q. turn_agrees g w dep s) (λ q e. quiet_bared w)
+step_agrees g w dep s = both_agree (is_none w.at.refusal) _ _ _ _ (λ q. turn_agrees g w dep s) (λ q e. quiet_bared w)
 
 step_sounds : (g : Graph) (w : Walk) (dep : ℕ) → Sound g w dep → (m : ℕ) × Sound g (step_of g w).after m
 unfolding step_of
 step_sounds g w dep s =
-    by_test (λ (x : Turn). (m : ℕ) × Sound g x.after m) (eqb w.at.refusal 0)
+    by_test (λ (x : Turn). (m : ℕ) × Sound g x.after m) (is_none w.at.refusal)
     (λ q. let m = turn_moves g w dep in (m.0, step_sound s m.1)) (λ q. (dep, s))
 
-still_fine : (g : Graph) (t : ℕ) (v : Walk) → (walk_to g t v).at.refusal ≡ 0 → v.at.refusal ≡ 0
+still_fine : (g : Graph) (t : ℕ) (v : Walk) → (walk_to g t v).at.refusal ≡ None → v.at.refusal ≡ None
 still_fine g t v e =
-    by_bool (eqb v.at.refusal 0) (λ q. eqb-true _ _ q)
-    (λ q. sym (ap (λ (x : Walk). x.at.refusal) (walk_off g t v (eqb-false _ _ q))) ∙ e)
+    by_bool (is_none v.at.refusal) (λ q. none_is _ q)
+    (λ q. sym (ap (λ (x : Walk). x.at.refusal) (walk_off g t v (not_none _ q))) ∙ e)
 
-pub star_walk : (g : Graph) (t : ℕ) (w : Walk) (dep : ℕ) → Sound g w dep → (walk_to g t w).at.refusal ≡ 0 → StarWalk g t w
+pub star_walk : (g : Graph) (t : ℕ) (w : Walk) (dep : ℕ) → Sound g w dep → (walk_to g t w).at.refusal ≡ None → StarWalk g t w
 unfolding walk_to events_of
 star_walk g zero w dep s e = record { walked = refl; said = refl }
 star_walk g (suc t) w dep s e =

@@ -30,6 +30,8 @@ use Rattle.trip_graph.proofs.View.{has_t, push, push_same, push_other}
 use Rattle.trip_graph.proofs.Opens.{has_t_push}
 use Rattle.trip_graph.proofs.Entries.{done_step, done_pass, done_nothing, done_parent, done_fresh}
 use Rattle.trip_graph.proofs.Follows.{Entry}
+use Rattle.std.specs.Prelude.{is_some}
+use Rattle.walk.proofs.Place.{atom_at}
 
 -- the entries behind the walk, and the kinds that come back
 unfoldable pub done_in : Graph → List ℕ → List ℕ → ℕ → List BondEntry
@@ -103,8 +105,8 @@ pub record Sta (g : Graph) (w : Walk) (o fr : List ℕ) : Type 0 where
   pub takes : (v : ℕ) → get_or w.taken v 0 ≤ degree_at g v
   pub left : (v : ℕ) → memb v o ≡ true → memb v fr ≡ false → degree_at g v ≤ get_or w.taken v 0
   pub held : (v : ℕ) → memb v fr ≡ true → memb v o ≡ true
-  pub line : w.at.current ≡ true → Line g w.back w.at.here fr
-  pub rest : w.at.current ≡ false → fr ≡ []
+  pub line : is_some w.at.here ≡ true → Line g w.back (atom_at w) fr
+  pub rest : is_some w.at.here ≡ false → fr ≡ []
 
 module _ {g : Graph} {w : Walk} {o fr : List ℕ} (S : Sta g w o fr) where
   pub is_met : (x : ℕ) → get_or w.met x 0 ≢ 0 → memb x o ≡ true
@@ -113,8 +115,8 @@ module _ {g : Graph} {w : Walk} {o fr : List ℕ} (S : Sta g w o fr) where
   pub is_new : (x : ℕ) → get_or w.met x 0 ≡ 0 → memb x o ≡ false
   is_new x h = by_bool (memb x o) (λ q. absurd (let z : suc (idx x o) ≡ 0 = sym (mark_in x o q) ∙ sym (S.met x) ∙ h in omega arith)) (λ q. q)
 
-  pub here_held : w.at.current ≡ true → memb w.at.here o ≡ true
-  here_held r = let h = line_head (S.line r) in S.held w.at.here (rw h.is (memb_here h.rest refl))
+  pub here_held : is_some w.at.here ≡ true → memb (atom_at w) o ≡ true
+  here_held r = let h = line_head (S.line r) in S.held (atom_at w) (rw h.is (memb_here h.rest refl))
 
   pub done_new : (v : ℕ) → memb v o ≡ false → done_in g w.back w.taken v ≡ []
   unfolding done_in
@@ -216,11 +218,11 @@ module _ {g : Graph} {w : Walk} {o fr : List ℕ} (S : Sta g w o fr) where
         rest = S.rest;
       }
 
-  pub sta_ends : w.at.current ≡ true → get_or w.back w.at.here 0 ≡ 0 → degree_at g w.at.here ≤ get_or w.taken w.at.here 0
+  pub sta_ends : is_some w.at.here ≡ true → get_or w.back (atom_at w) 0 ≡ 0 → degree_at g (atom_at w) ≤ get_or w.taken (atom_at w) 0
       → Sta g (with_walker w (at_end w.at)) o []
   unfolding memb
   sta_ends r z h =
-      let e : fr ≡ w.at.here ∷ [] = line_root (S.line r) z in
+      let e : fr ≡ atom_at w ∷ [] = line_root (S.line r) z in
       record {
         nod = S.nod;
         count = S.count;
@@ -233,14 +235,14 @@ module _ {g : Graph} {w : Walk} {o fr : List ℕ} (S : Sta g w o fr) where
         seen = S.seen;
         backs = S.backs;
         takes = S.takes;
-        left = λ v m k. by_eq v w.at.here (λ q. rw q h) (λ q. S.left v m (rw (e, ne_eqb v w.at.here q)));
+        left = λ v m k. by_eq v (atom_at w) (λ q. rw q h) (λ q. S.left v m (rw (e, ne_eqb v (atom_at w) q)));
         held = λ v m. clash m refl;
         line = λ q. clash q refl;
         rest = λ q. refl;
       }
 
-  pub sta_leaves : w.at.current ≡ true → (n : get_or w.back w.at.here 0 ≢ 0) → (A : Above g w.back w.at.here fr) → degree_at g w.at.here ≤ get_or w.taken w.at.here 0
-      → Sta g (with_walker w (back_at w.at (parent_of g w.back w.at.here))) o A.rest
+  pub sta_leaves : is_some w.at.here ≡ true → (n : get_or w.back (atom_at w) 0 ≢ 0) → (A : Above g w.back (atom_at w) fr) → degree_at g (atom_at w) ≤ get_or w.taken (atom_at w) 0
+      → Sta g (with_walker w (back_at w.at (parent_of g w.back (atom_at w)))) o A.rest
   unfolding memb
   sta_leaves r n A h =
       record {
@@ -255,30 +257,30 @@ module _ {g : Graph} {w : Walk} {o fr : List ℕ} (S : Sta g w o fr) where
         seen = S.seen;
         backs = S.backs;
         takes = S.takes;
-        left = λ v m k. by_eq v w.at.here (λ q. rw q h) (λ q. S.left v m (rw (A.is, ne_eqb v w.at.here q) k));
-        held = λ v m. S.held v (rw A.is (memb_there v w.at.here A.rest m));
+        left = λ v m k. by_eq v (atom_at w) (λ q. rw q h) (λ q. S.left v m (rw (A.is, ne_eqb v (atom_at w) q) k));
+        held = λ v m. S.held v (rw A.is (memb_there v (atom_at w) A.rest m));
         line = λ q. A.line;
         rest = λ q. clash refl q;
       }
 
   -- the entry at hand taken: other pool and pops, and what it leads to was met
-  module _ (rt : w.at.here < length w.taken) (r : w.at.current ≡ true) (more : get_or w.taken w.at.here 0 < degree_at g w.at.here) where
-    takes_next : (v : ℕ) → get_or (set w.taken w.at.here (get_or w.taken w.at.here 0 + 1)) v 0 ≤ degree_at g v
-    takes_next v = by_eq v w.at.here
-        (λ e. rw (e, get_or-set_same w.taken w.at.here (get_or w.taken w.at.here 0 + 1) 0 rt) (omega arith))
-        (λ e. rw (get_or-set_other w.taken w.at.here v (get_or w.taken w.at.here 0 + 1) 0 e) (S.takes v))
+  module _ (rt : atom_at w < length w.taken) (r : is_some w.at.here ≡ true) (more : get_or w.taken (atom_at w) 0 < degree_at g (atom_at w)) where
+    takes_next : (v : ℕ) → get_or (set w.taken (atom_at w) (get_or w.taken (atom_at w) 0 + 1)) v 0 ≤ degree_at g v
+    takes_next v = by_eq v (atom_at w)
+        (λ e. rw (e, get_or-set_same w.taken (atom_at w) (get_or w.taken (atom_at w) 0 + 1) 0 rt) (omega arith))
+        (λ e. rw (get_or-set_other w.taken (atom_at w) v (get_or w.taken (atom_at w) 0 + 1) 0 e) (S.takes v))
 
-    untaken_next : (v : ℕ) → memb v o ≡ false → get_or (set w.taken w.at.here (get_or w.taken w.at.here 0 + 1)) v 0 ≡ 0
+    untaken_next : (v : ℕ) → memb v o ≡ false → get_or (set w.taken (atom_at w) (get_or w.taken (atom_at w) 0 + 1)) v 0 ≡ 0
     untaken_next v m =
-        get_or-set_other w.taken w.at.here v (get_or w.taken w.at.here 0 + 1) 0 (λ e. ne_of_memb o (here_held S r) m (sym e)) ∙ S.untaken v m
+        get_or-set_other w.taken (atom_at w) v (get_or w.taken (atom_at w) 0 + 1) 0 (λ e. ne_of_memb o (here_held S r) m (sym e)) ∙ S.untaken v m
 
-    left_next : (v : ℕ) → memb v o ≡ true → memb v fr ≡ false → degree_at g v ≤ get_or (set w.taken w.at.here (get_or w.taken w.at.here 0 + 1)) v 0
+    left_next : (v : ℕ) → memb v o ≡ true → memb v fr ≡ false → degree_at g v ≤ get_or (set w.taken (atom_at w) (get_or w.taken (atom_at w) 0 + 1)) v 0
     left_next v m k =
         let h = line_head (S.line r) in
-        let ne : v ≢ w.at.here = λ e. clash (rw h.is (memb_here h.rest e)) k in
-        rw (get_or-set_other w.taken w.at.here v (get_or w.taken w.at.here 0 + 1) 0 ne) (S.left v m k)
+        let ne : v ≢ atom_at w = λ e. clash (rw h.is (memb_here h.rest e)) k in
+        rw (get_or-set_other w.taken (atom_at w) v (get_or w.taken (atom_at w) 0 + 1) 0 ne) (S.left v m k)
 
-    pub sta_pass : get_or w.back w.at.here 0 ≡ get_or w.taken w.at.here 0 + 1 → Sta g (took_at w w.at.here (get_or w.taken w.at.here 0)) o fr
+    pub sta_pass : get_or w.back (atom_at w) 0 ≡ get_or w.taken (atom_at w) 0 + 1 → Sta g (took_at w (atom_at w) (get_or w.taken (atom_at w) 0)) o fr
     sta_pass e =
         record {
           nod = S.nod;
@@ -289,7 +291,7 @@ module _ {g : Graph} {w : Walk} {o fr : List ℕ} (S : Sta g w o fr) where
           small = S.small;
           unback = S.unback;
           untaken = untaken_next;
-          seen = subst (λ (d : ℕ → List BondEntry). (v x : ℕ) → has_t x (d v) ≡ true → memb x o ≡ true) (sym (pass_done g w.back w.taken w.at.here rt e)) S.seen;
+          seen = subst (λ (d : ℕ → List BondEntry). (v x : ℕ) → has_t x (d v) ≡ true → memb x o ≡ true) (sym (pass_done g w.back w.taken (atom_at w) rt e)) S.seen;
           backs = S.backs;
           takes = takes_next;
           left = left_next;
@@ -298,29 +300,29 @@ module _ {g : Graph} {w : Walk} {o fr : List ℕ} (S : Sta g w o fr) where
           rest = S.rest;
         }
 
-    module _ (apart : get_or w.back w.at.here 0 ≢ get_or w.taken w.at.here 0 + 1) where
-      pub entry : Simple g → Entry w.at.here (bond_of g w.at.here (get_or w.taken w.at.here 0)) o (done_in g w.back w.taken)
+    module _ (apart : get_or w.back (atom_at w) 0 ≢ get_or w.taken (atom_at w) 0 + 1) where
+      pub entry : Simple g → Entry (atom_at w) (bond_of g (atom_at w) (get_or w.taken (atom_at w) 0)) o (done_in g w.back w.taken)
       unfolding done_in
       entry W =
-          let hs : w.at.here < g.size = S.small w.at.here (here_held S r) in
+          let hs : atom_at w < g.size = S.small (atom_at w) (here_held S r) in
           record {
             ms = here_held S r;
-            fresh = done_fresh g W w.at.here (get_or w.back w.at.here 0) hs (S.backs w.at.here) (get_or w.taken w.at.here 0) more (λ z. apart (z ∙ sym (add-one (get_or w.taken w.at.here 0))));
-            apart = λ z. W.apart w.at.here (get_or w.taken w.at.here 0) hs more (sym z);
+            fresh = done_fresh g W (atom_at w) (get_or w.back (atom_at w) 0) hs (S.backs (atom_at w)) (get_or w.taken (atom_at w) 0) more (λ z. apart (z ∙ sym (add-one (get_or w.taken (atom_at w) 0))));
+            apart = λ z. W.apart (atom_at w) (get_or w.taken (atom_at w) 0) hs more (sym z);
           }
 
-      seen_push : (o' : List ℕ) → ((x : ℕ) → memb x o ≡ true → memb x o' ≡ true) → memb (bond_of g w.at.here (get_or w.taken w.at.here 0)).to o' ≡ true
-          → (v x : ℕ) → has_t x (push w.at.here (bond_of g w.at.here (get_or w.taken w.at.here 0)) (done_in g w.back w.taken) v) ≡ true → memb x o' ≡ true
+      seen_push : (o' : List ℕ) → ((x : ℕ) → memb x o ≡ true → memb x o' ≡ true) → memb (bond_of g (atom_at w) (get_or w.taken (atom_at w) 0)).to o' ≡ true
+          → (v x : ℕ) → has_t x (push (atom_at w) (bond_of g (atom_at w) (get_or w.taken (atom_at w) 0)) (done_in g w.back w.taken) v) ≡ true → memb x o' ≡ true
       seen_push o' inc mt v x h =
-          let s : ℕ = w.at.here in
+          let s : ℕ = atom_at w in
           let e : BondEntry = bond_of g s (get_or w.taken s 0) in
           let d : ℕ → List BondEntry = done_in g w.back w.taken in
           by_eq v s
           (λ q. or_elim (has_t x (d s)) (eqb x e.to) (sym (has_t_push s e d x) ∙ (rw q at h)) (λ z. inc x (S.seen s x z)) (λ z. rw (eqb-true x e.to z) mt))
           (λ q. inc x (S.seen v x (rw (push_other s e d v q) at h)))
 
-      pub sta_joins : (pairs : List ℕ) (p : Pool) → memb (bond_of g w.at.here (get_or w.taken w.at.here 0)).to o ≡ true
-          → Sta g (with_walker (pooled (took_at w w.at.here (get_or w.taken w.at.here 0)) pairs) (ring_said w.at p)) o fr
+      pub sta_joins : (pairs : List ℕ) (p : Pool) → memb (bond_of g (atom_at w) (get_or w.taken (atom_at w) 0)).to o ≡ true
+          → Sta g (with_walker (pooled (took_at w (atom_at w) (get_or w.taken (atom_at w) 0)) pairs) (ring_said w.at p)) o fr
       sta_joins pairs p mt =
           record {
             nod = S.nod;
@@ -331,7 +333,7 @@ module _ {g : Graph} {w : Walk} {o fr : List ℕ} (S : Sta g w o fr) where
             small = S.small;
             unback = S.unback;
             untaken = untaken_next;
-            seen = subst (λ (d : ℕ → List BondEntry). (v x : ℕ) → has_t x (d v) ≡ true → memb x o ≡ true) (sym (took_done g w.back w.taken w.at.here rt apart)) (seen_push o (λ x m. m) mt);
+            seen = subst (λ (d : ℕ → List BondEntry). (v x : ℕ) → has_t x (d v) ≡ true → memb x o ≡ true) (sym (took_done g w.back w.taken (atom_at w) rt apart)) (seen_push o (λ x m. m) mt);
             backs = S.backs;
             takes = takes_next;
             left = left_next;
@@ -400,26 +402,26 @@ module _ {g : Graph} {w : Walk} {o fr : List ℕ} (S : Sta g w o fr) where
 
 -- a new atom entered from the current one, whose entry at hand is taken
 module _ {g : Graph} {w : Walk} {o fr : List ℕ} (S : Sta g w o fr)
-    (rt : w.at.here < length w.taken) (r : w.at.current ≡ true) (more : get_or w.taken w.at.here 0 < degree_at g w.at.here)
-    (apart : get_or w.back w.at.here 0 ≢ get_or w.taken w.at.here 0 + 1)
-    (t : ℕ) (to : (bond_of g w.at.here (get_or w.taken w.at.here 0)).to ≡ t) (ht : t < g.size)
+    (rt : atom_at w < length w.taken) (r : is_some w.at.here ≡ true) (more : get_or w.taken (atom_at w) 0 < degree_at g (atom_at w))
+    (apart : get_or w.back (atom_at w) 0 ≢ get_or w.taken (atom_at w) 0 + 1)
+    (t : ℕ) (to : (bond_of g (atom_at w) (get_or w.taken (atom_at w) 0)).to ≡ t) (ht : t < g.size)
     (rm : t < length w.met) (rb : t < length w.back) (mt : memb t o ≡ false) (few : length o < g.size)
-    (k : Backed g w.at.here t (bond_of g w.at.here (get_or w.taken w.at.here 0))) where
-  back_bond : bond_of g t (suc k.place - 1) ≡ entry_to (reverse_of (bond_of g w.at.here (get_or w.taken w.at.here 0)).kind) w.at.here
+    (k : Backed g (atom_at w) t (bond_of g (atom_at w) (get_or w.taken (atom_at w) 0))) where
+  back_bond : bond_of g t (suc k.place - 1) ≡ entry_to (reverse_of (bond_of g (atom_at w) (get_or w.taken (atom_at w) 0)).kind) (atom_at w)
   back_bond =
       let z : suc k.place - 1 ≡ k.place = omega arith in
       ap (bond_of g t) z ∙ (λ i. record { kind = k.reversed i; to = k.leads i })
 
-  pub entered_done : done_in g (set w.back t (suc k.place)) (set w.taken w.at.here (get_or w.taken w.at.here 0 + 1))
-      ≡ push t (entry_to (reverse_of (bond_of g w.at.here (get_or w.taken w.at.here 0)).kind) w.at.here)
-      (push w.at.here (bond_of g w.at.here (get_or w.taken w.at.here 0)) (done_in g w.back w.taken))
+  pub entered_done : done_in g (set w.back t (suc k.place)) (set w.taken (atom_at w) (get_or w.taken (atom_at w) 0 + 1))
+      ≡ push t (entry_to (reverse_of (bond_of g (atom_at w) (get_or w.taken (atom_at w) 0)).kind) (atom_at w))
+      (push (atom_at w) (bond_of g (atom_at w) (get_or w.taken (atom_at w) 0)) (done_in g w.back w.taken))
   entered_done =
-      enter_done g w.back (set w.taken w.at.here (get_or w.taken w.at.here 0 + 1)) t (suc k.place) _ rb (S.unback t mt) (untaken_next S rt r more t mt) (λ z. omega arith) back_bond
-      ∙ ap (push t (entry_to (reverse_of (bond_of g w.at.here (get_or w.taken w.at.here 0)).kind) w.at.here)) (took_done g w.back w.taken w.at.here rt apart)
+      enter_done g w.back (set w.taken (atom_at w) (get_or w.taken (atom_at w) 0 + 1)) t (suc k.place) _ rb (S.unback t mt) (untaken_next S rt r more t mt) (λ z. omega arith) back_bond
+      ∙ ap (push t (entry_to (reverse_of (bond_of g (atom_at w) (get_or w.taken (atom_at w) 0)).kind) (atom_at w))) (took_done g w.back w.taken (atom_at w) rt apart)
 
-  pub sta_enters : Sta g (met_at (took_at w w.at.here (get_or w.taken w.at.here 0)) w.at t (suc k.place)) (o ++ (t ∷ [])) (t ∷ fr)
+  pub sta_enters : Sta g (met_at (took_at w (atom_at w) (get_or w.taken (atom_at w) 0)) w.at t (suc k.place)) (o ++ (t ∷ [])) (t ∷ fr)
   sta_enters =
-      let s : ℕ = w.at.here in
+      let s : ℕ = atom_at w in
       let e : BondEntry = bond_of g s (get_or w.taken s 0) in
       let b : ℕ = suc k.place in
       let bb : BondEntry = entry_to (reverse_of e.kind) s in

@@ -14,8 +14,7 @@ use Rattle.feature.specs.declared.atom_kind.AtomKind.TheVariants.{Star}
 use Rattle.feature.specs.declared.bond_kind.BondKind.{BondKind}
 use Rattle.feature.specs.declared.bond_kind.BondKind.TheVariants.{Elided}
 use Rattle.feature.proofs.Bonds.{sure_code}
-use Rattle.packing.specs.declared.Loaded.{Loaded}
-use Rattle.packing.specs.declared.Loaded.TheVariants as loaded
+use Rattle.std.specs.Prelude.{None, Option, Some}
 use Rattle.packing.specs.Words as words
 use Rattle.packing.proofs.Laws.{load_words, only}
 use Rattle.table.specs.Limits.{atom_limit}
@@ -164,10 +163,10 @@ at_map f (a ∷ l) zero x y h = refl
 at_map f (a ∷ l) (suc v) x y h = at_map f l v x y (omega arith)
 
 -- ---- kinds are in range
-held_range : (l : Loaded) → ((k : AtomKind) → l ≡ loaded.Held k → in_range k ≡ true) → in_range (kind_or l) ≡ true
+held_range : (l : Option AtomKind) → ((k : AtomKind) → l ≡ Some k → in_range k ≡ true) → in_range (kind_or l) ≡ true
 unfolding kind_or in_range
-held_range (loaded.Held k) h = h k refl
-held_range loaded.Bad h = refl
+held_range (Some k) h = h k refl
+held_range None h = refl
 
 pub kind_range : (g : Graph) (a : ℕ) → in_range (kind_at g a) ≡ true
 unfolding kind_in words.load_at

@@ -9,6 +9,8 @@ use Prim.Native.Nat.{ℕ, zero, suc, ◌-◌, ◌≤◌, ◌<◌}
 use native.Mathlib.Omega.{arith}
 use lib.ListN.{length, get_or, replicate, length-append, length-map, get_or-append}
 use lib.Seq.{get_or-append_seam}
+use Rattle.std.specs.Prelude as std
+use Rattle.std.specs.Prelude.{None}
 use Rattle.feature.proofs.Cases.{by_eq, clash}
 use Rattle.join_pool.specs.declared.Pool.{Pool}
 use Rattle.writer.specs.Line.{Event, Root, Extend, Join, Pop}
@@ -48,7 +50,7 @@ numbered_app (Pop d ∷ xs) ys h k = numbered_app xs ys h k
 -- after any number of turns the builder has followed, or the walk was refused
 pub data Walked (H : Pool → List ℕ → List Pair → Type 0) (g : Graph) (b : Sketch) (t : ℕ) (w : Walk) : Type 0 where
   follows : Inv H g (walk_to g t w) (run_s b (retold (events_of g t w))) → RingsHaveText (events_of g t w) → Walked H g b t w
-  stopped : (walk_to g t w).at.refusal ≢ 0 → Walked H g b t w
+  stopped : (walk_to g t w).at.refusal ≢ None → Walked H g b t w
 
 module _ (H : Pool → List ℕ → List Pair → Type 0) (Q : Serves H) (g : Graph) (W : Simple g) (T : (a : ℕ) → a < g.size → Tetrahedral (kind_at g a)) where
   -- one turn, then the others
@@ -58,12 +60,12 @@ module _ (H : Pool → List ℕ → List Pair → Type 0) (Q : Serves H) (g : Gr
       follows (subst (λ (y : Turn). Inv H g (walk_to g t y.after) (run_s b (retold (y.said ++ events_of g t y.after)))) (sym e)
       (subst (λ (c : Sketch). Inv H g (walk_to g t x.after) c) (sym (ap (run_s b) (told_app x.said (events_of g t x.after)) ∙ run_app b (retold x.said) (retold (events_of g t x.after)))) I))
       (subst (λ (y : Turn). RingsHaveText (y.said ++ events_of g t y.after)) (sym e) (numbered_app x.said (events_of g t x.after) h k))
-  then_walked t w b x e h (stopped r) = stopped (subst (λ (y : Turn). (walk_to g t y.after).at.refusal ≢ 0) (sym e) r)
+  then_walked t w b x e h (stopped r) = stopped (subst (λ (y : Turn). (walk_to g t y.after).at.refusal ≢ None) (sym e) r)
 
-  stop_walked : (t : ℕ) (w : Walk) (b : Sketch) (x : Turn) → step_of g w ≡ x → x.after.at.refusal ≢ 0 → Walked H g b (suc t) w
+  stop_walked : (t : ℕ) (w : Walk) (b : Sketch) (x : Turn) → step_of g w ≡ x → x.after.at.refusal ≢ None → Walked H g b (suc t) w
   unfolding walk_to
   stop_walked t w b x e r =
-      stopped (subst (λ (y : Turn). (walk_to g t y.after).at.refusal ≢ 0) (sym e) (λ z. r (ap (λ (v : Walk). v.at.refusal) (sym (walk_off g t x.after r)) ∙ z)))
+      stopped (subst (λ (y : Turn). (walk_to g t y.after).at.refusal ≢ None) (sym e) (λ z. r (ap (λ (v : Walk). v.at.refusal) (sym (walk_off g t x.after r)) ∙ z)))
 
   next_walked : (t : ℕ) (w : Walk) (b : Sketch) (n : ℕ) → Sound g (turn_of g w).after n → step_of g w ≡ turn_of g w
       → ((v : Walk) (c : Sketch) (m : ℕ) → Sound g v m → Inv H g v c → Walked H g c t v) → Result H g b (turn_of g w) → Walked H g b (suc t) w
@@ -160,7 +162,7 @@ module _ (H : Pool → List ℕ → List Pair → Type 0) (g : Graph) (W : Simpl
 
   all_taken : (v : ℕ) → memb v I.order ≡ true → get_or w.taken v 0 ≡ degree_at g v
   unfolding memb
-  all_taken v m = omega (arith, I.sta.left v m (rw (I.sta.rest F.current)), I.sta.takes v)
+  all_taken v m = omega (arith, I.sta.left v m (rw (I.sta.rest (ap std.is_some F.current))), I.sta.takes v)
 
   end_done : (v : ℕ) → memb v I.order ≡ true → done_in g w.back w.taken v ≡ entries_of g v (get_or w.back v 0)
   unfolding done_in
@@ -255,7 +257,7 @@ module _ (H : Pool → List ℕ → List Pair → Type 0) (g : Graph) (W : Simpl
 -- ---- the law
 module _ (g : Graph) (W : Simple g) (T : (a : ℕ) → a < g.size → Tetrahedral (kind_at g a)) (lm lw lb lt : ℕ) (room : Room g lm lb lt) (wide : g.size ≤ lw)
     (m : ℕ) (few : degrees g g.size ≤ m)
-    (fine : (walk_to g (turns_of g.size m) (fresh lm lw lb lt (replicate pair_words 0))).at.refusal ≡ 0) where
+    (fine : (walk_to g (turns_of g.size m) (fresh lm lw lb lt (replicate pair_words 0))).at.refusal ≡ None) where
   abbrev start : Walk
   start = fresh lm lw lb lt (replicate pair_words 0)
 
@@ -287,7 +289,7 @@ module _ (g : Graph) (W : Simple g) (T : (a : ℕ) → a < g.size → Tetrahedra
 pub graph_trip : (g : Graph) → Simple g → ((a : ℕ) → a < g.size → Tetrahedral (kind_at g a))
     → (lm lw lb lt : ℕ) → Room g lm lb lt → g.size ≤ lw
     → (m : ℕ) → degrees g g.size ≤ m
-    → (walk_to g (turns_of g.size m) (fresh lm lw lb lt (replicate pair_words 0))).at.refusal ≡ 0
+    → (walk_to g (turns_of g.size m) (fresh lm lw lb lt (replicate pair_words 0))).at.refusal ≡ None
     → (places slots : ℕ) → g.size ≤ places → degrees g g.size ≤ slots
     → Built (run_s (start_s places slots) (retold (events_of g (turns_of g.size m) (fresh lm lw lb lt (replicate pair_words 0)))))
     (renumbered g (by_walk (walk_to g (turns_of g.size m) (fresh lm lw lb lt (replicate pair_words 0)))))
@@ -299,7 +301,7 @@ graph_trip g W T lm lw lb lt room wide m few fine places slots enough entries =
 pub walk_numbers : (g : Graph) → Simple g → ((a : ℕ) → a < g.size → Tetrahedral (kind_at g a))
     → (lm lw lb lt : ℕ) → Room g lm lb lt → g.size ≤ lw
     → (m : ℕ) → degrees g g.size ≤ m
-    → (walk_to g (turns_of g.size m) (fresh lm lw lb lt (replicate pair_words 0))).at.refusal ≡ 0
+    → (walk_to g (turns_of g.size m) (fresh lm lw lb lt (replicate pair_words 0))).at.refusal ≡ None
     → Numbering g (by_walk (walk_to g (turns_of g.size m) (fresh lm lw lb lt (replicate pair_words 0))))
 walk_numbers g W T lm lw lb lt room wide m few fine =
     end_numbers Holds g W (walk_to g (turns_of g.size m) (fresh lm lw lb lt (replicate pair_words 0))) _
@@ -309,7 +311,7 @@ walk_numbers g W T lm lw lb lt room wide m few fine =
 pub walk_numbered : (g : Graph) → Simple g → ((a : ℕ) → a < g.size → Tetrahedral (kind_at g a))
     → (lm lw lb lt : ℕ) → Room g lm lb lt → g.size ≤ lw
     → (m : ℕ) → degrees g g.size ≤ m
-    → (walk_to g (turns_of g.size m) (fresh lm lw lb lt (replicate pair_words 0))).at.refusal ≡ 0
+    → (walk_to g (turns_of g.size m) (fresh lm lw lb lt (replicate pair_words 0))).at.refusal ≡ None
     → RingsHaveText (events_of g (turns_of g.size m) (fresh lm lw lb lt (replicate pair_words 0)))
 walk_numbered g W T lm lw lb lt room wide m few fine =
     numbered g W T lm lw lb lt room wide m few fine g.size (degrees g g.size) (omega arith) (omega arith)
@@ -319,7 +321,7 @@ walk_numbered g W T lm lw lb lt room wide m few fine =
 pub renumbered_count : (g : Graph) → Simple g → ((a : ℕ) → a < g.size → Tetrahedral (kind_at g a))
     → (lm lw lb lt : ℕ) → Room g lm lb lt → g.size ≤ lw
     → (m : ℕ) → degrees g g.size ≤ m
-    → (walk_to g (turns_of g.size m) (fresh lm lw lb lt (replicate pair_words 0))).at.refusal ≡ 0
+    → (walk_to g (turns_of g.size m) (fresh lm lw lb lt (replicate pair_words 0))).at.refusal ≡ None
     → count_of (renumbered g (by_walk (walk_to g (turns_of g.size m) (fresh lm lw lb lt (replicate pair_words 0))))) ≡ degrees g g.size
 renumbered_count g W T lm lw lb lt room wide m few fine =
     let I = invariant g W T lm lw lb lt room wide m few fine g.size (degrees g g.size) (omega arith) (omega arith) in

@@ -11,17 +11,18 @@ use lib.ListN.{length, get_or, set}
 use lib.Seq.{get_or-set_same, get_or-set_other}
 use lib.Dec.{leb, eqb}
 use borrow.Author.Tests.{eqb-true, eqb-false, leb-true, leb-false}
+use Rattle.std.specs.Prelude.{None, Some, is_some}
 use Rattle.feature.specs.Kinds.{invert_of}
 use Rattle.feature.specs.Bonds.{reverse_of}
 use Rattle.feature.specs.declared.atom_kind.AtomKind.{AtomKind}
-use Rattle.feature.specs.declared.atom_kind.Inverted.TheVariants.{Turned}
 use Rattle.join_pool.specs.declared.Pool.{Pool}
 use Rattle.join_pool.specs.Pairs.{Hits, highest, hit_of}
 use Rattle.read_line.specs.declared.lead.Lead.TheVariants as lead
 use Rattle.read_line.specs.Events as reader
 use Rattle.writer.specs.Line.{Event, Root, Extend, Join}
 use Rattle.builder_meaning.specs.Sketch.{Sketch, count_of, step_s, run_s}
-use Rattle.walk_entry.specs.declared.entry.Way.{Way}
+use Rattle.std.specs.Prelude as std
+use Rattle.walk_entry.specs.declared.WalkError.{WalkError}
 use Rattle.walk_entry.specs.Graph.{BondEntry, Graph, kind_at, degree_at, bond_of, entry_to}
 use Rattle.walk_entry.specs.Ways.{said_as}
 use Rattle.walk.specs.declared.walker.Walker.{Walker}
@@ -30,6 +31,7 @@ use Rattle.walk_laws.specs.Trek.{degrees}
 use Rattle.feature.proofs.Cases.{by_test}
 use Rattle.walk_laws.proofs.Sound.{Sound}
 use Rattle.walk_laws.proofs.Fits.{count_below}
+use Rattle.trip_graph.proofs.Stops.{some_stops}
 use Rattle.trip_graph.specs.Opened.{Pair, ring_pair, look, del, num_in, join_in, Opens, full, number, Serves, RingsHaveText}
 use Rattle.trip_graph.specs.Renumber.{Backed, Simple}
 use Rattle.trip_graph.specs.Marks.{Tetrahedral, back_kind}
@@ -43,6 +45,7 @@ use Rattle.trip_graph.proofs.Counts.{view_count}
 use Rattle.trip_graph.proofs.Follows.{Bld, Entry, run_one, run_pops, bld_pops, bld_left, bld_ended, bld_root, bld_extend, bld_open, bld_close}
 use Rattle.trip_graph.proofs.State.{done_in, kind_by, Sta, line_head, line_above, is_met, is_new, here_held, done_new, took_done, pass_done, root_done, sta_skip, sta_ends, sta_leaves, sta_pass, entry, sta_joins, sta_root, sta_enters, entered_done}
 use Rattle.trip_text.specs.Steps.{retold_one, retold}
+use Rattle.walk.proofs.Place.{atom_at, by_place}
 
 -- what holds of a walk and of the sketch that its events make, where H says what a pool holds
 pub record Inv (H : Pool → List ℕ → List Pair → Type 0) (g : Graph) (w : Walk) (b : Sketch) : Type 0 where
@@ -53,11 +56,11 @@ pub record Inv (H : Pool → List ℕ → List Pair → Type 0) (g : Graph) (w :
   pub pol : Pol order (done_in g w.back w.taken) opened
   pub hold : H w.at.pool w.pairs opened
   pub bld : Bld g (kind_by g w.back) frame w.at.pend order (done_in g w.back w.taken) opened b
-  pub fine : w.at.refusal ≡ 0
+  pub fine : w.at.refusal ≡ None
 
 pub data Result (H : Pool → List ℕ → List Pair → Type 0) (g : Graph) (b : Sketch) (x : Turn) : Type 0 where
   goes : Inv H g x.after (run_s b (retold x.said)) → RingsHaveText x.said → Result H g b x
-  stops : x.after.at.refusal ≢ 0 → Result H g b x
+  stops : x.after.at.refusal ≢ None → Result H g b x
 
 -- pops change no numbers
 said_pops : (p : ℕ) (e : Event) → RingsHaveText (e ∷ []) → RingsHaveText (pops_then p e)
@@ -116,7 +119,7 @@ module _ (H : Pool → List ℕ → List Pair → Type 0) (Q : Serves H) (g : Gr
     fine = I.fine;
   }) tt
 
-  new_root : w.at.current ≡ false → w.at.next < g.size → get_or w.met w.at.next 0 ≡ 0
+  new_root : is_some w.at.here ≡ false → w.at.next < g.size → get_or w.met w.at.next 0 ≡ 0
       → R (turn (met_at w (root_passed w.at) w.at.next 0) (Root (said_as (kind_at g w.at.next) 0) ∷ []))
   unfolding retold retold_one kind_by
   new_root r hi m =
@@ -147,17 +150,17 @@ module _ (H : Pool → List ℕ → List Pair → Type 0) (Q : Serves H) (g : Gr
         fine = I.fine;
       }) tt
 
-  root_turn_lem : w.at.current ≡ false → R (root_turn g w)
+  root_turn_lem : is_some w.at.here ≡ false → R (root_turn g w)
   unfolding root_turn
   root_turn_lem r =
       by_test R (leb g.size w.at.next) (λ q. still_turn)
       (λ q. by_test R (eqb (get_or w.met w.at.next 0) 0)
       (λ z. new_root r (leb-false _ _ q) (eqb-true _ _ z)) (λ z. skip_turn))
 
-  left_turn : w.at.current ≡ true → degree_at g w.at.here ≤ get_or w.taken w.at.here 0 → R (leave_of g w w.at.here)
+  left_turn : is_some w.at.here ≡ true → degree_at g (atom_at w) ≤ get_or w.taken (atom_at w) 0 → R (leave_of g w (atom_at w))
   unfolding left_in run_s retold
   left_turn r h =
-      by_test (λ (z : Walker). R (quiet (with_walker w z))) (eqb (get_or w.back w.at.here 0) 0)
+      by_test (λ (z : Walker). R (quiet (with_walker w z))) (eqb (get_or w.back (atom_at w) 0) 0)
       (λ q. goes (record {
         order = I.order;
         frame = [];
@@ -169,7 +172,7 @@ module _ (H : Pool → List ℕ → List Pair → Type 0) (Q : Serves H) (g : Gr
         fine = I.fine;
       }) tt)
       (λ q.
-      let n : get_or w.back w.at.here 0 ≢ 0 = eqb-false _ _ q in
+      let n : get_or w.back (atom_at w) 0 ≢ 0 = eqb-false _ _ q in
       let A = line_above (I.sta.line r) n in
       let B = subst (λ (f : List ℕ). Bld g κ0 f w.at.pend I.order d0 I.opened b) A.is I.bld in
       goes (record {
@@ -180,14 +183,14 @@ module _ (H : Pool → List ℕ → List Pair → Type 0) (Q : Serves H) (g : Gr
         pol = I.pol;
         hold = I.hold;
         bld = subst (λ (n : ℕ). Bld g κ0 A.rest n I.order d0 I.opened b) (sym (add-one w.at.pend))
-            (bld_left g κ0 I.order d0 I.opened w.at.here A.rest w.at.pend b B);
+            (bld_left g κ0 I.order d0 I.opened (atom_at w) A.rest w.at.pend b B);
         fine = I.fine;
       }) tt)
 
   -- at an entry
-  module _ (r : w.at.current ≡ true) (more : get_or w.taken w.at.here 0 < degree_at g w.at.here) where
+  module _ (r : is_some w.at.here ≡ true) (more : get_or w.taken (atom_at w) 0 < degree_at g (atom_at w)) where
     abbrev s0 : ℕ
-    s0 = w.at.here
+    s0 = atom_at w
 
     abbrev i0 : ℕ
     i0 = get_or w.taken s0 0
@@ -267,8 +270,8 @@ module _ (H : Pool → List ℕ → List Pair → Type 0) (Q : Serves H) (g : Gr
           let S' = sta_enters S rt r more q t refl ht rm rb mt few k in
           let D = entered_done S rt r more q t refl ht rm rb mt few k in
           let kq : (v : ℕ) → v ≢ t → κ' v ≡ κ0 v = λ v z. ap (back_kind (kind_at g v)) (get_or-set_other w.back t v c 0 z) in
-          let kt : invert_of (said_as (kind_at g t) c) ≡ Turned (κ' t) =
-          marks_serve.built (kind_at g t) c (T t ht) (λ z. omega arith) ∙ ap (λ (x : ℕ). Turned (back_kind (kind_at g t) x)) (sym (get_or-set_same w.back t c 0 rb)) in
+          let kt : invert_of (said_as (kind_at g t) c) ≡ Some (κ' t) =
+          marks_serve.built (kind_at g t) c (T t ht) (λ z. omega arith) ∙ ap (λ (x : ℕ). Some (back_kind (kind_at g t) x)) (sym (get_or-set_same w.back t c 0 rb)) in
           let u : d0 t ≡ [] = done_new S t mt in
           let room : count_of (map (view κ' o' P d2) o') ≤ degrees g g.size =
           subst (λ (d : ℕ → List BondEntry). count_of (map (view κ' o' P d) o') ≤ degrees g g.size) D (sta_count S' κ' P) in
@@ -292,7 +295,7 @@ module _ (H : Pool → List ℕ → List Pair → Type 0) (Q : Serves H) (g : Gr
       unfolding enter_turn entered_of
       enter_turn_lem m ht =
           let k = W.backed s0 i0 hs more in
-          subst (λ (y : Way). R (entered_of g w1 e0.kind e0.to y))
+          subst (λ (y : std.Result ℕ WalkError). R (entered_of g w1 e0.kind e0.to y))
           (sym (way_enters g W s0 i0 e0.to ht refl (marks_serve.free (kind_at g e0.to) (T e0.to ht)) k))
           (enter_goes k m ht)
 
@@ -364,7 +367,7 @@ module _ (H : Pool → List ℕ → List Pair → Type 0) (Q : Serves H) (g : Gr
 
         opens_turn : look I.opened e0.to s0 ≡ none → Opens H w.at.pool w.pairs I.opened s0 e0.to → Rings (hit_of w.at.pool w.pairs s0 e0.to)
         unfolding numbered_of
-        opens_turn l (full words e) = subst (λ (h : Hits). Rings h) (sym e) (stops (λ z. omega arith))
+        opens_turn l (full words e) = subst (λ (h : Hits). Rings h) (sym e) (stops (some_stops _))
         opens_turn l (number p pairs n e small new h) = subst (λ (h : Hits). Rings h) (sym e) (open_goes l p pairs n small new h)
 
         ring_turn_lem : R (ring_turn w1 e0.kind s0 e0.to)
@@ -380,12 +383,12 @@ module _ (H : Pool → List ℕ → List Pair → Type 0) (Q : Serves H) (g : Gr
         tie_turn_lem : e0.to < g.size → R (tie_turn g w1 e0.kind s0 e0.to)
         unfolding tie_turn tied_of
         tie_turn_lem ht =
-            subst (λ (y : Way). R (tied_of w1 e0.kind s0 e0.to y)) (sym (tie_is g W s0 i0 e0.to hs more ht refl (W.backed s0 i0 hs more))) ring_turn_lem
+            subst (λ (y : std.Result ℕ WalkError). R (tied_of w1 e0.kind s0 e0.to y)) (sym (tie_is g W s0 i0 e0.to hs more ht refl (W.backed s0 i0 hs more))) ring_turn_lem
 
       bond_turn_lem : R (bond_turn g w1 s0 e0)
       unfolding bond_turn
       bond_turn_lem =
-          by_test R (leb g.size e0.to) (λ z. stops (λ y. omega arith))
+          by_test R (leb g.size e0.to) (λ z. stops (some_stops _))
           (λ z. by_test R (eqb e0.to s0) (λ y. absurd (W.apart s0 i0 hs more (eqb-true _ _ y)))
           (λ y. by_test R (eqb (get_or w.met e0.to 0) 0)
           (λ x. enter_turn_lem (eqb-true _ _ x) (leb-false _ _ z))
@@ -395,12 +398,11 @@ module _ (H : Pool → List ℕ → List Pair → Type 0) (Q : Serves H) (g : Gr
     unfolding entry_turn
     entry_turn_lem = by_test R (eqb (get_or w.back s0 0) (i0 + 1)) (λ z. pass_turn (eqb-true _ _ z)) (λ z. bond_turn_lem (eqb-false _ _ z))
 
-  atom_turn : w.at.current ≡ true → R (atom_of g w w.at.here)
+  atom_turn : is_some w.at.here ≡ true → R (atom_of g w (atom_at w))
   unfolding atom_of
   atom_turn r =
-      by_test R (leb (degree_at g w.at.here) (get_or w.taken w.at.here 0))
+      by_test R (leb (degree_at g (atom_at w)) (get_or w.taken (atom_at w) 0))
       (λ z. left_turn r (leb-true _ _ z)) (λ z. entry_turn_lem r (leb-false _ _ z))
 
   pub one_turn : R (turn_of g w)
-  unfolding turn_of
-  one_turn = by_test R w.at.current atom_turn root_turn_lem
+  one_turn = by_place R g w atom_turn root_turn_lem

@@ -12,14 +12,15 @@ use borrow.Author.Tests.{eq-eqb, ne_eqb, eqb-true, eqb-false}
 use Rattle.feature.specs.Pick.{pick, both}
 use Rattle.feature.specs.Bonds.{code_of, same_kind, reverse_of}
 use Rattle.feature.specs.declared.bond_kind.BondKind.{BondKind}
-use Rattle.desk_numbers.specs.Numbers.{inversion}
 use Rattle.feature.proofs.Bonds.{same_code}
 use Rattle.feature.proofs.Cases.{by_eq, by_test, both_first, clash}
-use Rattle.desk_numbers.specs.Numbers.{unknown_target, half_bond, duplicate_bond, incompatible_bond}
 use Rattle.walk_entry.specs.declared.entry.Back.{Back}
 use Rattle.walk_entry.specs.declared.entry.Back.TheVariants.{Found, Twice, Fixed}
-use Rattle.walk_entry.specs.declared.entry.Way.{Way}
-use Rattle.walk_entry.specs.declared.entry.Way.TheVariants.{Enters, Refuses}
+use Rattle.std.specs.Prelude.{Err, None, Ok, Option, Result, Some}
+use Rattle.walk_entry.specs.declared.WalkError.{WalkError}
+use Rattle.walk_entry.specs.declared.WalkError.TheVariants.{DuplicateBond, IncompatibleBond, Inversion}
+use Rattle.write.specs.declared.answer.WriteError.TheVariants.{Stopped}
+use Rattle.trip_graph.specs.Walked.{blames_end}
 use Rattle.walk_entry.specs.Graph.{Graph, kind_at, degree_at, bond_in, bond_of}
 use Rattle.walk_entry.specs.Ways.{is_fixed, even, scan_in, scan_of, judged_back, way_of}
 use Rattle.walk_entry.specs.Ties.{tie_of}
@@ -49,7 +50,7 @@ module _ (bonds first : List ℕ) (t s : ℕ) where
 
 -- the entry i of s leads to t: t is entered by its entry back, unless its mark would have to be turned and can't be
 pub way_is : (g : Graph) → Simple g → (s i t : ℕ) → t < g.size → (bond_of g s i).to ≡ t
-    → (k : Backed g s t (bond_of g s i)) → way_of g (bond_of g s i).kind s t ≡ pick (both (is_fixed (kind_at g t)) (even k.place)) (Refuses inversion t 0) (Enters (suc k.place))
+    → (k : Backed g s t (bond_of g s i)) → way_of g (bond_of g s i).kind s t ≡ pick (both (is_fixed (kind_at g t)) (even k.place)) (Err (Inversion t)) (Ok (suc k.place))
 unfolding way_of judged_back
 way_is g S s i t ht e k =
     let z : suc k.place - 1 ≡ k.place = omega arith in
@@ -59,12 +60,12 @@ way_is g S s i t ht e k =
     (λ q. rw (q, ne_eqb (suc k.place) 0 (λ y. omega arith), z, eq-eqb (code_of (bond_of g t k.place).kind) (code_of (reverse_of (bond_of g s i).kind)) (ap code_of k.reversed)))
 
 pub way_enters : (g : Graph) → Simple g → (s i t : ℕ) → t < g.size → (bond_of g s i).to ≡ t → is_fixed (kind_at g t) ≡ false
-    → (k : Backed g s t (bond_of g s i)) → way_of g (bond_of g s i).kind s t ≡ Enters (suc k.place)
+    → (k : Backed g s t (bond_of g s i)) → way_of g (bond_of g s i).kind s t ≡ Ok (suc k.place)
 way_enters g S s i t ht e f k = way_is g S s i t ht e k ∙ rw f
 
 -- the entry i of s leads to t, which was met: each holds one entry for the other, the reverse
 pub tie_is : (g : Graph) → Simple g → (s i t : ℕ) → s < g.size → i < degree_at g s → t < g.size → (bond_of g s i).to ≡ t
-    → (k : Backed g s t (bond_of g s i)) → tie_of g (bond_of g s i).kind s t ≡ Enters (suc k.place)
+    → (k : Backed g s t (bond_of g s i)) → tie_of g (bond_of g s i).kind s t ≡ Ok (suc k.place)
 unfolding tied_by is_twice
 tie_is g S s i t hs hi ht e k =
     let z : suc k.place - 1 ≡ k.place = omega arith in
@@ -157,18 +158,18 @@ pub record Answers (g : Graph) (k : BondKind) (s t b : ℕ) : Type 0 where
   pub reversed : (bond_of g t (b - 1)).kind ≡ reverse_of k
 
 -- a new atom is entered by such an entry, or it is refused with a number
-unfoldable pub Passes : Graph → BondKind → ℕ → ℕ → Way → Type 0
-Passes g k s t (Enters b) = Answers g k s t b
-Passes g k s t (Refuses r a b) = r ≢ 0
+unfoldable pub Passes : Graph → BondKind → ℕ → ℕ → Result ℕ WalkError → Type 0
+Passes g k s t (Ok b) = Answers g k s t b
+Passes g k s t (Err why) = Unit {0}
 
 judged_passes : (g : Graph) (k : BondKind) (s t : ℕ) (fixed : Bool) (x : Back) → Tells g.bonds g.first t s fixed (degree_at g t) x → Passes g k s t (judged_back g k s t x)
 unfolding judged_back Passes Tells
-judged_passes g k s t fixed Fixed h = λ e. omega arith
-judged_passes g k s t fixed Twice h = λ e. omega arith
+judged_passes g k s t fixed Fixed h = tt
+judged_passes g k s t fixed Twice h = tt
 judged_passes g k s t fixed (Found b) h =
-    by_test (Passes g k s t) (eqb b 0) (λ q e. omega arith)
+    by_test (Passes g k s t) (eqb b 0) (λ q. tt)
     (λ q. by_test (Passes g k s t) (same_kind (bond_of g t (b - 1)).kind (reverse_of k))
-    (λ z. record { some = eqb-false _ _ q; sole = h; reversed = same_kinds _ _ z }) (λ z e. omega arith))
+    (λ z. record { some = eqb-false _ _ q; sole = h; reversed = same_kinds _ _ z }) (λ z. tt))
 
 pub way_passes : (g : Graph) (k : BondKind) (s t : ℕ) → Passes g k s t (way_of g k s t)
 unfolding way_of
@@ -180,9 +181,9 @@ pub record Tied (g : Graph) (k : BondKind) (s t b : ℕ) : Type 0 where
   pub answers : Answers g k s t b
   pub once : (i j : ℕ) → i < degree_at g s → j < degree_at g s → (bond_of g s i).to ≡ t → (bond_of g s j).to ≡ t → i ≡ j
 
-unfoldable pub Ties : Graph → BondKind → ℕ → ℕ → Way → Type 0
-Ties g k s t (Enters b) = Tied g k s t b
-Ties g k s t (Refuses r a b) = r ≢ 0
+unfoldable pub Ties : Graph → BondKind → ℕ → ℕ → Result ℕ WalkError → Type 0
+Ties g k s t (Ok b) = Tied g k s t b
+Ties g k s t (Err why) = Unit {0}
 
 -- no two, where the scan doesn't say so
 tells_once : (g : Graph) (s t : ℕ) (x : Back) → Tells g.bonds g.first s t false (degree_at g s) x → is_twice x ≡ false
@@ -195,14 +196,14 @@ tells_once g s t Fixed h q i j hi hj ei ej = clash h refl
 tied_ties : (g : Graph) (k : BondKind) (s t : ℕ) (y x : Back) → Tells g.bonds g.first s t false (degree_at g s) y
     → Tells g.bonds g.first t s false (degree_at g t) x → Ties g k s t (tied_by g k s t (is_twice y) x)
 unfolding tied_by Ties Tells
-tied_ties g k s t y Fixed n h = λ e. omega arith
-tied_ties g k s t y Twice n h = λ e. omega arith
+tied_ties g k s t y Fixed n h = tt
+tied_ties g k s t y Twice n h = tt
 tied_ties g k s t y (Found b) n h =
-    by_test (Ties g k s t) (eqb b 0) (λ q e. omega arith)
-    (λ q. by_test (Ties g k s t) (is_twice y) (λ z e. omega arith)
+    by_test (Ties g k s t) (eqb b 0) (λ q. tt)
+    (λ q. by_test (Ties g k s t) (is_twice y) (λ z. tt)
     (λ z. by_test (Ties g k s t) (same_kind (bond_of g t (b - 1)).kind (reverse_of k))
     (λ p. record { answers = record { some = eqb-false _ _ q; sole = h; reversed = same_kinds _ _ p }; once = tells_once g s t y n z })
-    (λ p e. omega arith)))
+    (λ p. tt)))
 
 pub tie_ties : (g : Graph) (k : BondKind) (s t : ℕ) → Ties g k s t (tie_of g k s t)
 tie_ties g k s t =
@@ -211,18 +212,21 @@ tie_ties g k s t =
     (scan_tells g.bonds g.first s t false (degree_at g s)) (scan_tells g.bonds g.first t s false (degree_at g t)))
 
 -- ---- what refuses a bond whose target holds the reverse
--- no number of a bond with one end, of one whose ends do not match, or of a target that is no atom
-pub record NoEnd (r : ℕ) : Type 0 where
-  pub target : r ≢ unknown_target
-  pub half : r ≢ half_bond
-  pub match : r ≢ incompatible_bond
+-- not for a bond with one end, for one whose ends do not match, or for a target that is no atom
+abbrev pub EndsWell : WalkError → Type 0
+EndsWell why = blames_end (Err (Stopped why)) ≡ false
 
-unfoldable pub Allows : Way → Type 0
-Allows (Enters b) = Unit {0}
-Allows (Refuses r a b) = NoEnd r
+abbrev pub NoEnd : Option WalkError → Type 0
+NoEnd None = Unit {0}
+NoEnd (Some why) = EndsWell why
 
-pub twice_ends : NoEnd duplicate_bond
-twice_ends = record { target = λ z. omega arith; half = λ z. omega arith; match = λ z. omega arith }
+unfoldable pub Allows : Result ℕ WalkError → Type 0
+Allows (Ok b) = Unit {0}
+Allows (Err why) = EndsWell why
+
+pub twice_ends : (s t : ℕ) → EndsWell (DuplicateBond s t)
+unfolding blames_end
+twice_ends s t = refl
 
 module _ (g : Graph) (s i t : ℕ) (B : Backed g s t (bond_of g s i)) where
   abbrev kind : BondKind
@@ -232,7 +236,7 @@ module _ (g : Graph) (s i t : ℕ) (B : Backed g s t (bond_of g s i)) where
   sole_place : (b : ℕ) → Sole g.bonds g.first t s (degree_at g t) b → b - 1 ≡ B.place
   sole_place b h = omega (arith, h.only B.place B.within B.leads)
 
-  sole_allows : (b : ℕ) → Sole g.bonds g.first t s (degree_at g t) b → Allows (pick (same_kind (bond_of g t (b - 1)).kind (reverse_of kind)) (Enters b) (Refuses incompatible_bond t s))
+  sole_allows : (b : ℕ) → Sole g.bonds g.first t s (degree_at g t) b → Allows (pick (same_kind (bond_of g t (b - 1)).kind (reverse_of kind)) (Ok b) (Err (IncompatibleBond t s)))
   unfolding Allows
   sole_allows b h =
       by_test Allows (same_kind (bond_of g t (b - 1)).kind (reverse_of kind)) (λ q. tt)
@@ -242,9 +246,9 @@ module _ (g : Graph) (s i t : ℕ) (B : Backed g s t (bond_of g s i)) where
   some_back b h z = omega (arith, h.only B.place B.within B.leads)
 
   judged_allows : (fixed : Bool) (x : Back) → Tells g.bonds g.first t s fixed (degree_at g t) x → Allows (judged_back g kind s t x)
-  unfolding judged_back Allows Tells
-  judged_allows fixed Fixed h = record { target = λ z. omega arith; half = λ z. omega arith; match = λ z. omega arith }
-  judged_allows fixed Twice h = twice_ends
+  unfolding judged_back Allows Tells blames_end
+  judged_allows fixed Fixed h = refl
+  judged_allows fixed Twice h = refl
   judged_allows fixed (Found b) h = by_test Allows (eqb b 0) (λ q. absurd (some_back b h (eqb-true _ _ q))) (λ q. sole_allows b h)
 
   pub way_allows : Allows (way_of g kind s t)
@@ -254,10 +258,10 @@ module _ (g : Graph) (s i t : ℕ) (B : Backed g s t (bond_of g s i)) where
 
   tied_allows : (twice : Bool) (x : Back) → Tells g.bonds g.first t s false (degree_at g t) x → Allows (tied_by g kind s t twice x)
   unfolding tied_by Allows Tells
-  tied_allows twice Fixed h = twice_ends
-  tied_allows twice Twice h = twice_ends
+  tied_allows twice Fixed h = twice_ends s t
+  tied_allows twice Twice h = twice_ends s t
   tied_allows twice (Found b) h =
-      by_test Allows (eqb b 0) (λ q. absurd (some_back b h (eqb-true _ _ q))) (λ q. by_test Allows twice (λ z. twice_ends) (λ z. sole_allows b h))
+      by_test Allows (eqb b 0) (λ q. absurd (some_back b h (eqb-true _ _ q))) (λ q. by_test Allows twice (λ z. twice_ends s t) (λ z. sole_allows b h))
 
   pub tie_allows : Allows (tie_of g kind s t)
   tie_allows =

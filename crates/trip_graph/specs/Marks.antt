@@ -5,7 +5,7 @@ use Rattle.feature.specs.Pick.{pick, both, neither}
 use Rattle.feature.specs.Kinds.{no_hydrogens, th1, th2, with_configuration, in_range, invert_of}
 use Rattle.feature.specs.declared.atom_kind.AtomKind.{AtomKind}
 use Rattle.feature.specs.declared.atom_kind.AtomKind.TheVariants.{Star, Aliphatic, Aromatic, Bracket}
-use Rattle.feature.specs.declared.atom_kind.Inverted.TheVariants.{Turned}
+use Rattle.std.specs.Prelude.{Some}
 use Rattle.survive.specs.Survive.{survives}
 use Rattle.walk_entry.specs.Ways.{is_fixed, even, said_as}
 
@@ -48,6 +48,6 @@ back_kind k b = pick (both (bears_hydrogen k) (odd_index b)) (toggled k) k
 pub record MarksServe : Type 0 where
   pub root : (k : AtomKind) → said_as k 0 ≡ back_kind k 0
   pub free : (k : AtomKind) → Tetrahedral k → is_fixed k ≡ false
-  pub built : (k : AtomKind) (b : ℕ) → Tetrahedral k → b ≢ 0 → invert_of (said_as k b) ≡ Turned (back_kind k b)
+  pub built : (k : AtomKind) (b : ℕ) → Tetrahedral k → b ≢ 0 → invert_of (said_as k b) ≡ Some (back_kind k b)
   pub held : (k : AtomKind) (b : ℕ) → Tetrahedral k → in_range k ≡ true → in_range (back_kind k b) ≡ true
   pub kept : (k : AtomKind) (b : ℕ) → survives k ≡ true → survives (said_as k b) ≡ true

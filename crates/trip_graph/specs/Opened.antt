@@ -4,7 +4,7 @@ use Rattle.std.specs.Prelude.{ℕ, ◌≤◌, ◌≡◌, ◌≢◌, List, [], �
 use Rattle.std.proofs.Math.Option.{Option, none, some}
 use Rattle.feature.specs.Pick.{pick}
 use Rattle.join_pool.specs.declared.Pool.{Pool}
-use Rattle.join_pool.specs.declared.Given.TheVariants.{Number, Full}
+use Rattle.std.specs.Prelude.{None, Some}
 use Rattle.join_pool.specs.Pairs.{highest, hits, hit_of, empty_of}
 use Rattle.writer.specs.Line.{Event, Root, Extend, Join, Pop}
 use Rattle.write.specs.Write.{pair_words}
@@ -51,14 +51,14 @@ pub data Distinct : List Pair → Type 0 where
 pub record Closes (H : Pool → List ℕ → List Pair → Type 0) (p : Pool) (pairs : List ℕ) (P : List Pair) (s t : ℕ) (x : Pair) : Type 0 where
   pub after : Pool
   pub words : List ℕ
-  pub is : hit_of p pairs s t ≡ hits (Number after x.num) words
+  pub is : hit_of p pairs s t ≡ hits (Some (after, x.num)) words
   pub small : x.num ≤ highest
   pub holds : H after words (del t s P)
 
 -- a call from s for a pair that is not open answers that no number is left, or opens the pair with a number up to 99 that is not open
 pub data Opens (H : Pool → List ℕ → List Pair → Type 0) (p : Pool) (pairs : List ℕ) (P : List Pair) (s t : ℕ) : Type 0 where
-  full : (words : List ℕ) → hit_of p pairs s t ≡ hits Full words → Opens H p pairs P s t
-  number : (after : Pool) (words : List ℕ) (n : ℕ) → hit_of p pairs s t ≡ hits (Number after n) words → n ≤ highest → num_in n P ≡ false
+  full : (words : List ℕ) → hit_of p pairs s t ≡ hits None words → Opens H p pairs P s t
+  number : (after : Pool) (words : List ℕ) (n : ℕ) → hit_of p pairs s t ≡ hits (Some (after, n)) words → n ≤ highest → num_in n P ≡ false
       → ((j : ℕ) → H after words (ring_pair s t n j ∷ P)) → Opens H p pairs P s t
 
 pub record Serves (H : Pool → List ℕ → List Pair → Type 0) : Type 0 where

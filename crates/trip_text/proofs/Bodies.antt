@@ -12,7 +12,7 @@ use Rattle.feature.specs.Text.{byte, bytes}
 use Rattle.feature.specs.declared.atom_kind.AtomKind.{AtomKind}
 use Rattle.feature.specs.declared.bond_kind.BondKind.{BondKind}
 use Rattle.spell.specs.Spell.{atom_text, bond_text, rnum_text}
-use Rattle.read_token.specs.declared.scanner.Found.TheVariants.{Atom}
+use Rattle.std.specs.Prelude.{Ok, Some}
 use Rattle.read_token.specs.Scan.{peek_at, atom_at}
 use Rattle.survive.specs.Survive.{survives, can_follow}
 use Rattle.survive.proofs.ReadBack.{read_back_at}
@@ -26,7 +26,7 @@ use Rattle.trip_text.proofs.Marks.{leads, ringed}
 
 -- an atom that survives, where what follows it can't be a second letter
 pub atom_read : (k : AtomKind) {s : List ℕ} {at : ℕ} (q : List ℕ) → survives k ≡ true → can_follow q ≡ true → Stands s at (atom_text k ++ q)
-    → atom_at s at ≡ Atom k (at + length (atom_text k))
+    → atom_at s at ≡ Ok (Some (k, at + length (atom_text k)))
 atom_read k {s} {at} q ok c h = read_back_at s at q k ok c h.is
 
 module _ (f : ℕ) (s : List ℕ) (room at n : ℕ) (K : Rest) (q : List ℕ) where
@@ -60,7 +60,7 @@ module _ (f : ℕ) (s : List ℕ) (room at n : ℕ) (K : Rest) (q : List ℕ) wh
   pub branch_read : Stands s at (byte "(" ∷ q)
       → bodies (suc f) s room at n K
       ≡ pick (eqb room 0) (Nest at ∷ [])
-      (line_p (bodies f s (room - 1)) s (led_at s (at + 1)).next (led_at s (at + 1)).lead (close_p s (λ at'. bodies f s room at' n K)))
+      (line_p (bodies f s (room - 1)) s (led_at s (at + 1)).next (led_at s (at + 1)).value (close_p s (λ at'. bodies f s room at' n K)))
   unfolding bodies branch_p body_at body_of
   branch_read h = simp (first h)
 
@@ -78,7 +78,7 @@ start_read f s room at K q k ok c h = simp (atom_read k q ok c h)
 -- a branch's first atom, with its bond
 pub opened_read : (f : ℕ) (s : List ℕ) (room at : ℕ) (K : Rest) (q : List ℕ) (b : BondKind) (k : AtomKind) → survives k ≡ true → can_follow q ≡ true
     → Stands s at ((bond_text b ++ atom_text k) ++ q)
-    → line_p (bodies f s room) s (led_at s at).next (led_at s at).lead K
+    → line_p (bodies f s room) s (led_at s at).next (led_at s at).value K
     ≡ Enter (Bond b) k (at + length (bond_text b)) ∷ bodies f s room (at + length (bond_text b) + length (atom_text k)) (0 + 1) K
 unfolding line_p atom_p found_p
 opened_read f s room at K q b k ok c h =

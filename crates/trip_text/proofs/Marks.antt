@@ -11,8 +11,7 @@ use Rattle.feature.specs.Text.{byte}
 use Rattle.feature.specs.declared.bond_kind.BondKind.{BondKind}
 use Rattle.feature.specs.declared.bond_kind.BondKind.TheVariants as kind
 use Rattle.spell.specs.Spell.{bond_text, digits, rnum_text}
-use Rattle.read_token.specs.declared.scanner.Found.TheVariants.{Nothing}
-use Rattle.read_token.specs.declared.read_rnum.Ring.TheVariants.{Number}
+use Rattle.std.specs.Prelude.{None, Ok, Some}
 use Rattle.read_token.specs.Scan.{peek_at, digit_of, digit_at, sign_kind, mark_width, bond_at, percent_at, rnum_at, aromatic_of, aliphatic_of, organic_at, bracket_at, star_at, or_else, other_at, atom_at}
 use Rattle.read_line.specs.declared.lead.Lead.TheVariants.{Bond}
 use Rattle.read_line.specs.declared.lead.Body.TheVariants.{Unit}
@@ -23,7 +22,7 @@ use Rattle.trip_text.proofs.Heads.{Plain, Facts, facts}
 -- a bond leads a text in
 pub record Leads (s : List ℕ) (at : ℕ) (b : BondKind) : Type 0 where
   pub body : body_at s at ≡ Unit
-  pub lead : (led_at s at).lead ≡ Bond b
+  pub lead : (led_at s at).value ≡ Bond b
   pub next : (led_at s at).next ≡ at + length (bond_text b)
 
 module _ (s : List ℕ) (at : ℕ) where
@@ -70,7 +69,7 @@ digit_at_lem d h z = rw (first z) (digit_worth d h)
 
 -- where there is a digit or "%", there is no atom
 abbrev Atomless : ℕ → Type 0
-Atomless x = (s : List ℕ) (at : ℕ) → peek_at s at ≡ x → atom_at s at ≡ Nothing
+Atomless x = (s : List ℕ) (at : ℕ) → peek_at s at ≡ x → atom_at s at ≡ (Ok None)
 
 percent_atomless : Atomless (byte "%")
 unfolding atom_at organic_at aromatic_of aliphatic_of other_at or_else bracket_at star_at
@@ -98,8 +97,8 @@ digit_atomless =
 
 -- a ring number's text is no atom, and is read as the number to its end, whatever follows
 pub record Ringed (s : List ℕ) (at n : ℕ) : Type 0 where
-  pub none : atom_at s at ≡ Nothing
-  pub number : rnum_at s at ≡ Number n (at + length (rnum_text n))
+  pub none : atom_at s at ≡ (Ok None)
+  pub number : rnum_at s at ≡ Ok (Some (n, at + length (rnum_text n)))
 
 one_digit : (s : List ℕ) (at n : ℕ) (q : List ℕ) → n < 10 → Stands s at (rnum_text n ++ q) → Ringed s at n
 unfolding rnum_text rnum_at
@@ -128,7 +127,7 @@ two_digits s at n q l h z =
       none = percent_atomless s at (first g);
       number =
           simp (percent_worth g, first g, d, e, ne_eqb (n / 10) 10 (λ y. omega arith), ne_eqb (n % 10) 10 (λ y. omega arith), a, b)
-          (ap (λ (v : ℕ). Number v (at + 1 + 2)) v ∙ ap (Number n) (omega arith));
+          (ap (λ (v : ℕ). Ok (Some (v, at + 1 + 2))) v ∙ ap ((λ (place : ℕ). Ok (Some (n, place)))) (omega arith));
     }
 
 pub ringed : (s : List ℕ) (at n : ℕ) (q : List ℕ) → n ≤ 99 → Stands s at (rnum_text n ++ q) → Ringed s at n

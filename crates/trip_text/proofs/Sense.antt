@@ -65,7 +65,7 @@ pub data Mode : Type 0 where
 -- what is said there with so much fuel, with so many atoms on this level before
 unfoldable pub met : Mode → ℕ → List ℕ → ℕ → ℕ → ℕ → Rest → List ReadEvent
 met body f s room at n K = bodies f s room at n K
-met opened f s room at n K = line_p (bodies f s room) s (led_at s at).next (led_at s at).lead K
+met opened f s room at n K = line_p (bodies f s room) s (led_at s at).next (led_at s at).value K
 met start f s room at n K = line_p (bodies f s room) s at Dot K
 
 -- a line and a branch have no atom before them

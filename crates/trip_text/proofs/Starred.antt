@@ -19,8 +19,8 @@ use Rattle.survive.proofs.ReadBack.{text_of}
 use Rattle.survive.proofs.Shift.{front}
 use Rattle.survive.proofs.Somehow.{Somehow, atom, lacks, atom_somehow}
 use Rattle.read_token.specs.declared.scanner.Missing.{Missing}
-use Rattle.read_token.specs.declared.scanner.Found.{Found}
-use Rattle.read_token.specs.declared.scanner.Found.TheVariants.{Atom, Nothing, Lacks}
+use Rattle.std.specs.Prelude.{Err, None, Ok, Some}
+use Rattle.read_token.specs.Scan.{Found}
 use Rattle.read_token.specs.Scan.{peek_at, atom_at, sign_kind, mark_width}
 use Rattle.read_line.specs.declared.lead.Lead.{Lead}
 use Rattle.read_line.specs.declared.lead.Lead.TheVariants.{Dot, Bond}
@@ -107,15 +107,15 @@ pub data Steps (x : List ReadEvent) (l : Lead) (y : List ReadEvent) : Type 0 whe
 
 found_steps : (s : List ℕ) (at : ℕ) (l : Lead) (n : ℕ) (K : Rest) (f : Found) (to : ℕ) → Somehow f to → Steps (found_p s at l n K f) l (K to (n + 1))
 unfolding found_p
-found_steps s at l n K (Atom k m) to (atom j i) = entered k at refl
-found_steps s at l n K (Lacks m) to (lacks j i) = missed m refl
-found_steps s at l n K Nothing to x = elim x [ ]
+found_steps s at l n K (Ok (Some (k, m))) to (atom j i) = entered k at refl
+found_steps s at l n K (Err m) to (lacks j i) = missed m refl
+found_steps s at l n K (Ok None) to x = elim x [ ]
 
 union_steps : (s : List ℕ) (at : ℕ) (b : BondKind) (n : ℕ) (K : Rest) (f : Found) (to : ℕ) → Somehow f to → Steps (union_by s at b n K f) (Bond b) (K to (n + 1))
 unfolding union_by
-union_steps s at b n K (Atom k m) to (atom j i) = entered k at refl
-union_steps s at b n K (Lacks m) to (lacks j i) = missed m refl
-union_steps s at b n K Nothing to x = elim x [ ]
+union_steps s at b n K (Ok (Some (k, m))) to (atom j i) = entered k at refl
+union_steps s at b n K (Err m) to (lacks j i) = missed m refl
+union_steps s at b n K (Ok None) to x = elim x [ ]
 
 module _ (f : ℕ) (s : List ℕ) (room at n : ℕ) (K : Rest) (q : List ℕ) (k : AtomKind) (ok : in_range k ≡ true) (c : can_follow q ≡ true) where
   extend_steps : (b : BondKind) → Stands s at ((bond_text b ++ atom_text k) ++ q)
@@ -137,7 +137,7 @@ module _ (f : ℕ) (s : List ℕ) (room at n : ℕ) (K : Rest) (q : List ℕ) (k
   start_steps h = found_steps s at Dot 0 (λ at' n'. bodies f s room at' n' K) (atom_at s at) _ (atom_somehow s at q k ok c h.is)
 
   opened_steps : (b : BondKind) → Stands s at ((bond_text b ++ atom_text k) ++ q)
-      → Steps (line_p (bodies f s room) s (led_at s at).next (led_at s at).lead K) (Bond b) (bodies f s room (at + length (bond_text b) + length (atom_text k)) (0 + 1) K)
+      → Steps (line_p (bodies f s room) s (led_at s at).next (led_at s at).value K) (Bond b) (bodies f s room (at + length (bond_text b) + length (atom_text k)) (0 + 1) K)
   unfolding line_p atom_p
   opened_steps b h =
       let l = leads b (atom_text k) q (ranged_plain k ok) h in
@@ -222,8 +222,8 @@ module _ (a b : List ℕ) where
       rw (branch_read f a room at n K _ h, branch_read g b room to n L _ k) (by_room (eqb room 0) (inner (bodies_alike f g)))
     where
       inner : ((room at to n : ℕ) (K L : Rest) (t u : List ℕ) → Sub t u → Stands a at t → Stands b to u → Fuelled a at f → Fuelled b to g → Follows a b at to K L → Alike (bodies f a room at n K) (bodies g b room to n L))
-          → Alike (line_p (bodies f a (room - 1)) a (led_at a (at + 1)).next (led_at a (at + 1)).lead (close_p a (λ at'. bodies f a room at' n K)))
-          (line_p (bodies g b (room - 1)) b (led_at b (to + 1)).next (led_at b (to + 1)).lead (close_p b (λ at'. bodies g b room at' n L)))
+          → Alike (line_p (bodies f a (room - 1)) a (led_at a (at + 1)).next (led_at a (at + 1)).value (close_p a (λ at'. bodies f a room at' n K)))
+          (line_p (bodies g b (room - 1)) b (led_at b (to + 1)).next (led_at b (to + 1)).value (close_p b (λ at'. bodies g b room at' n L)))
       inner rec =
           let h1 = after (atom_text Star) t (after (bond_text c) (atom_text Star ++ t) (apart (bond_text c) (atom_text Star) t (next h))) in
           let k1 = after (atom_text j) u (after (bond_text c) (atom_text j ++ u) (apart (bond_text c) (atom_text j) u (next k))) in

@@ -4,7 +4,9 @@ use mathlib.Core.Path.{◌≡◌, refl, ◌∙◌, ap, sym, subst}
 use mathlib.Core.Logic.{◌≢◌}
 use mathlib.Core.List.{List, [], ◌++◌}
 use native.Mathlib.Omega.{arith}
-use borrow.Author.Tests.{eq-eqb, ne_eqb}
+use mathlib.Core.Bool.{Bool, true, false}
+use Rattle.std.specs.Prelude.{is_none, is_some, Option, Some, None}
+use Rattle.feature.proofs.Cases.{impossible}
 use Rattle.writer.specs.Line.{Event}
 use Rattle.writer.specs.Tables.{Spoken, spoken, writer, say_all}
 use Rattle.walk_entry.specs.Graph.{Graph}
@@ -18,35 +20,56 @@ use Rattle.walk.proofs.Moves.{say_append}
 pub record Going (g : Graph) (t : ℕ) (w₀ : Walk) (s₀ : Spoken) (n : ℕ) (w : Walk) (s : Spoken) : Type 0 where
   pub walks : walk_to g n w ≡ walk_to g t w₀
   pub says : say_all s (events_of g n w) ≡ say_all s₀ (events_of g t w₀)
-  pub sound : w.at.refusal ≡ 0
+  pub sound : w.at.refusal ≡ None
   pub next : w.at.next + n ≤ t
   pub pend : w.at.pend + n ≤ t
   pub count : w.at.count + n ≤ t
   pub pieces : s.at.pieces + 2 * n ≤ 2 * t
   pub len : s.at.len + 50 * n ≤ 50 * t
 
--- ---- one step of a walk that was not refused, and of one that was
-pub step_on : (g : Graph) (w : Walk) → w.at.refusal ≡ 0 → step_of g w ≡ turn_of g w
-unfolding step_of
-step_on g w e = simp (eq-eqb _ _ e)
+-- ---- whether it was refused
+pub none_is : {A : Type 0} (x : Option A) → is_none x ≡ true → x ≡ None
+none_is None e = refl
+none_is (Some a) e = absurd (let y : false ≡ true = e in impossible cc)
 
-step_off : (g : Graph) (w : Walk) → w.at.refusal ≢ 0 → step_of g w ≡ quiet w
+pub some_is : {A : Type 0} (x : Option A) → x ≢ None → is_none x ≡ false
+some_is None h = absurd (h refl)
+some_is (Some a) h = refl
+
+pub not_none : {A : Type 0} (x : Option A) → is_none x ≡ false → x ≢ None
+not_none None e f = let y : true ≡ false = e in impossible cc
+not_none (Some a) e f = let y : Some a ≡ None = f in impossible cc
+
+pub none_at : {A : Type 0} (x : Option A) (b : Bool) → b ≡ is_some x → b ≡ false → x ≡ None
+none_at None b e f = refl
+none_at (Some a) b e f = absurd (let y : true ≡ false = sym e ∙ f in impossible cc)
+
+pub some_at : {A : Type 0} (x : Option A) (b : Bool) → b ≡ is_some x → b ≡ true → x ≢ None
+some_at None b e f h = let y : false ≡ true = sym e ∙ f in impossible cc
+some_at (Some a) b e f h = let y : Some a ≡ None = h in impossible cc
+
+-- ---- one step of a walk that was not refused, and of one that was
+pub step_on : (g : Graph) (w : Walk) → w.at.refusal ≡ None → step_of g w ≡ turn_of g w
 unfolding step_of
-step_off g w e = simp (ne_eqb _ _ e)
+step_on g w e = rw e refl
+
+step_off : (g : Graph) (w : Walk) → w.at.refusal ≢ None → step_of g w ≡ quiet w
+unfolding step_of
+step_off g w e = simp (some_is w.at.refusal e)
 
 -- which stays as it is and says nothing
-pub walk_off : (g : Graph) (n : ℕ) (w : Walk) → w.at.refusal ≢ 0 → walk_to g n w ≡ w
+pub walk_off : (g : Graph) (n : ℕ) (w : Walk) → w.at.refusal ≢ None → walk_to g n w ≡ w
 unfolding walk_to
 walk_off g zero w e = refl
 walk_off g (suc n) w e = ap (λ (x : Turn). walk_to g n x.after) (step_off g w e) ∙ walk_off g n w e
 
-pub say_off : (g : Graph) (n : ℕ) (w : Walk) → w.at.refusal ≢ 0 → events_of g n w ≡ []
+pub say_off : (g : Graph) (n : ℕ) (w : Walk) → w.at.refusal ≢ None → events_of g n w ≡ []
 unfolding events_of
 say_off g zero w e = refl
 say_off g (suc n) w e = ap (λ (x : Turn). x.said ++ events_of g n x.after) (step_off g w e) ∙ say_off g n w e
 
 -- ---- a turn more
-module _ (g : Graph) (w v : Walk) (s r : Spoken) (sound : w.at.refusal ≡ 0) (did : Did (turn_of g w) v s r) where
+module _ (g : Graph) (w v : Walk) (s r : Spoken) (sound : w.at.refusal ≡ None) (did : Did (turn_of g w) v s r) where
   walk_next : (n : ℕ) → walk_to g (suc n) w ≡ walk_to g n v
   unfolding walk_to
   walk_next n =
@@ -106,8 +129,8 @@ going_near h i =
       len = omega (arith, h, i.len);
     }
 
-pub going_on : {g : Graph} {t : ℕ} {w₀ : Walk} {s₀ : Spoken} (n : ℕ) {w v : Walk} {s r : Spoken} → Going g t w₀ s₀ n w s → 0 < n → Did (turn_of g w) v s r → TurnGrows w.at v.at s.at r.at → v.at.refusal ≡ 0 → Going g t w₀ s₀ (n - 1) v r
-going_on {g} {t} {w₀} {s₀} n {w} {v} {s} {r} i h d o e =
+going_less : {g : Graph} {t : ℕ} {w₀ : Walk} {s₀ : Spoken} (n : ℕ) {w v : Walk} {s r : Spoken} → Going g t w₀ s₀ n w s → 0 < n → Did (turn_of g w) v s r → TurnGrows w.at v.at s.at r.at → v.at.refusal ≡ None → Going g t w₀ s₀ (n - 1) v r
+going_less {g} {t} {w₀} {s₀} n {w} {v} {s} {r} i h d o e =
     record {
       walks = sym (walk_less g w v s r i.sound d n h) ∙ i.walks;
       says = sym (say_less g w v s r i.sound d n h) ∙ i.says;
@@ -119,7 +142,13 @@ going_on {g} {t} {w₀} {s₀} n {w} {v} {s} {r} i h d o e =
       len = omega (arith, h, i.len, o.len);
     }
 
-pub going_off : {g : Graph} {t : ℕ} {w₀ : Walk} {s₀ : Spoken} (n : ℕ) {w v : Walk} {s r : Spoken} → Going g t w₀ s₀ n w s → 0 < n → Did (turn_of g w) v s r → v.at.refusal ≢ 0 → (v ≡ walk_to g t w₀) × (r ≡ say_all s₀ (events_of g t w₀))
+-- a turn more of those from i on
+pub going_on : {g : Graph} {t : ℕ} {w₀ : Walk} {s₀ : Spoken} (n i : ℕ) {w v : Walk} {s r : Spoken} → Going g t w₀ s₀ (n - i) w s → i < n → Did (turn_of g w) v s r → TurnGrows w.at v.at s.at r.at → v.at.refusal ≡ None → Going g t w₀ s₀ (n - (i + 1)) v r
+going_on {g} {t} {w₀} {s₀} n i {w} {v} {s} {r} z h d o e =
+    let m : n - (i + 1) ≡ n - i - 1 = omega arith in
+    subst (λ (k : ℕ). Going g t w₀ s₀ k v r) (sym m) (going_less (n - i) z (omega arith) d o e)
+
+pub going_off : {g : Graph} {t : ℕ} {w₀ : Walk} {s₀ : Spoken} (n : ℕ) {w v : Walk} {s r : Spoken} → Going g t w₀ s₀ n w s → 0 < n → Did (turn_of g w) v s r → v.at.refusal ≢ None → (v ≡ walk_to g t w₀) × (r ≡ say_all s₀ (events_of g t w₀))
 unfolding say_all
 going_off {g} {t} {w₀} {s₀} n {w} {v} {s} {r} i h d e = (
   sym (walk_off g (n - 1) v e) ∙ sym (walk_less g w v s r i.sound d n h) ∙ i.walks,

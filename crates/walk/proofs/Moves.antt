@@ -7,31 +7,28 @@ use native.Mathlib.Omega.{arith}
 use lib.ListN.{get_or}
 use borrow.Author.Tests.{eq-eqb, ne_eqb}
 use Rattle.feature.specs.declared.bond_kind.BondKind.{BondKind}
-use Rattle.desk_numbers.specs.Numbers.{ring_numbers}
 use Rattle.feature.proofs.Cases.{impossible}
 use Rattle.join_pool.specs.declared.Pool.{Pool}
-use Rattle.join_pool.specs.declared.Given.{Given}
-use Rattle.join_pool.specs.declared.Given.TheVariants.{Number, Full}
+use Rattle.std.specs.Prelude.{None, Option, Some}
 use Rattle.join_pool.specs.Pairs.{hit_of}
-use Rattle.join_pool.specs.declared.lent.PoolAnswer.{PoolAnswer}
 use Rattle.writer.specs.declared.Writer.{Writer}
 use Rattle.writer.specs.Line.{Event, Join, Pop}
 use Rattle.writer.specs.Steps.{LineGrows}
 use Rattle.writer.specs.Tables.{Spoken, say_t, say_all, far}
 use Rattle.walk_entry.specs.Graph.{bond_in}
 use Rattle.walk.specs.declared.walker.Walker.{Walker}
-use Rattle.join_pool.specs.Apart.{answer_apart}
-use Rattle.join_pool.specs.declared.lent.Told.TheVariants as told
-use Rattle.walk.specs.declared.walker.Numbered.{Numbered}
-use Rattle.walk.specs.Walk.{Walk, walk, Turn, quiet, numbered_in, refused_as, root_passed, current_at, back_at, at_end, ring_said, pops_of, pops_then, left_in, numbered_of, ring_turn}
+use Rattle.join_pool.specs.Apart.{Call, called, answer_apart, call_of}
+use Rattle.walk_entry.specs.declared.WalkError.{WalkError}
+use Rattle.walk_entry.specs.declared.WalkError.TheVariants.{RingNumbers}
+use Rattle.walk.specs.Walk.{Walk, walk, Turn, quiet, refused_as, pool_put, root_passed, current_at, back_at, at_end, ring_said, pops_of, pops_then, left_in, numbered_of, ring_turn}
 use Rattle.walk.specs.Steps.{Did, TurnOnward, TurnGrows}
 
 -- ---- how far
 pub onward_as : {z y r : Walker} → r ≡ y → TurnOnward z y → TurnOnward z r
 onward_as {z} {y} {r} e h = subst (λ (x : Walker). TurnOnward z x) (sym e) h
 
-pub onward_refused : (z : Walker) (n a b : ℕ) → TurnOnward z (refused_as z n a b)
-onward_refused z n a b = record { next = omega arith; pend = omega arith; count = omega arith }
+pub onward_refused : (z : Walker) (why : WalkError) → TurnOnward z (refused_as z why)
+onward_refused z why = record { next = omega arith; pend = omega arith; count = omega arith }
 
 pub onward_same : (z : Walker) → TurnOnward z z
 onward_same z = record { next = omega arith; pend = omega arith; count = omega arith }
@@ -114,32 +111,39 @@ left_back bonds first back z r a b t e d f h =
     (h ∙ ap (back_at z) f ∙ ap (λ (x : ℕ). back_at z (bond_in bonds first a (x - 1)).to) e ∙ simp (ne_eqb _ _ (λ (q : get_or back a 0 ≡ 0). d (e ∙ q))), onward_as h (onward_back z _))
 
 -- ---- a bond to an atom met before
-told_full : (p : Pool) (g : Given) → (answer_apart p g).told ≡ told.Full → g ≡ Full
-unfolding answer_apart
-told_full p (Number q n) e = absurd (let y : told.Number n ≡ told.Full = e in impossible cc)
-told_full p Full e = refl
+module _ (p q : Pool) (n : Option ℕ) (pairs' : List ℕ) where
+  -- what the pool's call answers and leaves, told from what it answers in its place
+  none_given : (x : Option (Pool × ℕ)) (l : List ℕ) → called q n pairs' ≡ answer_apart p x l → n ≡ None → (x ≡ None) × (l ≡ pairs') × (q ≡ p)
+  unfolding answer_apart
+  none_given (Some (r, m)) l h e = absurd (let y : Some m ≡ None = sym (ap (λ (c : Call). c.number) h) ∙ e in impossible cc)
+  none_given None l h e = (refl, sym (ap (λ (c : Call). c.left) h), ap (λ (c : Call). c.pool) h)
 
-told_number : (p : Pool) (g : Given) (n : ℕ) → (answer_apart p g).told ≡ told.Number n → g ≡ Number (answer_apart p g).pool n
-unfolding answer_apart
-told_number p (Number q m) n e = let y : told.Number m ≡ told.Number n = e in let z : m ≡ n = cc in ap (λ (x : ℕ). Number q x) z
-told_number p Full n e = absurd (let y : told.Full ≡ told.Number n = e in impossible cc)
+  number_given : (m : ℕ) (x : Option (Pool × ℕ)) (l : List ℕ) → called q n pairs' ≡ answer_apart p x l → n ≡ Some m → (x ≡ Some (q, m)) × (l ≡ pairs')
+  unfolding answer_apart
+  number_given m (Some (r, i)) l h e =
+      let y : Some i ≡ Some m = sym (ap (λ (c : Call). c.number) h) ∙ e in
+      let z : i ≡ m = cc in
+      (ap (λ (k : ℕ). Some (r, k)) z ∙ ap (λ (k : Pool). Some (k, m)) (sym (ap (λ (c : Call). c.pool) h)), sym (ap (λ (c : Call). c.left) h))
+  number_given m None l h e = absurd (let y : None ≡ Some m = sym (ap (λ (c : Call). c.number) h) ∙ e in impossible cc)
 
-pub ringed_as : (z r : Walker) (g : Numbered) (k : PoolAnswer) → g ≡ numbered_in z k → r ≡ ring_said g.walker g.walker.pool → r ≡ ring_said z k.pool
-ringed_as z r g k e f = f ∙ ap (λ (x : Numbered). ring_said x.walker x.walker.pool) e
-
-module _ (z r : Walker) (met walked back taken pairs pairs' : List ℕ) (k : BondKind) (s t : ℕ) (g : Numbered) (p0 : g ≡ numbered_in z (answer_apart z.pool (hit_of z.pool pairs s t).answer)) (p1 : pairs' ≡ (hit_of z.pool pairs s t).left) where
-  ring_as : ring_turn (walk z met walked back taken pairs) k s t ≡ numbered_of (walk z met walked back taken pairs) k s t (hit_of z.pool pairs s t).answer pairs'
+module _ (z r : Walker) (met walked back taken pairs pairs' : List ℕ) (k : BondKind) (s t : ℕ) (q : Pool) (n : Option ℕ) (call : called q n pairs' ≡ call_of z.pool (hit_of z.pool pairs s t)) where
+  ring_as : (x : Option (Pool × ℕ)) → (hit_of z.pool pairs s t).answer ≡ x → (hit_of z.pool pairs s t).left ≡ pairs' → ring_turn (walk z met walked back taken pairs) k s t ≡ numbered_of (walk z met walked back taken pairs) k s t x pairs'
   unfolding ring_turn
-  ring_as = ap (numbered_of (walk z met walked back taken pairs) k s t (hit_of z.pool pairs s t).answer) (sym p1)
+  ring_as x e f =
+      ap (λ (y : Option (Pool × ℕ)). numbered_of (walk z met walked back taken pairs) k s t y (hit_of z.pool pairs s t).left) e
+      ∙ ap (numbered_of (walk z met walked back taken pairs) k s t x) f
 
-  pub ring_full : (line : Spoken) → g.told ≡ told.Full → r ≡ refused_as z ring_numbers s t → Did (ring_turn (walk z met walked back taken pairs) k s t) (walk r met walked back taken pairs') line line
+  pub ring_full : (line : Spoken) → n ≡ None → r ≡ refused_as (pool_put z z.pend q) (RingNumbers s t) → Did (ring_turn (walk z met walked back taken pairs) k s t) (walk r met walked back taken pairs') line line
   unfolding numbered_of
   ring_full line e f =
-      did_as (ring_as ∙ ap (λ (x : Given). numbered_of (walk z met walked back taken pairs) k s t x pairs') (told_full z.pool (hit_of z.pool pairs s t).answer (sym (ap (λ (x : Numbered). x.told) p0) ∙ e)))
-      (did_quiet (walk (refused_as z ring_numbers s t) met walked back taken pairs') _ line (ap (λ (x : Walker). walk x met walked back taken pairs') f))
+      let g = none_given z.pool q n pairs' (hit_of z.pool pairs s t).answer (hit_of z.pool pairs s t).left call e in
+      did_as (ring_as None g.0 g.1)
+      (did_quiet (walk (refused_as z (RingNumbers s t)) met walked back taken pairs') _ line
+      (ap (λ (x : Walker). walk x met walked back taken pairs') (f ∙ ap (λ (x : Pool). refused_as (pool_put z z.pend x) (RingNumbers s t)) g.2)))
 
-  pub ring_number : (line popped said : Spoken) (n : ℕ) → g.told ≡ told.Number n → r ≡ ring_said g.walker g.walker.pool → popped ≡ say_all line (pops_of z.pend) → said ≡ say_t popped (Join k n) → Did (ring_turn (walk z met walked back taken pairs) k s t) (walk r met walked back taken pairs') line said
+  pub ring_number : (line popped said : Spoken) (m : ℕ) → n ≡ Some m → r ≡ ring_said z q → popped ≡ say_all line (pops_of z.pend) → said ≡ say_t popped (Join k m) → Did (ring_turn (walk z met walked back taken pairs) k s t) (walk r met walked back taken pairs') line said
   unfolding numbered_of
-  ring_number line popped said n e f d i =
-      did_as (ring_as ∙ ap (λ (x : Given). numbered_of (walk z met walked back taken pairs) k s t x pairs') (told_number z.pool (hit_of z.pool pairs s t).answer n (sym (ap (λ (x : Numbered). x.told) p0) ∙ e)))
-      (record { after = ap (λ (x : Walker). walk x met walked back taken pairs') (ringed_as z r g _ p0 f); said = say_then line popped said z.pend (Join k n) d i })
+  ring_number line popped said m e f d i =
+      let g = number_given z.pool q n pairs' m (hit_of z.pool pairs s t).answer (hit_of z.pool pairs s t).left call e in
+      did_as (ring_as (Some (q, m)) g.0 g.1)
+      (record { after = ap (λ (x : Walker). walk x met walked back taken pairs') f; said = say_then line popped said z.pend (Join k m) d i })

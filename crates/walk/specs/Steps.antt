@@ -4,7 +4,20 @@ use Rattle.std.specs.Prelude.{◌+◌, ◌≤◌, ◌<◌, ◌≡◌}
 use Rattle.walk.specs.declared.walker.Walker.{Walker}
 use Rattle.writer.specs.declared.Writer.{Writer}
 use Rattle.writer.specs.Tables.{Spoken, say_all, far}
-use Rattle.walk.specs.Walk.{Walk, Turn}
+use Rattle.walk.specs.declared.tables.Tables.{Tables}
+use Rattle.walk.specs.Walk.{Walk, walk, Turn}
+
+-- the walk over the tables that code fills
+abbrev pub held_in : Walker → Tables → Walk
+held_in z t = walk z t.met.now t.walked.now t.back.now t.taken.now t.pairs.now
+
+-- each is the one that was lent
+pub record SameTables (t u : Tables) : Type 0 where
+  pub met : u.met.ghost_name ≡ t.met.ghost_name
+  pub walked : u.walked.ghost_name ≡ t.walked.ghost_name
+  pub back : u.back.ghost_name ≡ t.back.ghost_name
+  pub taken : u.taken.ghost_name ≡ t.taken.ghost_name
+  pub pairs : u.pairs.ghost_name ≡ t.pairs.ghost_name
 
 -- a function leaves the walk that a turn leaves, and the writer has said what the turn says
 pub record Did (x : Turn) (w : Walk) (s n : Spoken) : Type 0 where

@@ -4,27 +4,22 @@
 -- new, `Ways` says whether it can be entered: 10, 8, 7 and 9. If it was met before, `Ties` says whether each of the two holds
 -- one entry for the other, of reversed kind: 7, 8 and 9; then a ring number is asked for, 11 if there is none left. Atoms that
 -- were left since the last event are popped before the next one; those left at the end of a component never are.
-use Rattle.std.specs.Prelude.{ℕ, zero, suc, ◌+◌, ◌-◌, ◌*◌, List, [], ◌∷◌, ◌++◌, Bool, true, false, get_or, set, leb, eqb}
+use Rattle.std.specs.Prelude.{ℕ, zero, suc, ◌+◌, ◌-◌, ◌*◌, List, [], ◌∷◌, ◌++◌, get_or, set, leb, eqb, is_none, Option, Some, None, Result, Ok, Err}
 use Rattle.feature.specs.Pick.{pick}
 use Rattle.feature.specs.declared.bond_kind.BondKind.{BondKind}
-use Rattle.desk_numbers.specs.Numbers.{unknown_target, loop, ring_numbers}
 use Rattle.join_pool.specs.declared.Pool.{Pool}
-use Rattle.join_pool.specs.declared.Given.{Given}
-use Rattle.join_pool.specs.declared.Given.TheVariants.{Number, Full}
+use Rattle.walk_entry.specs.declared.WalkError.{WalkError}
+use Rattle.walk_entry.specs.declared.WalkError.TheVariants.{UnknownTarget, Loop, RingNumbers}
 use Rattle.join_pool.specs.Pairs.{hit_of, empty_of}
-use Rattle.join_pool.specs.declared.lent.PoolAnswer.{PoolAnswer}
 use Rattle.writer.specs.Line.{Event, Root, Extend, Join, Pop}
-use Rattle.walk_entry.specs.declared.entry.Way.{Way}
-use Rattle.walk_entry.specs.declared.entry.Way.TheVariants.{Enters, Refuses}
 use Rattle.walk_entry.specs.Graph.{BondEntry, Graph, kind_at, degree_at, bond_in, bond_of}
 use Rattle.walk_entry.specs.Ways.{said_as, way_of}
 use Rattle.walk_entry.specs.Ties.{tie_of}
 use Rattle.walk.specs.declared.walker.Walker.{Walker}
-use Rattle.walk.specs.declared.walker.Numbered.{Numbered}
 
 -- ---- how far a walk has come
--- at: the next root to try, the current atom, the atoms left since the last event, how many were met, the pool's numbers
--- and a refusal. For each atom: its number in walk order plus 1, or 0; the place of its entry back, from 1; how many of its
+-- at: the next root to try, the current atom, if any, the atoms left since the last event, how many were met, the pool's numbers
+-- and the refusal, if any. For each atom: its number in walk order plus 1, or 0; the place of its entry back, from 1; how many of its
 -- entries were taken. For each number in walk order: the atom. And the words of the pool.
 pub record Walk : Type 0 where
   pub at : Walker
@@ -38,55 +33,51 @@ abbrev pub walk : Walker → List ℕ → List ℕ → List ℕ → List ℕ →
 walk z met walked back taken pairs =
     record { at = z; met = met; walked = walked; back = back; taken = taken; pairs = pairs }
 
-abbrev pub walker : ℕ → Bool → ℕ → ℕ → ℕ → Pool → ℕ → ℕ → ℕ → Walker
-walker next current here pend count pool refusal first second =
-    record { next = next; current = current; here = here; pend = pend; count = count; pool = pool; refusal = refusal; first = first; second = second }
+abbrev pub walker : ℕ → Option ℕ → ℕ → ℕ → Pool → Option WalkError → Walker
+walker next here pend count pool refusal =
+    record { next = next; here = here; pend = pend; count = count; pool = pool; refusal = refusal }
 
 -- nothing met
 abbrev pub fresh_walker : Pool → Walker
-fresh_walker p = walker 0 false 0 0 0 p 0 0 0
+fresh_walker p = walker 0 None 0 0 p None
 
 -- and nothing handed out: a walk first empties its pool
 abbrev pub start_walker : Walker
 start_walker = fresh_walker empty_of
 
 -- ---- what changes
-abbrev pub refused_as : Walker → ℕ → ℕ → ℕ → Walker
-refused_as z r a b = walker z.next z.current z.here z.pend z.count z.pool r a b
+abbrev pub refused_as : Walker → WalkError → Walker
+refused_as z why = walker z.next z.here z.pend z.count z.pool (Some why)
 
 -- the next root passed over
 abbrev pub root_passed : Walker → Walker
 root_passed z =
-    walker (z.next + 1) z.current z.here z.pend z.count z.pool z.refusal z.first z.second
+    walker (z.next + 1) z.here z.pend z.count z.pool z.refusal
 
--- another place: whether there is a current atom and which, the atoms left since the last event, how many were met
-abbrev pub placed_at : Walker → Bool → ℕ → ℕ → ℕ → Walker
-placed_at z current here pend count =
-    walker z.next current here pend count z.pool z.refusal z.first z.second
+-- another place: the current atom, if any, the atoms left since the last event, how many were met
+abbrev pub placed_at : Walker → Option ℕ → ℕ → ℕ → Walker
+placed_at z here pend count =
+    walker z.next here pend count z.pool z.refusal
 
 -- another pool, and so many atoms left since the last event
 abbrev pub pool_put : Walker → ℕ → Pool → Walker
 pool_put z pend pool =
-    walker z.next z.current z.here pend z.count pool z.refusal z.first z.second
+    walker z.next z.here pend z.count pool z.refusal
 
 -- the atom a met and current, so all pops were said
 abbrev pub current_at : Walker → ℕ → Walker
-current_at z a = placed_at z true a 0 (z.count + 1)
+current_at z a = placed_at z (Some a) 0 (z.count + 1)
 
 -- the current atom left for the one before, or for none
 abbrev pub back_at : Walker → ℕ → Walker
-back_at z a = placed_at z true a (z.pend + 1) z.count
+back_at z a = placed_at z (Some a) (z.pend + 1) z.count
 
 abbrev pub at_end : Walker → Walker
-at_end z = placed_at z false z.here 0 z.count
+at_end z = placed_at z None 0 z.count
 
 -- a ring number said, so all pops were
 abbrev pub ring_said : Walker → Pool → Walker
 ring_said z p = pool_put z 0 p
-
--- with what its pool was told, and the pool after it
-abbrev pub numbered_in : Walker → PoolAnswer → Numbered
-numbered_in z k = record { walker = pool_put z z.pend k.pool; told = k.told }
 
 abbrev pub with_walker : Walk → Walker → Walk
 with_walker w z = walk z w.met w.walked w.back w.taken w.pairs
@@ -119,8 +110,8 @@ turn w es = record { after = w; said = es }
 abbrev pub quiet : Walk → Turn
 quiet w = turn w []
 
-abbrev pub refuse_turn : Walk → ℕ → ℕ → ℕ → Turn
-refuse_turn w r a b = quiet (with_walker w (refused_as w.at r a b))
+abbrev pub refuse_turn : Walk → WalkError → Turn
+refuse_turn w why = quiet (with_walker w (refused_as w.at why))
 
 -- the atoms left since the last event popped, then an event
 unfoldable pub pops_of : ℕ → List Event
@@ -146,9 +137,9 @@ abbrev pub leave_of : Graph → Walk → ℕ → Turn
 leave_of g w a = quiet (with_walker w (left_in g.bonds g.first w.back w.at a))
 
 -- a bond of kind k from s to an atom t met before
-unfoldable pub numbered_of : Walk → BondKind → ℕ → ℕ → Given → List ℕ → Turn
-numbered_of w k s t Full pairs = refuse_turn (pooled w pairs) ring_numbers s t
-numbered_of w k s t (Number p n) pairs =
+unfoldable pub numbered_of : Walk → BondKind → ℕ → ℕ → Option (Pool × ℕ) → List ℕ → Turn
+numbered_of w k s t None pairs = refuse_turn (pooled w pairs) (RingNumbers s t)
+numbered_of w k s t (Some (p, n)) pairs =
     turn (with_walker (pooled w pairs) (ring_said w.at p)) (pops_then w.at.pend (Join k n))
 
 unfoldable pub ring_turn : Walk → BondKind → ℕ → ℕ → Turn
@@ -156,16 +147,16 @@ ring_turn w k s t =
     numbered_of w k s t (hit_of w.at.pool w.pairs s t).answer (hit_of w.at.pool w.pairs s t).left
 
 -- once both ends were compared
-unfoldable pub tied_of : Walk → BondKind → ℕ → ℕ → Way → Turn
-tied_of w k s t (Refuses r a b) = refuse_turn w r a b
-tied_of w k s t (Enters b) = ring_turn w k s t
+unfoldable pub tied_of : Walk → BondKind → ℕ → ℕ → Result ℕ WalkError → Turn
+tied_of w k s t (Err why) = refuse_turn w why
+tied_of w k s t (Ok b) = ring_turn w k s t
 
 unfoldable pub tie_turn : Graph → Walk → BondKind → ℕ → ℕ → Turn
 tie_turn g w k s t = tied_of w k s t (tie_of g k s t)
 
-unfoldable pub entered_of : Graph → Walk → BondKind → ℕ → Way → Turn
-entered_of g w k t (Refuses r a b) = refuse_turn w r a b
-entered_of g w k t (Enters b) =
+unfoldable pub entered_of : Graph → Walk → BondKind → ℕ → Result ℕ WalkError → Turn
+entered_of g w k t (Err why) = refuse_turn w why
+entered_of g w k t (Ok b) =
     turn (met_at w w.at t b) (pops_then w.at.pend (Extend k (said_as (kind_at g t) b)))
 
 -- a bond to a new atom t
@@ -175,8 +166,8 @@ enter_turn g w k s t = entered_of g w k t (way_of g k s t)
 -- a bond of the atom s
 unfoldable pub bond_turn : Graph → Walk → ℕ → BondEntry → Turn
 bond_turn g w s b =
-    pick (leb g.size b.to) (refuse_turn w unknown_target s b.to)
-    (pick (eqb b.to s) (refuse_turn w loop s 0)
+    pick (leb g.size b.to) (refuse_turn w (UnknownTarget s b.to))
+    (pick (eqb b.to s) (refuse_turn w (Loop s))
     (pick (eqb (get_or w.met b.to 0) 0) (enter_turn g w b.kind s b.to) (tie_turn g w b.kind s b.to)))
 
 -- the entry i of the atom a, but for the one by which a was reached
@@ -189,13 +180,18 @@ unfoldable pub atom_of : Graph → Walk → ℕ → Turn
 atom_of g w a =
     pick (leb (degree_at g a) (get_or w.taken a 0)) (leave_of g w a) (entry_turn g w a (get_or w.taken a 0))
 
+-- the current atom's turn, or where there is none the next root's
+abbrev pub turn_at : Graph → Walk → Option ℕ → Turn
+turn_at g w None = root_turn g w
+turn_at g w (Some a) = atom_of g w a
+
 unfoldable pub turn_of : Graph → Walk → Turn
-turn_of g w = pick w.at.current (atom_of g w w.at.here) (root_turn g w)
+turn_of g w = turn_at g w w.at.here
 
 -- ---- turns
 -- a refused walk stays as it is
 unfoldable pub step_of : Graph → Walk → Turn
-step_of g w = pick (eqb w.at.refusal 0) (turn_of g w) (quiet w)
+step_of g w = pick (is_none w.at.refusal) (turn_of g w) (quiet w)
 
 -- what n turns leave, and what they say
 unfoldable pub walk_to : Graph → ℕ → Walk → Walk

@@ -5,78 +5,54 @@
 // start from it, and writes back what they leave. The second lends it a pool.
 ghost use Rattle.std.specs.Prelude.{◌≡◌, ◌<◌, length, replicate};
 ghost use Rattle.writer.specs.Tables.{spoken, say_all, writer};
-ghost use Rattle.walk_entry.specs.Graph.{graph};
-ghost use Rattle.walk.specs.Walk.{walk, start_walker, walk_to, events_of, turns_of};
+ghost use Rattle.writer.specs.Lent.{spoken_in, SameLine};
+ghost use Rattle.walk_entry.specs.Graph.{seen};
+ghost use Rattle.walk.specs.Walk.{pooled, start_walker, walk_to, events_of, turns_of};
+ghost use Rattle.walk.specs.Steps.{held_in, SameTables};
 
-use crate::turn::Turned;
+use crate::tables::Tables;
 use crate::turns;
+use crate::walker::Walker;
 use join_pool::Pool;
+use walk_entry::graph::Graph;
+use writer::Line;
 
 pub fn walk_in(
     pool: &mut Pool,
-    size: usize,
+    g: Graph<'_>,
     entries: usize,
-    atoms: &[u32],
-    bonds: &[u32],
-    first: &[u32],
-    met: &mut [u32],
-    walked: &mut [u32],
-    back: &mut [u32],
-    taken: &mut [u32],
-    pairs: &mut [u32],
-    starts: &mut [u32],
-    out: &mut [u8],
-) -> Turned
-    requires { turns_of size entries < 1000000 }
-    ensures { (walk result.walker met.new walked.new back.new taken.new
-        pairs.new
-        ≡ walk_to (graph size atoms.now bonds.now first.now) (turns_of size entries)
-        (walk start_walker met.old walked.old back.old taken.old
-        (replicate (length pairs.old) 0)))
-        × (spoken result.line out.new starts.new
-        ≡ say_all (spoken (writer 0 0) out.old starts.old)
-        (events_of (graph size atoms.now bonds.now first.now) (turns_of size entries)
-        (walk start_walker met.old walked.old back.old taken.old
-        (replicate (length pairs.old) 0))))
-        × (pool.new ≡ result.walker.pool) }
+    tables: &mut Tables<'_>,
+    line: &mut Line<'_>,
+) -> Walker
+    requires { turns_of g.size entries < 1000000 }
+    ensures walked { (held_in result tables.new
+        ≡ walk_to (seen g.entry) (turns_of g.entry.size entries)
+        (pooled (held_in start_walker tables.old) (replicate (length tables.old.pairs.now) 0)))
+        × (spoken_in line.new
+        ≡ say_all (spoken (writer 0 0) line.old.out.now line.old.starts.now)
+        (events_of (seen g.entry) (turns_of g.entry.size entries)
+        (pooled (held_in start_walker tables.old) (replicate (length tables.old.pairs.now) 0))))
+        × (pool.new ≡ result.pool) }
+    ensures same { SameTables tables.old tables.new × SameLine line.old line.new }
 {
     let empty = Pool::empty();
     *pool = empty;
-    let t = turns::walk_cleared(
-        *pool, size, entries, atoms, bonds, first, met, walked, back, taken, pairs, starts, out,
-    );
-    *pool = t.walker.pool;
-    t
+    let walker = turns::walk_cleared(*pool, g, entries, tables, line);
+    *pool = walker.pool;
+    walker
 }
 
-pub fn walk(
-    size: usize,
-    entries: usize,
-    atoms: &[u32],
-    bonds: &[u32],
-    first: &[u32],
-    met: &mut [u32],
-    walked: &mut [u32],
-    back: &mut [u32],
-    taken: &mut [u32],
-    pairs: &mut [u32],
-    starts: &mut [u32],
-    out: &mut [u8],
-) -> Turned
-    requires { turns_of size entries < 1000000 }
-    ensures { (walk result.walker met.new walked.new back.new taken.new
-        pairs.new
-        ≡ walk_to (graph size atoms.now bonds.now first.now) (turns_of size entries)
-        (walk start_walker met.old walked.old back.old taken.old
-        (replicate (length pairs.old) 0)))
-        × (spoken result.line out.new starts.new
-        ≡ say_all (spoken (writer 0 0) out.old starts.old)
-        (events_of (graph size atoms.now bonds.now first.now) (turns_of size entries)
-        (walk start_walker met.old walked.old back.old taken.old
-        (replicate (length pairs.old) 0)))) }
+pub fn walk(g: Graph<'_>, entries: usize, tables: &mut Tables<'_>, line: &mut Line<'_>) -> Walker
+    requires { turns_of g.size entries < 1000000 }
+    ensures walked { (held_in result tables.new
+        ≡ walk_to (seen g.entry) (turns_of g.entry.size entries)
+        (pooled (held_in start_walker tables.old) (replicate (length tables.old.pairs.now) 0)))
+        × (spoken_in line.new
+        ≡ say_all (spoken (writer 0 0) line.old.out.now line.old.starts.now)
+        (events_of (seen g.entry) (turns_of g.entry.size entries)
+        (pooled (held_in start_walker tables.old) (replicate (length tables.old.pairs.now) 0)))) }
+    ensures same { SameTables tables.old tables.new × SameLine line.old line.new }
 {
     let mut pool = Pool::empty();
-    walk_in(
-        &mut pool, size, entries, atoms, bonds, first, met, walked, back, taken, pairs, starts, out,
-    )
+    walk_in(&mut pool, g, entries, tables, line)
 }

@@ -1,350 +1,243 @@
 // One turn of a walk: a root tried, an entry of the current atom taken, or the atom left. What it says goes to the
 // writer at once.
-ghost use Rattle.std.specs.Prelude.{◌≡◌, List, ℕ, ◌+◌, ◌<◌, set};
-ghost use Rattle.writer.specs.Tables.{spoken, say_all, far};
-ghost use Rattle.walk_entry.specs.Graph.{graph, entry_to};
+ghost use Rattle.std.specs.Prelude.{◌≡◌, ◌<◌};
+ghost use Rattle.writer.specs.Tables.{say_all, far};
+ghost use Rattle.walk_entry.specs.Graph.{seen, entry_to};
 ghost use Rattle.writer.specs.Steps.{LineNear, LineGrows};
-ghost use Rattle.walk.specs.Walk.{walk, current_at, pops_of, root_turn, left_in, ring_turn, tie_turn, enter_turn, bond_turn, atom_of, turn_of};
-ghost use Rattle.walk.specs.Steps.{Did, TurnNear, TurnOnward, TurnGrows};
+ghost use Rattle.writer.specs.Lent.{spoken_in, SameLine};
+ghost use Rattle.walk.specs.Walk.{met_at, pops_of, root_turn, left_in, ring_turn, tie_turn, enter_turn, bond_turn, atom_of, turn_of};
+ghost use Rattle.walk.specs.Steps.{held_in, SameTables, Did, TurnNear, TurnOnward, TurnGrows};
 
+use crate::tables::Tables;
 use crate::walker::Walker;
-use desk_numbers::{LOOP, RING_NUMBERS, UNKNOWN_TARGET};
 use feature::bond_kind::{BondKind, sure_kind};
-use join_pool::lent::Told;
 use table::{look, poke};
-use walk_entry::entry::{Way, find_way, said_as};
-use walk_entry::graph::{degree_at, entry_at, kind_at, target_at};
+use walk_entry::WalkError;
+use walk_entry::entry::{find_way, said_as};
+use walk_entry::graph::Graph;
 use walk_entry::tie::find_tie;
-use writer::Writer;
-use writer::say::{say_extend, say_join, say_pop, say_root};
-
-// Where a turn leaves the walk and the writer.
-#[derive(Clone, Copy)]
-pub struct Turned {
-    pub walker: Walker,
-    pub line: Writer,
-}
+use writer::Line;
 
 // The atoms left since the last event, if any, popped.
-fn say_pops(out: &mut [u8], starts: &mut [u32], line: Writer, pend: usize) -> Writer
-    requires { LineNear line }
-    ensures starts_after { spoken result out.new starts.new ≡ say_all (spoken line out.old starts.old) (pops_of pend) }
-    ensures line_grows { LineGrows line result }
+#[tactic(auto, unfolding(crate::specs::Walk::pops_of, writer::specs::Tables::say_all))]
+fn say_pops(line: &mut Line<'_>, pend: usize)
+    requires { LineNear line.old.at }
+    ensures starts_after { spoken_in line.new ≡ say_all (spoken_in line.old) (pops_of pend) }
+    ensures line_grows { LineGrows line.old.at line.new.at }
+    ensures same { SameLine line.old line.new }
 {
-    if pend == 0 {
-        return line;
+    if pend != 0 {
+        line.say_pop(pend);
     }
-    say_pop(out, starts, line, pend)
 }
 
 // An atom met: its number in walk order, its place there, and its entry back.
-fn mark(
-    met: &mut [u32],
-    walked: &mut [u32],
-    back: &mut [u32],
-    walker: Walker,
-    a: u32,
-    b: u32,
-) -> Walker
+fn mark(tables: &mut Tables<'_>, walker: Walker, a: u32, b: u32) -> Walker
     requires { walker.count < far }
-    ensures { (result ≡ current_at walker a)
-        × (met.new ≡ set met.old a (walker.count + 1))
-        × (walked.new ≡ set walked.old walker.count a)
-        × (back.new ≡ set back.old a b) }
+    ensures met { held_in result tables.new ≡ met_at (held_in walker tables.old) walker a b }
+    ensures same { SameTables tables.old tables.new }
 {
     let count = walker.count;
-    poke(met, a as usize, count + 1);
-    poke(walked, count as usize, a);
-    poke(back, a as usize, b);
+    poke(tables.met, a as usize, count + 1);
+    poke(tables.walked, count as usize, a);
+    poke(tables.back, a as usize, b);
     walker.meet(a)
 }
 
 // The next root.
-fn try_root(
-    size: usize,
-    atoms: &[u32],
-    met: &mut [u32],
-    walked: &mut [u32],
-    back: &mut [u32],
-    starts: &mut [u32],
-    out: &mut [u8],
-    walker: Walker,
-    line: Writer,
-) -> Turned
-    requires { TurnNear walker line }
-    ensures did { (bonds first taken pairs : List ℕ) →
-        Did
-        (root_turn (graph size atoms.now bonds first)
-        (walk walker met.old walked.old back.old taken pairs))
-        (walk result.walker met.new walked.new back.new taken pairs)
-        (spoken line out.old starts.old) (spoken result.line out.new starts.new) }
-    ensures turn_grows { TurnGrows walker result.walker line result.line }
+fn try_root(g: Graph<'_>, tables: &mut Tables<'_>, line: &mut Line<'_>, walker: Walker) -> Walker
+    requires { TurnNear walker line.old.at }
+    ensures did { Did
+        (root_turn (seen g.entry)
+        (held_in walker tables.old))
+        (held_in result tables.new)
+        (spoken_in line.old) (spoken_in line.new) }
+    ensures turn_grows { TurnGrows walker result line.old.at line.new.at }
+    ensures same { SameTables tables.old tables.new × SameLine line.old line.new }
 {
     let a = walker.next;
-    if size <= a as usize {
-        return Turned { walker, line };
+    if g.size <= a as usize {
+        return walker;
     }
     let passed = walker.pass();
-    if look(met, a as usize) != 0 {
-        return Turned {
-            walker: passed,
-            line,
-        };
+    if tables.mark_of(a) != 0 {
+        return passed;
     }
-    let kind = said_as(kind_at(atoms, a), 0);
-    let said = say_root(out, starts, line, kind);
-    Turned {
-        walker: mark(met, walked, back, passed, a, 0),
-        line: said,
-    }
+    let kind = said_as(g.kind_at(a), 0);
+    line.say_root(kind);
+    mark(tables, passed, a, 0)
 }
 
 // The current atom has no entry left.
-fn leave(bonds: &[u32], first: &[u32], back: &[u32], walker: Walker, a: u32) -> Walker
+#[tactic(auto, unfolding(crate::specs::Walk::left_in))]
+fn leave(g: Graph<'_>, tables: &Tables<'_>, walker: Walker, a: u32) -> Walker
     requires { walker.pend < far }
-    ensures value { result ≡ left_in bonds.now first.now back.now walker a }
+    ensures value { result ≡ left_in g.entry.bonds.now g.entry.first.now tables.now.back.now walker a }
     ensures turn_onward { TurnOnward walker result }
 {
-    let b = look(back, a as usize);
+    let b = tables.back_of(a);
     if b == 0 {
         return walker.end();
     }
-    walker.leave(target_at(bonds, first, a, b - 1))
+    walker.leave(g.target_at(a, b - 1))
 }
 
 // A ring number for a bond between two atoms that were met.
 fn ring(
-    pairs: &mut [u32],
-    starts: &mut [u32],
-    out: &mut [u8],
-    walker: Walker,
-    line: Writer,
+    tables: &mut Tables<'_>,
+    line: &mut Line<'_>,
+    mut walker: Walker,
     k: BondKind,
     s: u32,
     t: u32,
-) -> Turned
-    requires { TurnNear walker line }
-    ensures did { (met walked back taken : List ℕ) →
-        Did (ring_turn (walk walker met walked back taken pairs.old) k s t)
-        (walk result.walker met walked back taken pairs.new) (spoken line out.old starts.old)
-        (spoken result.line out.new starts.new) }
-    ensures turn_grows { TurnGrows walker result.walker line result.line }
+) -> Walker
+    requires { TurnNear walker line.old.at }
+    ensures did { Did (ring_turn (held_in walker tables.old) k s t)
+        (held_in result tables.new) (spoken_in line.old)
+        (spoken_in line.new) }
+    ensures turn_grows { TurnGrows walker result line.old.at line.new.at }
+    ensures same { SameTables tables.old tables.new × SameLine line.old line.new }
 {
-    let g = walker.number(pairs, s, t);
-    let told = g.told;
-    match told {
-        Told::Full => Turned {
-            walker: walker.refused(RING_NUMBERS, s, t),
-            line,
-        },
-        Told::Number(n) => {
-            let popped = say_pops(out, starts, line, walker.pend);
-            let said = say_join(out, starts, popped, k, n);
-            let after = g.walker;
-            Turned {
-                walker: after.ring(),
-                line: said,
-            }
+    match walker.pool.hit(tables.pairs, s, t) {
+        None => walker.refused(WalkError::RingNumbers(s, t)),
+        Some(n) => {
+            say_pops(line, walker.pend);
+            line.say_join(k, n);
+            walker.ring()
         }
     }
 }
 
 // A bond to an atom met before: both ends are compared first.
 fn tie(
-    atoms: &[u32],
-    bonds: &[u32],
-    first: &[u32],
-    pairs: &mut [u32],
-    starts: &mut [u32],
-    out: &mut [u8],
+    g: Graph<'_>,
+    tables: &mut Tables<'_>,
+    line: &mut Line<'_>,
     walker: Walker,
-    line: Writer,
     k: BondKind,
     s: u32,
     t: u32,
-) -> Turned
-    requires { TurnNear walker line }
-    ensures by_index { (n : ℕ) (met walked back taken : List ℕ) →
-        Did
-        (tie_turn (graph n atoms.now bonds.now first.now)
-        (walk walker met walked back taken pairs.old) k s t)
-        (walk result.walker met walked back taken pairs.new) (spoken line out.old starts.old)
-        (spoken result.line out.new starts.new) }
-    ensures turn_grows { TurnGrows walker result.walker line result.line }
+) -> Walker
+    requires { TurnNear walker line.old.at }
+    ensures did { Did
+        (tie_turn (seen g.entry)
+        (held_in walker tables.old) k s t)
+        (held_in result tables.new) (spoken_in line.old)
+        (spoken_in line.new) }
+    ensures turn_grows { TurnGrows walker result line.old.at line.new.at }
+    ensures same { SameTables tables.old tables.new × SameLine line.old line.new }
 {
-    match find_tie(atoms, bonds, first, k, s, t) {
-        Way::Refuses(number, a, b) => Turned {
-            walker: walker.refused(number, a, b),
-            line,
-        },
-        Way::Enters(_) => ring(pairs, starts, out, walker, line, k, s, t),
+    match find_tie(g, k, s, t) {
+        Err(why) => walker.refused(why),
+        Ok(_) => ring(tables, line, walker, k, s, t),
     }
 }
 
 // A bond to a new atom: it is said and becomes the current one.
 fn enter(
-    atoms: &[u32],
-    bonds: &[u32],
-    first: &[u32],
-    met: &mut [u32],
-    walked: &mut [u32],
-    back: &mut [u32],
-    starts: &mut [u32],
-    out: &mut [u8],
+    g: Graph<'_>,
+    tables: &mut Tables<'_>,
+    line: &mut Line<'_>,
     walker: Walker,
-    line: Writer,
     k: BondKind,
     s: u32,
     t: u32,
-) -> Turned
-    requires { TurnNear walker line }
-    ensures by_index { (n : ℕ) (taken pairs : List ℕ) →
-        Did
-        (enter_turn (graph n atoms.now bonds.now first.now)
-        (walk walker met.old walked.old back.old taken pairs) k s t)
-        (walk result.walker met.new walked.new back.new taken pairs)
-        (spoken line out.old starts.old) (spoken result.line out.new starts.new) }
-    ensures turn_grows { TurnGrows walker result.walker line result.line }
+) -> Walker
+    requires { TurnNear walker line.old.at }
+    ensures did { Did
+        (enter_turn (seen g.entry)
+        (held_in walker tables.old) k s t)
+        (held_in result tables.new)
+        (spoken_in line.old) (spoken_in line.new) }
+    ensures turn_grows { TurnGrows walker result line.old.at line.new.at }
+    ensures same { SameTables tables.old tables.new × SameLine line.old line.new }
 {
-    match find_way(atoms, bonds, first, k, s, t) {
-        Way::Refuses(number, a, b) => Turned {
-            walker: walker.refused(number, a, b),
-            line,
-        },
-        Way::Enters(b) => {
-            let popped = say_pops(out, starts, line, walker.pend);
-            let kind = said_as(kind_at(atoms, t), b);
-            let said = say_extend(out, starts, popped, k, kind);
-            Turned {
-                walker: mark(met, walked, back, walker, t, b),
-                line: said,
-            }
+    match find_way(g, k, s, t) {
+        Err(why) => walker.refused(why),
+        Ok(b) => {
+            say_pops(line, walker.pend);
+            let kind = said_as(g.kind_at(t), b);
+            line.say_extend(k, kind);
+            mark(tables, walker, t, b)
         }
     }
 }
 
 // A bond of the atom s, of kind k to t.
 fn take_bond(
-    size: usize,
-    atoms: &[u32],
-    bonds: &[u32],
-    first: &[u32],
-    met: &mut [u32],
-    walked: &mut [u32],
-    back: &mut [u32],
-    pairs: &mut [u32],
-    starts: &mut [u32],
-    out: &mut [u8],
+    g: Graph<'_>,
+    tables: &mut Tables<'_>,
+    line: &mut Line<'_>,
     walker: Walker,
-    line: Writer,
     s: u32,
     k: BondKind,
     t: u32,
-) -> Turned
-    requires { TurnNear walker line }
-    ensures by_index { (taken : List ℕ) →
-        Did
-        (bond_turn (graph size atoms.now bonds.now first.now)
-        (walk walker met.old walked.old back.old taken pairs.old) s (entry_to k t))
-        (walk result.walker met.new walked.new back.new taken pairs.new)
-        (spoken line out.old starts.old) (spoken result.line out.new starts.new) }
-    ensures turn_grows { TurnGrows walker result.walker line result.line }
+) -> Walker
+    requires { TurnNear walker line.old.at }
+    ensures did { Did
+        (bond_turn (seen g.entry)
+        (held_in walker tables.old) s (entry_to k t))
+        (held_in result tables.new)
+        (spoken_in line.old) (spoken_in line.new) }
+    ensures turn_grows { TurnGrows walker result line.old.at line.new.at }
+    ensures same { SameTables tables.old tables.new × SameLine line.old line.new }
 {
-    if size <= t as usize {
-        return Turned {
-            walker: walker.refused(UNKNOWN_TARGET, s, t),
-            line,
-        };
+    if g.size <= t as usize {
+        return walker.refused(WalkError::UnknownTarget(s, t));
     }
     if t == s {
-        return Turned {
-            walker: walker.refused(LOOP, s, 0),
-            line,
-        };
+        return walker.refused(WalkError::Loop(s));
     }
-    if look(met, t as usize) == 0 {
-        return enter(
-            atoms, bonds, first, met, walked, back, starts, out, walker, line, k, s, t,
-        );
+    if tables.mark_of(t) == 0 {
+        return enter(g, tables, line, walker, k, s, t);
     }
-    tie(
-        atoms, bonds, first, pairs, starts, out, walker, line, k, s, t,
-    )
+    tie(g, tables, line, walker, k, s, t)
 }
 
-// The current atom: its next entry, but for the one by which it was reached, or the way back.
+// The current atom a: its next entry, but for the one by which it was reached, or the way back.
 fn take_atom(
-    size: usize,
-    atoms: &[u32],
-    bonds: &[u32],
-    first: &[u32],
-    met: &mut [u32],
-    walked: &mut [u32],
-    back: &mut [u32],
-    taken: &mut [u32],
-    pairs: &mut [u32],
-    starts: &mut [u32],
-    out: &mut [u8],
+    g: Graph<'_>,
+    tables: &mut Tables<'_>,
+    line: &mut Line<'_>,
     walker: Walker,
-    line: Writer,
-) -> Turned
-    requires { TurnNear walker line }
+    a: u32,
+) -> Walker
+    requires { TurnNear walker line.old.at }
     ensures did { Did
-        (atom_of (graph size atoms.now bonds.now first.now)
-        (walk walker met.old walked.old back.old taken.old pairs.old)
-        walker.here)
-        (walk result.walker met.new walked.new back.new taken.new pairs.new)
-        (spoken line out.old starts.old) (spoken result.line out.new starts.new) }
-    ensures turn_grows { TurnGrows walker result.walker line result.line }
+        (atom_of (seen g.entry)
+        (held_in walker tables.old)
+        a)
+        (held_in result tables.new)
+        (spoken_in line.old) (spoken_in line.new) }
+    ensures turn_grows { TurnGrows walker result line.old.at line.new.at }
+    ensures same { SameTables tables.old tables.new × SameLine line.old line.new }
 {
-    let a = walker.here;
-    let at = a as usize;
-    let i = look(taken, at);
-    if degree_at(atoms, a) <= i {
-        return Turned {
-            walker: leave(bonds, first, back, walker, a),
-            line,
-        };
+    let i = tables.taken_of(a);
+    if g.degree_at(a) <= i {
+        return leave(g, tables, walker, a);
     }
-    poke(taken, at, i + 1);
-    if look(back, at) == i + 1 {
-        return Turned { walker, line };
+    poke(tables.taken, a as usize, i + 1);
+    if tables.back_of(a) == i + 1 {
+        return walker;
     }
-    let e = entry_at(first, a, i);
-    let k = sure_kind(look(bonds, e));
-    let t = look(bonds, e + 1);
-    take_bond(
-        size, atoms, bonds, first, met, walked, back, pairs, starts, out, walker, line, a, k, t,
-    )
+    let e = g.entry_at(a, i);
+    let k = sure_kind(look(g.bonds, e));
+    let t = look(g.bonds, e + 1);
+    take_bond(g, tables, line, walker, a, k, t)
 }
 
-pub fn turn(
-    size: usize,
-    atoms: &[u32],
-    bonds: &[u32],
-    first: &[u32],
-    met: &mut [u32],
-    walked: &mut [u32],
-    back: &mut [u32],
-    taken: &mut [u32],
-    pairs: &mut [u32],
-    starts: &mut [u32],
-    out: &mut [u8],
-    walker: Walker,
-    line: Writer,
-) -> Turned
-    requires { TurnNear walker line }
+pub fn turn(g: Graph<'_>, tables: &mut Tables<'_>, line: &mut Line<'_>, walker: Walker) -> Walker
+    requires { TurnNear walker line.old.at }
     ensures did { Did
-        (turn_of (graph size atoms.now bonds.now first.now)
-        (walk walker met.old walked.old back.old taken.old pairs.old))
-        (walk result.walker met.new walked.new back.new taken.new pairs.new)
-        (spoken line out.old starts.old) (spoken result.line out.new starts.new) }
-    ensures turn_grows { TurnGrows walker result.walker line result.line }
+        (turn_of (seen g.entry)
+        (held_in walker tables.old))
+        (held_in result tables.new)
+        (spoken_in line.old) (spoken_in line.new) }
+    ensures turn_grows { TurnGrows walker result line.old.at line.new.at }
+    ensures same { SameTables tables.old tables.new × SameLine line.old line.new }
 {
-    if walker.current {
-        return take_atom(
-            size, atoms, bonds, first, met, walked, back, taken, pairs, starts, out, walker, line,
-        );
+    match walker.here {
+        Some(a) => take_atom(g, tables, line, walker, a),
+        None => try_root(g, tables, line, walker),
     }
-    try_root(size, atoms, met, walked, back, starts, out, walker, line)
 }

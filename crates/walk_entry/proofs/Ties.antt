@@ -10,7 +10,8 @@ use Rattle.feature.specs.declared.bond_kind.BondKind.{BondKind}
 use Rattle.feature.proofs.Cases.{by_eq}
 use Rattle.walk_entry.specs.declared.entry.Back.{Back}
 use Rattle.walk_entry.specs.declared.entry.Back.TheVariants.{Found, Twice}
-use Rattle.walk_entry.specs.declared.entry.Way.{Way}
+use Rattle.std.specs.Prelude.{Result}
+use Rattle.walk_entry.specs.declared.WalkError.{WalkError}
 use Rattle.walk_entry.specs.Graph.{Graph, degree_at, bond_of}
 use Rattle.walk_entry.specs.Ways.{scan_in}
 use Rattle.walk_entry.specs.Ties.{leading, last_leading, count_to, place_to, tie_of}
@@ -63,5 +64,5 @@ tie_scans g k s t =
     by_count false e = simp (e, place_some g t s (degree_at g t))
 
 -- so what the scans come to is what is meant
-pub tied_as : (g : Graph) (k : BondKind) (s t : ℕ) {r : Way} → r ≡ tied_by g k s t (is_twice (scanned_to g s t)) (scanned_to g t s) → r ≡ tie_of g k s t
+pub tied_as : (g : Graph) (k : BondKind) (s t : ℕ) {r : (Result ℕ WalkError)} → r ≡ tied_by g k s t (is_twice (scanned_to g s t)) (scanned_to g t s) → r ≡ tie_of g k s t
 tied_as g k s t e = e ∙ sym (tie_scans g k s t)

@@ -5,9 +5,9 @@ use Rattle.feature.specs.Bonds.{kind_of, sure_kind}
 use Rattle.feature.specs.declared.atom_kind.AtomKind.{AtomKind}
 use Rattle.feature.specs.declared.atom_kind.AtomKind.TheVariants.{Star}
 use Rattle.feature.specs.declared.bond_kind.BondKind.{BondKind}
-use Rattle.packing.specs.declared.Loaded.{Loaded}
-use Rattle.packing.specs.declared.Loaded.TheVariants as loaded
+use Rattle.std.specs.Prelude.{None, Option, Some}
 use Rattle.table.specs.Records.{atom_words, bond_words}
+use Rattle.walk_entry.specs.declared.graph.Graph as tables
 use Rattle.packing.specs.Words.{load_at}
 use Rattle.table.specs.Records.{degree_in}
 
@@ -26,12 +26,16 @@ pub record Graph : Type 0 where
 abbrev pub graph : ℕ → List ℕ → List ℕ → List ℕ → Graph
 graph n atoms bonds first = record { size = n; atoms = atoms; bonds = bonds; first = first }
 
+-- the graph that code holds
+abbrev pub seen : tables.Graph → Graph
+seen g = graph g.size g.atoms.now g.bonds.now g.first.now
+
 abbrev pub entry_to : BondKind → ℕ → BondEntry
 entry_to k t = record { kind = k; to = t }
 
-unfoldable pub kind_or : Loaded → AtomKind
-kind_or (loaded.Held k) = k
-kind_or loaded.Bad = Star
+unfoldable pub kind_or : Option AtomKind → AtomKind
+kind_or (Some k) = k
+kind_or None = Star
 
 -- the entry whose first word is at a place
 abbrev pub entry_at : List ℕ → ℕ → BondEntry

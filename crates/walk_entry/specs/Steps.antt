@@ -4,11 +4,11 @@ use Rattle.std.specs.Prelude.{ℕ, ◌-◌, Bool, true, false, eqb}
 use Rattle.feature.specs.Pick.{pick}
 use Rattle.feature.specs.Bonds.{same_kind, reverse_of}
 use Rattle.feature.specs.declared.bond_kind.BondKind.{BondKind}
-use Rattle.desk_numbers.specs.Numbers.{half_bond, duplicate_bond, incompatible_bond}
 use Rattle.walk_entry.specs.declared.entry.Back.{Back}
 use Rattle.walk_entry.specs.declared.entry.Back.TheVariants.{Found, Twice, Fixed}
-use Rattle.walk_entry.specs.declared.entry.Way.{Way}
-use Rattle.walk_entry.specs.declared.entry.Way.TheVariants.{Enters, Refuses}
+use Rattle.std.specs.Prelude.{Err, Ok, Result}
+use Rattle.walk_entry.specs.declared.WalkError.{WalkError}
+use Rattle.walk_entry.specs.declared.WalkError.TheVariants.{DuplicateBond, HalfBond, IncompatibleBond}
 use Rattle.walk_entry.specs.Graph.{Graph, degree_at, bond_of}
 use Rattle.walk_entry.specs.Ways.{scan_in}
 
@@ -23,10 +23,10 @@ is_twice Fixed = false
 
 -- a bond of kind k from s to t, by whether s has two entries for t, and by what the entries of t are; no scan that asks about no
 -- mark comes to `Fixed`
-unfoldable pub tied_by : Graph → BondKind → ℕ → ℕ → Bool → Back → Way
-tied_by g k s t twice Fixed = Refuses duplicate_bond s t
-tied_by g k s t twice Twice = Refuses duplicate_bond s t
+unfoldable pub tied_by : Graph → BondKind → ℕ → ℕ → Bool → Back → Result ℕ WalkError
+tied_by g k s t twice Fixed = Err (DuplicateBond s t)
+tied_by g k s t twice Twice = Err (DuplicateBond s t)
 tied_by g k s t twice (Found b) =
-    pick (eqb b 0) (Refuses half_bond s t)
-    (pick twice (Refuses duplicate_bond s t)
-    (pick (same_kind (bond_of g t (b - 1)).kind (reverse_of k)) (Enters b) (Refuses incompatible_bond t s)))
+    pick (eqb b 0) (Err (HalfBond s t))
+    (pick twice (Err (DuplicateBond s t))
+    (pick (same_kind (bond_of g t (b - 1)).kind (reverse_of k)) (Ok b) (Err (IncompatibleBond t s))))

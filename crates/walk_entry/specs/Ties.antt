@@ -5,9 +5,9 @@ use Rattle.std.specs.Prelude.{ℕ, zero, suc, ◌+◌, ◌-◌, eqb, ltb}
 use Rattle.feature.specs.Pick.{pick, either}
 use Rattle.feature.specs.Bonds.{same_kind, reverse_of}
 use Rattle.feature.specs.declared.bond_kind.BondKind.{BondKind}
-use Rattle.desk_numbers.specs.Numbers.{half_bond, duplicate_bond, incompatible_bond}
-use Rattle.walk_entry.specs.declared.entry.Way.{Way}
-use Rattle.walk_entry.specs.declared.entry.Way.TheVariants.{Enters, Refuses}
+use Rattle.std.specs.Prelude.{Err, Ok, Result}
+use Rattle.walk_entry.specs.declared.WalkError.{WalkError}
+use Rattle.walk_entry.specs.declared.WalkError.TheVariants.{DuplicateBond, HalfBond, IncompatibleBond}
 use Rattle.walk_entry.specs.Graph.{Graph, degree_at, bond_of}
 
 -- how many of the first n entries of the atom a lead to b, and the place, from 1, of the last of them, 0 if there is none
@@ -27,8 +27,8 @@ abbrev pub place_to : Graph → ℕ → ℕ → ℕ
 place_to g a b = last_leading g a b (degree_at g a)
 
 -- a bond of kind k from s to t: refused, or the place of the entry of t that answers it
-unfoldable pub tie_of : Graph → BondKind → ℕ → ℕ → Way
+unfoldable pub tie_of : Graph → BondKind → ℕ → ℕ → Result ℕ WalkError
 tie_of g k s t =
-    pick (eqb (count_to g t s) 0) (Refuses half_bond s t)
-    (pick (either (ltb 1 (count_to g t s)) (ltb 1 (count_to g s t))) (Refuses duplicate_bond s t)
-    (pick (same_kind (bond_of g t (place_to g t s - 1)).kind (reverse_of k)) (Enters (place_to g t s)) (Refuses incompatible_bond t s)))
+    pick (eqb (count_to g t s) 0) (Err (HalfBond s t))
+    (pick (either (ltb 1 (count_to g t s)) (ltb 1 (count_to g s t))) (Err (DuplicateBond s t))
+    (pick (same_kind (bond_of g t (place_to g t s - 1)).kind (reverse_of k)) (Ok (place_to g t s)) (Err (IncompatibleBond t s))))

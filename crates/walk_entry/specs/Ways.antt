@@ -6,22 +6,21 @@ use Rattle.feature.specs.Pick.{pick, both}
 use Rattle.feature.specs.Kinds.{invert_of}
 use Rattle.feature.specs.Bonds.{same_kind, reverse_of}
 use Rattle.feature.specs.declared.atom_kind.AtomKind.{AtomKind}
-use Rattle.feature.specs.declared.atom_kind.Inverted.{Inverted}
-use Rattle.feature.specs.declared.atom_kind.Inverted.TheVariants as inverted
+use Rattle.std.specs.Prelude.{None, Option, Some}
 use Rattle.feature.specs.declared.bond_kind.BondKind.{BondKind}
-use Rattle.desk_numbers.specs.Numbers.{half_bond, duplicate_bond, incompatible_bond, inversion}
 use Rattle.walk_entry.specs.declared.entry.Back.{Back}
 use Rattle.walk_entry.specs.declared.entry.Back.TheVariants.{Found, Twice, Fixed}
-use Rattle.walk_entry.specs.declared.entry.Way.{Way}
-use Rattle.walk_entry.specs.declared.entry.Way.TheVariants.{Enters, Refuses}
+use Rattle.std.specs.Prelude.{Err, Ok, Result}
+use Rattle.walk_entry.specs.declared.WalkError.{WalkError}
+use Rattle.walk_entry.specs.declared.WalkError.TheVariants.{DuplicateBond, HalfBond, IncompatibleBond, Inversion}
 use Rattle.walk_entry.specs.Graph.{Graph, kind_at, degree_at, bond_in, bond_of}
 use Rattle.feature.specs.Kinds.{turned_or}
 
 -- ---- the mark of an atom
 -- whether its mark can't be turned
-unfoldable pub is_refused : Inverted → Bool
-is_refused (inverted.Turned k) = false
-is_refused inverted.Refused = true
+unfoldable pub is_refused : Option AtomKind → Bool
+is_refused (Some k) = false
+is_refused None = true
 
 unfoldable pub is_fixed : AtomKind → Bool
 is_fixed k = is_refused (invert_of k)
@@ -45,12 +44,12 @@ abbrev pub scan_of : Graph → ℕ → ℕ → Back
 scan_of g t s = scan_in g.bonds g.first t s (is_fixed (kind_at g t)) (degree_at g t) 0
 
 -- whether a new atom t can be entered from s by a bond of kind k, by what its entries back are
-unfoldable pub judged_back : Graph → BondKind → ℕ → ℕ → Back → Way
-judged_back g k s t Fixed = Refuses inversion t 0
-judged_back g k s t Twice = Refuses duplicate_bond s t
+unfoldable pub judged_back : Graph → BondKind → ℕ → ℕ → Back → Result ℕ WalkError
+judged_back g k s t Fixed = Err (Inversion t)
+judged_back g k s t Twice = Err (DuplicateBond s t)
 judged_back g k s t (Found b) =
-    pick (eqb b 0) (Refuses half_bond s t)
-    (pick (same_kind (bond_of g t (b - 1)).kind (reverse_of k)) (Enters b) (Refuses incompatible_bond t s))
+    pick (eqb b 0) (Err (HalfBond s t))
+    (pick (same_kind (bond_of g t (b - 1)).kind (reverse_of k)) (Ok b) (Err (IncompatibleBond t s)))
 
-unfoldable pub way_of : Graph → BondKind → ℕ → ℕ → Way
+unfoldable pub way_of : Graph → BondKind → ℕ → ℕ → Result ℕ WalkError
 way_of g k s t = judged_back g k s t (scan_of g t s)

@@ -1,18 +1,21 @@
 // A new atom's entries back to the atom that it is reached from, and what they make of its mark.
-ghost use Rattle.std.specs.Prelude.{◌≡◌, ℕ};
-ghost use Rattle.feature.specs.Pick.{both};
+ghost use Rattle.std.specs.Prelude.{◌≡◌};
 ghost use Rattle.feature.specs.Kinds.{invert_of, turned_or};
-ghost use Rattle.walk_entry.specs.Graph.{graph};
+ghost use Rattle.walk_entry.specs.Graph.{seen, degree_at};
 ghost use Rattle.walk_entry.specs.Ways.{is_fixed, even, said_as, scan_in, way_of};
 
-use crate::graph::{bond_kind_at, degree_at, kind_at, same_kind, target_at};
-use desk_numbers::{DUPLICATE_BOND, HALF_BOND, INCOMPATIBLE_BOND, INVERSION};
-use feature::atom_kind::{AtomKind, Inverted, invert};
+use crate::WalkError;
+use crate::graph::{Graph, same_kind};
+use feature::atom_kind::{AtomKind, invert};
 use feature::bond_kind::{BondKind, reverse};
 
-#[derive(Clone, Copy)]
+// What a scan finds. `find_way` and `find_tie` end alike, but for the test between that only the second has.
+//
+// It is neither an Option nor a Result, since the two ways to fail refuse by different rules.
+#[derive(Clone, Copy, Debug, PartialEq, Eq)]
 pub enum Back {
-    // The place of the one entry back, from 1, or 0 for none.
+    // The place of the one entry back, from 1, or 0 for none, as the walk's table keeps it. An Option would need a clause that the
+    // place in it is not 0, for the subtraction in find_way and find_tie: the test for none says so here.
     Found(u32),
     // There are two.
     Twice,
@@ -20,100 +23,74 @@ pub enum Back {
     Fixed,
 }
 
-// Whether a new atom can be entered.
-#[derive(Clone, Copy)]
-pub enum Way {
-    // Its entry back is at this place, from 1.
-    Enters(u32),
-    // A refusal by its number and what it carries.
-    Refuses(u32, u32, u32),
-}
-
 // Whether a mark can't be turned.
+#[tactic(auto, unfolding(crate::specs::Ways::is_fixed, crate::specs::Ways::is_refused))]
 fn is_fixed(k: AtomKind) -> bool
     ensures { result ≡ is_fixed k }
 {
-    match invert(k) {
-        Inverted::Turned(_) => false,
-        Inverted::Refused => true,
-    }
+    invert(k).is_none()
 }
 
+#[tactic(auto, unfolding(crate::specs::Ways::even))]
 fn is_even(n: u32) -> bool
     ensures { result ≡ even n }
 {
     n % 2 == 0
 }
 
+#[tactic(auto, unfolding(feature::specs::Kinds::turned_or))]
 fn turned(k: AtomKind) -> AtomKind
     ensures { result ≡ turned_or k (invert_of k) }
 {
-    match invert(k) {
-        Inverted::Turned(n) => n,
-        Inverted::Refused => k,
-    }
+    invert(k).unwrap_or(k)
 }
 
 // An atom as it is said, by the place, from 1, of its entry back to the atom that it was reached from: an even index turns
 // its mark. 0 is a root's.
+#[tactic(auto, unfolding(crate::specs::Ways::said_as))]
 pub fn said_as(k: AtomKind, back: u32) -> AtomKind
     ensures { result ≡ said_as k back }
 {
-    if is_even(back) {
-        return k;
-    }
-    turned(k)
+    if is_even(back) { k } else { turned(k) }
 }
 
-// Whether an entry at an index turns a mark that can't be turned.
-fn is_stuck(fixed: bool, index: u32) -> bool
-    ensures { result ≡ both fixed (even index) }
+// The entries of the atom t from the last.
+#[tactic(auto, using(crate::proofs::Entries::fixed_here, crate::proofs::Entries::twice_here, crate::proofs::Entries::found_here, crate::proofs::Entries::later, crate::proofs::Entries::at_end_lem))]
+pub fn scan_back(g: Graph<'_>, t: u32, s: u32, fixed: bool) -> Back
+    ensures { result ≡ scan_in g.entry.bonds.now g.entry.first.now t s fixed (degree_at (seen g.entry) t) 0 }
 {
-    if fixed {
-        return is_even(index);
-    }
-    false
-}
-
-// The entries of the atom t from the last, of which there are n.
-pub fn scan_back(bonds: &[u32], first: &[u32], t: u32, s: u32, fixed: bool, n: u32) -> Back
-    ensures { result ≡ scan_in bonds.now first.now t s fixed n 0 }
-{
-    let mut back: u32 = 0;
-    let mut left = n;
-    while left > 0 {
-        let place = left;
-        left -= 1;
-        if target_at(bonds, first, t, left) == s {
-            if is_stuck(fixed, left) {
+    let mut back = 0;
+    for i in (0..g.degree_at(t)).rev() {
+        if g.target_at(t, i) == s {
+            if fixed && is_even(i) {
                 return Back::Fixed;
             }
             if back != 0 {
                 return Back::Twice;
             }
-            back = place;
+            back = i + 1;
         }
     }
     Back::Found(back)
 }
 
-// What the entries of a new atom t say of a bond of kind k from s.
-pub fn find_way(atoms: &[u32], bonds: &[u32], first: &[u32], k: BondKind, s: u32, t: u32) -> Way
-    ensures { (n : ℕ) → result ≡ way_of (graph n atoms.now bonds.now first.now) k s t }
+// What the entries of a new atom t say of a bond of kind k from s: the place, from 1, of the one back.
+#[tactic(auto, unfolding(crate::specs::Ways::way_of, crate::specs::Ways::judged_back))]
+pub fn find_way(g: Graph<'_>, k: BondKind, s: u32, t: u32) -> Result<u32, WalkError>
+    ensures { result ≡ way_of (seen g.entry) k s t }
 {
-    let fixed = is_fixed(kind_at(atoms, t));
-    match scan_back(bonds, first, t, s, fixed, degree_at(atoms, t)) {
-        Back::Fixed => Way::Refuses(INVERSION, t, 0),
-        Back::Twice => Way::Refuses(DUPLICATE_BOND, s, t),
+    match scan_back(g, t, s, is_fixed(g.kind_at(t))) {
+        Back::Fixed => Err(WalkError::Inversion(t)),
+        Back::Twice => Err(WalkError::DuplicateBond(s, t)),
         Back::Found(b) => {
             if b == 0 {
-                return Way::Refuses(HALF_BOND, s, t);
+                return Err(WalkError::HalfBond(s, t));
             }
-            let kind = bond_kind_at(bonds, first, t, b - 1);
+            let kind = g.bond_kind_at(t, b - 1);
             if same_kind(kind, reverse(k)) {
-                return Way::Enters(b);
+                return Ok(b);
             }
-            Way::Refuses(INCOMPATIBLE_BOND, t, s)
+            Err(WalkError::IncompatibleBond(t, s))
         }
     }
 }

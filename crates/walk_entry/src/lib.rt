@@ -9,3 +9,20 @@
 pub mod entry;
 pub mod graph;
 pub mod tie;
+
+// Why a walk stops at a bond, with the atoms that it carries.
+#[derive(Clone, Copy, Debug, PartialEq, Eq)]
+pub enum WalkError {
+    // The source, and a target that is none of the atoms.
+    UnknownTarget(u32, u32),
+    // A bond of the source to itself.
+    Loop(u32),
+    HalfBond(u32, u32),
+    DuplicateBond(u32, u32),
+    // The target, then the source, as in the Rust.
+    IncompatibleBond(u32, u32),
+    // An atom whose mark can't be turned.
+    Inversion(u32),
+    // No ring number is left for the source and the target.
+    RingNumbers(u32, u32),
+}

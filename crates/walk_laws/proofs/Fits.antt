@@ -7,9 +7,9 @@ use mathlib.Core.List.{List, [], ◌++◌}
 use mathlib.Core.Bool.{true}
 use native.Mathlib.Omega.{arith}
 use lib.ListN.{length, get_or, set}
-use lib.Dec.{eqb}
 use Rattle.writer.specs.Line.{Event, line_of, write_events}
 use Rattle.walk_entry.specs.Graph.{Graph, degree_at}
+use Rattle.std.specs.Prelude.{is_none, is_some}
 use Rattle.walk.specs.Walk.{Walk, Turn, step_of, walk_to, events_of}
 use Rattle.walk_laws.specs.Trek.{Room, fresh, AllAccepted, degrees}
 use Rattle.feature.proofs.Cases.{by_test}
@@ -17,6 +17,7 @@ use Rattle.walk_laws.proofs.Moves.{Move, still, skip, root, ends, leaves, takes,
 use Rattle.walk_laws.proofs.Sums.{entries_left, left_taken, left_all}
 use Rattle.walk_laws.proofs.Sound.{Sound, up_within, up_some, sound_start, met_counted, step_sound}
 use Rattle.walk_laws.proofs.Written.{leaves_root, pops_join, pops_extend, write_append, accept_append}
+use Rattle.walk.proofs.Place.{atom_at}
 
 pub record Fits (g : Graph) (w : Walk) (d : ℕ) (ps : List (List ℕ)) : Type 0 where
   pub deep : d + w.at.pend ≤ length ps
@@ -31,9 +32,9 @@ pub record Goes (g : Graph) (most : ℕ) (ps : List (List ℕ)) (x : Turn) (d : 
 
 module _ {g : Graph} {w : Walk} {d : ℕ} (s : Sound g w d) where
   -- one entry less is left
-  pub left_less : w.at.current ≡ true → taken_of w < degree_at g w.at.here
-      → entries_left g w.taken ≡ suc (entries_left g (set w.taken w.at.here (taken_of w + 1)))
-  left_less r h = left_taken g w.taken w.at.here (up_within (s.stands r)) s.room.taken h
+  pub left_less : is_some w.at.here ≡ true → taken_of w < degree_at g (atom_at w)
+      → entries_left g w.taken ≡ suc (entries_left g (set w.taken (atom_at w) (taken_of w + 1)))
+  left_less r h = left_taken g w.taken (atom_at w) (up_within (s.stands r)) s.room.taken h
 
   -- an atom not met is one more than were counted
   pub count_below : (t : ℕ) → t < g.size → get_or w.met t 0 ≡ 0 → w.at.count < g.size
@@ -58,7 +59,7 @@ module _ {g : Graph} {w : Walk} {d : ℕ} (s : Sound g w d) where
         (tt, record { deep = omega (arith, f.deep, up_some (s.stands r)); few = f.few; short = f.short })
     step_goes (takes r h) =
         (tt, record { deep = f.deep; few = f.few; short = omega (arith, f.short, left_less r h) })
-    step_goes (refuses r h pairs q a b) =
+    step_goes (refuses r h pairs why) =
         (tt, record { deep = f.deep; few = f.few; short = omega (arith, f.short, left_less r h) })
     step_goes (joins r h pairs p k n) =
         let l = pops_join most ps w.at.pend (omega (arith, f.deep, up_some (s.stands r))) k n in (
@@ -83,7 +84,7 @@ module _ {g : Graph} {w : Walk} {d : ℕ} (s : Sound g w d) where
 turn_goes : (g : Graph) (w : Walk) (d : ℕ) → Sound g w d → (most : ℕ) → g.size ≤ most → (ps : List (List ℕ)) → Fits g w d ps → (n : ℕ) × Goes g most ps (step_of g w) n
 unfolding step_of write_events
 turn_goes g w d s most enough ps f =
-    by_test (λ (x : Turn). (n : ℕ) × Goes g most ps x n) (eqb w.at.refusal 0)
+    by_test (λ (x : Turn). (n : ℕ) × Goes g most ps x n) (is_none w.at.refusal)
     (λ q. let m = turn_moves g w d in let l = step_goes s most enough ps f m.1 in
     (m.0, record { sound = step_sound s m.1; accepted = l.0; fits = l.1 }))
     (λ q. (d, record { sound = s; accepted = tt; fits = f }))

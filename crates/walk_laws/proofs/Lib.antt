@@ -10,5 +10,6 @@ pub mod Ended
 pub mod Judged
 pub mod Longer
 pub mod PlainLines
+pub mod Numbers
 pub mod RingLines
 pub mod Plain

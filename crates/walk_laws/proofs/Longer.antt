@@ -10,14 +10,13 @@ use lib.Dec.{leb, eqb}
 use borrow.Author.Tests.{lt-leb, eqb-true, leb-false}
 use Rattle.feature.specs.Pick.{pick}
 use Rattle.feature.specs.declared.bond_kind.BondKind.{BondKind}
-use Rattle.join_pool.specs.declared.Given.{Given}
-use Rattle.join_pool.specs.declared.Given.TheVariants.{Number, Full}
+use Rattle.std.specs.Prelude.{Err, None, Ok, Option, Result, Some, is_none, is_some}
+use Rattle.walk_entry.specs.declared.WalkError.{WalkError}
+use Rattle.join_pool.specs.declared.Pool.{Pool}
 use Rattle.join_pool.specs.Pairs.{hit_of}
 use Rattle.writer.specs.Line.{Event, Root, Extend, Join, Pop, add_piece, write_event, write_events}
 use Rattle.walk_entry.specs.declared.entry.Back.{Back}
 use Rattle.walk_entry.specs.declared.entry.Back.TheVariants.{Found, Twice, Fixed}
-use Rattle.walk_entry.specs.declared.entry.Way.{Way}
-use Rattle.walk_entry.specs.declared.entry.Way.TheVariants.{Enters, Refuses}
 use Rattle.walk_entry.specs.Graph.{BondEntry, Graph, entry_at, bond_in, bond_of, kind_at, degree_at}
 use Rattle.table.specs.Records.{bond_words}
 use Rattle.walk_entry.specs.Ways.{said_as, scan_in, scan_of, judged_back, way_of}
@@ -33,6 +32,7 @@ use Rattle.table.proofs.Zeros.{zero_at}
 use Rattle.walk_laws.proofs.Moves.{Move, still, skip, root, ends, leaves, takes, refuses, joins, enters, turn_moves}
 use Rattle.walk_laws.proofs.Sound.{Sound, up_within, sound_start, step_sound}
 use Rattle.walk_laws.proofs.Fits.{count_below}
+use Rattle.walk.proofs.Place.{atom_at, turn_is}
 
 -- it looks the same everywhere
 pub get_d_longer : (j : ℕ) (l : List ℕ) (i : ℕ) → get_or (longer j l) i 0 ≡ get_or l i 0
@@ -88,7 +88,7 @@ record Enough (g : Graph) (w : Walk) : Type 0 where
   room : Room g (length w.met) (length w.back) (length w.taken)
   walked : g.size ≤ length w.walked
   more : (t : ℕ) → t < g.size → get_or w.met t 0 ≡ 0 → w.at.count < g.size
-  here : w.at.current ≡ true → w.at.here < g.size
+  here : is_some w.at.here ≡ true → atom_at w < g.size
 
 sound_enough : {g : Graph} {w : Walk} {d : ℕ} → Sound g w d → g.size ≤ length w.walked → Enough g w
 sound_enough s l = record { room = s.room; walked = l; more = count_below s; here = λ r. up_within (s.stands r) }
@@ -142,29 +142,29 @@ module _ (g : Graph) (lf lm lw lb lt : ℕ) where
     leave_long : (a : ℕ) → Later (leave_of wide (long w) a) (leave_of g w a)
     leave_long a = record { is = ap (λ (z : Walker). quiet (with_walker (long w) z)) (left_long a) }
 
-    given_long : (k : BondKind) (s t : ℕ) (x : Given) (pairs : List ℕ) → Later (numbered_of (long w) k s t x pairs) (numbered_of w k s t x pairs)
+    given_long : (k : BondKind) (s t : ℕ) (x : Option (Pool × ℕ)) (pairs : List ℕ) → Later (numbered_of (long w) k s t x pairs) (numbered_of w k s t x pairs)
     unfolding numbered_of
-    given_long k s t Full pairs = record { is = refl }
-    given_long k s t (Number p n) pairs = record { is = refl }
+    given_long k s t None pairs = record { is = refl }
+    given_long k s t (Some (p, n)) pairs = record { is = refl }
 
     ring_long : (k : BondKind) (s t : ℕ) → Later (ring_turn (long w) k s t) (ring_turn w k s t)
     unfolding ring_turn
     ring_long k s t =
         given_long k s t (hit_of w.at.pool w.pairs s t).answer (hit_of w.at.pool w.pairs s t).left
 
-    tied_long : (k : BondKind) (s t : ℕ) (x : Way) → Later (tied_of (long w) k s t x) (tied_of w k s t x)
+    tied_long : (k : BondKind) (s t : ℕ) (x : Result ℕ WalkError) → Later (tied_of (long w) k s t x) (tied_of w k s t x)
     unfolding tied_of
-    tied_long k s t (Refuses r a b) = record { is = refl }
-    tied_long k s t (Enters b) = ring_long k s t
+    tied_long k s t (Err why) = record { is = refl }
+    tied_long k s t (Ok b) = ring_long k s t
 
     tie_long : (k : BondKind) (s t : ℕ) → Later (tie_turn wide (long w) k s t) (tie_turn g w k s t)
     unfolding tie_turn
     tie_long k s t = rw (tie_longer lf g k s t) (tied_long k s t (tie_of g k s t))
 
-    way_long : (k : BondKind) (t : ℕ) → t < g.size → get_or w.met t 0 ≡ 0 → (x : Way) → Later (entered_of wide (long w) k t x) (entered_of g w k t x)
+    way_long : (k : BondKind) (t : ℕ) → t < g.size → get_or w.met t 0 ≡ 0 → (x : Result ℕ WalkError) → Later (entered_of wide (long w) k t x) (entered_of g w k t x)
     unfolding entered_of
-    way_long k t h m (Refuses r a b) = record { is = refl }
-    way_long k t h m (Enters b) =
+    way_long k t h m (Err why) = record { is = refl }
+    way_long k t h m (Ok b) =
         record { is = ap (λ (v : Walk). turn v (pops_then w.at.pend (Extend k (said_as (kind_at g t) b)))) (entry_met w.at t b refl h m) }
 
     enter_long : (k : BondKind) (s t : ℕ) → t < g.size → get_or w.met t 0 ≡ 0 → Later (enter_turn wide (long w) k s t) (enter_turn g w k s t)
@@ -209,12 +209,11 @@ module _ (g : Graph) (lf lm lw lb lt : ℕ) where
     quiet_long = record { is = refl }
 
     turn_long : Later (turn_of wide (long w)) (turn_of g w)
-    unfolding turn_of
-    turn_long = chosen _ _ refl (λ q. atom_long w.at.here (f.here q)) (λ q. root_long w f)
+    turn_long = rw (turn_is wide (long w), turn_is g w) (chosen (is_some w.at.here) _ refl (λ q. atom_long (atom_at w) (f.here q)) (λ q. root_long w f))
 
     step_long : Later (step_of wide (long w)) (step_of g w)
     unfolding step_of
-    step_long = chosen (eqb w.at.refusal 0) (eqb w.at.refusal 0) refl (λ q. turn_long) (λ q. quiet_long)
+    step_long = chosen (is_none w.at.refusal) (is_none w.at.refusal) refl (λ q. turn_long) (λ q. quiet_long)
 
 -- ---- turns
 -- a turn keeps the lengths
@@ -225,7 +224,7 @@ move_exact e (root r h m k) = record { met = rw length-set e.met; walked = rw le
 move_exact e (ends r h) = e
 move_exact e (leaves r h) = e
 move_exact e (takes r h) = e
-move_exact e (refuses r h pairs q a b) = e
+move_exact e (refuses r h pairs why) = e
 move_exact e (joins r h pairs p k n) = e
 move_exact e (enters r h t b i m nb to c k) = record { met = rw length-set e.met; walked = rw length-set e.walked; back = rw length-set e.back }
 
@@ -238,7 +237,7 @@ record Kept (g : Graph) (w : Walk) : Type 0 where
 step_kept : (g : Graph) (w : Walk) → Kept g w → Kept g (step_of g w).after
 unfolding step_of
 step_kept g w k =
-    by_test (λ (x : Turn). Kept g x.after) (eqb w.at.refusal 0)
+    by_test (λ (x : Turn). Kept g x.after) (is_none w.at.refusal)
     (λ q. let m = turn_moves g w k.deep in
     record { deep = m.0; sound = step_sound k.sound m.1; exact = move_exact k.exact m.1 })
     (λ q. k)

@@ -4,32 +4,26 @@ use Prim.Native.Nat.{ℕ, zero, suc, ◌+◌, ◌-◌, ◌≤◌, ◌<◌}
 use mathlib.Core.Path.{◌≡◌, refl, sym, ap, ap₂, ◌∙◌, subst}
 use mathlib.Core.Logic.{◌≢◌}
 use mathlib.Core.List.{List, [], ◌∷◌, ◌++◌, append_assoc, append-nil}
-use mathlib.Core.Bool.{Bool, true, false, false≢true}
+use mathlib.Core.Bool.{Bool, true, false}
 use native.Mathlib.Omega.{arith}
 use lib.ListN.{length, get_or, set, take, length-append, length-set, length-replicate}
 use lib.Seq.{get_or-set_same, get_or-set_other, take-suc-set, take_all}
 use lib.Dec.{ltb, leb, eqb}
 use borrow.Author.Tests.{eqb-true, eqb-false, leb-true, leb-false, ne_eqb, eq-eqb}
-use Rattle.feature.proofs.Cases.{by_test, by_eq}
-use Rattle.feature.specs.Pick.{pick, either}
-use Rattle.feature.specs.Bonds.{same_kind, reverse_of}
+use Rattle.feature.proofs.Cases.{by_test, by_eq, impossible}
+use Rattle.feature.specs.Pick.{pick}
 use Rattle.feature.specs.declared.bond_kind.BondKind.{BondKind}
 use Rattle.table.proofs.Zeros.{zero_at}
-use Rattle.desk_numbers.specs.Numbers.{unknown_target, loop, ring_numbers}
 use Rattle.join_pool.specs.declared.Pool.{Pool}
-use Rattle.join_pool.specs.declared.Given.{Given}
-use Rattle.join_pool.specs.declared.Given.TheVariants.{Number, Full}
+use Rattle.std.specs.Prelude.{Err, None, Ok, Option, Result, Some}
+use Rattle.walk_entry.specs.declared.WalkError.{WalkError}
+use Rattle.walk_entry.specs.declared.WalkError.TheVariants.{UnknownTarget, Loop, RingNumbers}
 use Rattle.join_pool.specs.Pairs.{Hits, highest, next_of, open_of, close_of, open_or_close, hit_pair, hit_of}
 use Rattle.writer.specs.Line.{Event, Root, Extend, Join}
-use Rattle.walk_entry.specs.declared.entry.Back.{Back}
-use Rattle.walk_entry.specs.declared.entry.Back.TheVariants.{Found, Twice, Fixed}
-use Rattle.walk_entry.specs.declared.entry.Way.{Way}
-use Rattle.walk_entry.specs.declared.entry.Way.TheVariants.{Enters, Refuses}
 use Rattle.walk_entry.specs.Graph.{BondEntry, Graph, kind_at, degree_at, bond_in, bond_of}
-use Rattle.walk_entry.specs.Ways.{said_as, judged_back, scan_of, way_of}
-use Rattle.walk_entry.specs.Ties.{count_to, place_to, tie_of}
+use Rattle.walk_entry.specs.Ways.{said_as}
 use Rattle.walk.specs.declared.walker.Walker.{Walker}
-use Rattle.walk.specs.Walk.{Walk, Turn, turn, quiet, refuse_turn, root_passed, back_at, at_end, with_walker, met_at, took_at, pooled, pops_then, left_in, root_turn, leave_of, numbered_of, ring_turn, tied_of, tie_turn, entered_of, enter_turn, bond_turn, entry_turn, atom_of, turn_of, step_of, walk_to, events_of, turns_of}
+use Rattle.walk.specs.Walk.{Walk, Turn, turn, quiet, refuse_turn, root_passed, back_at, at_end, with_walker, met_at, took_at, pooled, pops_then, left_in, root_turn, leave_of, numbered_of, ring_turn, tied_of, tie_turn, entered_of, enter_turn, bond_turn, entry_turn, atom_of, turn_at, turn_of, step_of, walk_to, events_of, turns_of}
 use Rattle.walk_laws.specs.Trek.{fresh, degrees, Finished, least_walk, least_said}
 use Rattle.walk_laws.specs.Plain.{Trail, Outcome, Goes, Refused, Visit, and_then, number_from, number_in, meets, leaves, joins, rings, ties, enters, follows, entries_from, visit_of, roots_from, start_trail, plain_walk}
 use Rattle.walk_laws.specs.OneWalk.{trail_of, refusal_in, HoldTrail, OneWalk}
@@ -56,47 +50,18 @@ number_new i (x ∷ l) t nz =
     by_test2 true f h = f refl
     by_test2 false f h = h refl
 
--- ---- a refusal has a number
-Nonzero : Way → Type 0
-Nonzero (Enters b) = Unit {0}
-Nonzero (Refuses r a b) = r ≢ 0
-
-judged_nonzero : (g : Graph) (k : BondKind) (s t : ℕ) (x : Back) → Nonzero (judged_back g k s t x)
-unfolding judged_back Nonzero
-judged_nonzero g k s t Fixed = omega arith
-judged_nonzero g k s t Twice = omega arith
-judged_nonzero g k s t (Found b) =
-    by_test Nonzero (eqb b 0) (λ q. omega arith)
-    (λ q. by_test Nonzero (same_kind (bond_of g t (b - 1)).kind (reverse_of k)) (λ z. tt) (λ z. omega arith))
-
-way_nonzero : (g : Graph) (k : BondKind) (s t : ℕ) → Nonzero (way_of g k s t)
-unfolding way_of
-way_nonzero g k s t = judged_nonzero g k s t (scan_of g t s)
-
-tie_nonzero : (g : Graph) (k : BondKind) (s t : ℕ) → Nonzero (tie_of g k s t)
-unfolding tie_of Nonzero
-tie_nonzero g k s t =
-    by_test Nonzero (eqb (count_to g t s) 0) (λ q. omega arith)
-    (λ q. by_test Nonzero (either (ltb 1 (count_to g t s)) (ltb 1 (count_to g s t))) (λ z. omega arith)
-    (λ z. by_test Nonzero (same_kind (bond_of g t (place_to g t s - 1)).kind (reverse_of k)) (λ y. tt) (λ y. omega arith)))
-
 -- ---- a pool with no number left keeps its words
 record Keeps (pairs : List ℕ) (h : Hits) : Type 0 where
-  full : h.answer ≡ Full → h.left ≡ pairs
+  full : h.answer ≡ None → h.left ≡ pairs
 
-abbrev is_full : Given → ℕ
-is_full Full = 0
-is_full (Number q m) = 1
+given≢full : (x : Pool × ℕ) → Some x ≡ None → ⊥
+given≢full x e = impossible cc
 
-given≢full : (p : Pool) (n : ℕ) → Number p n ≡ Full → ⊥
-given≢full p n e = let z : ◌≡◌ {A = ℕ} 1 0 = ap is_full e in omega (arith, z)
-
-pair_keeps : (p : Pool) (pairs : List ℕ) (lo hi r : ℕ) → Keeps pairs (open_or_close p pairs lo hi r)
+pair_keeps : (p : Pool) (pairs : List ℕ) (lo hi : ℕ) (r : Option ℕ) → Keeps pairs (open_or_close p pairs lo hi r)
 unfolding open_or_close open_of close_of
-pair_keeps p pairs lo hi r =
-    by_test (Keeps pairs) (eqb r 0)
-    (λ q. by_test (Keeps pairs) (ltb highest (next_of p)) (λ z. record { full = λ e. refl }) (λ z. record { full = λ e. absurd (given≢full _ _ e) }))
-    (λ q. record { full = λ e. absurd (given≢full _ _ e) })
+pair_keeps p pairs lo hi None =
+    by_test (Keeps pairs) (ltb highest (next_of p)) (λ z. record { full = λ e. refl }) (λ z. record { full = λ e. absurd (given≢full _ e) })
+pair_keeps p pairs lo hi (Some r) = record { full = λ e. absurd (given≢full _ e) }
 
 hit_keeps : (p : Pool) (pairs : List ℕ) (a b : ℕ) → Keeps pairs (hit_of p pairs a b)
 unfolding hit_of hit_pair
@@ -163,19 +128,19 @@ module _ (g : Graph) where
   whole : ℕ → List Frame → Outcome → Outcome
   whole next fs p = and_then (climb fs p) (roots next)
 
-  climb_refused : (fs : List Frame) (r a b : ℕ) (s : Trail) → climb fs (Refused r a b s) ≡ Refused r a b s
+  climb_refused : (fs : List Frame) (why : WalkError) (s : Trail) → climb fs (Refused why s) ≡ Refused why s
   unfolding climb and_then
-  climb_refused [] r a b s = refl
-  climb_refused (f ∷ fs) r a b s = climb_refused fs r a b s
+  climb_refused [] why s = refl
+  climb_refused (f ∷ fs) why s = climb_refused fs why s
 
-  whole_refused : (next : ℕ) (fs : List Frame) (r a b : ℕ) (s : Trail) → whole next fs (Refused r a b s) ≡ Refused r a b s
+  whole_refused : (next : ℕ) (fs : List Frame) (why : WalkError) (s : Trail) → whole next fs (Refused why s) ≡ Refused why s
   unfolding whole and_then
-  whole_refused next fs r a b s = ap (λ (p : Outcome). and_then p (roots next)) (climb_refused fs r a b s)
+  whole_refused next fs why s = ap (λ (p : Outcome). and_then p (roots next)) (climb_refused fs why s)
 
   -- how far the turns have come
   abbrev Stands : Walk → List Frame → Trail → Type 0
-  Stands w [] s = w.at.current ≡ false
-  Stands w (f ∷ fs) s = (w.at.current ≡ true) × (w.at.here ≡ f.atom) × (w.at.pend ≡ s.left)
+  Stands w [] s = w.at.here ≡ None
+  Stands w (f ∷ fs) s = (w.at.here ≡ Some f.atom) × (w.at.pend ≡ s.left)
 
   record Roomy (w : Walk) : Type 0 where
     met : g.size ≤ length w.met
@@ -185,9 +150,7 @@ module _ (g : Graph) where
 
   -- a state of the turns, and the plain walk's there
   record Shows (w : Walk) (fs : List Frame) (s : Trail) : Type 0 where
-    going : w.at.refusal ≡ 0
-    first : w.at.first ≡ 0
-    second : w.at.second ≡ 0
+    going : w.at.refusal ≡ None
     stands : Stands w fs s
     held : Held g w.met w.back w.taken fs
     unused : (t : ℕ) → get_or w.met t 0 ≡ 0 → get_or w.taken t 0 ≡ 0
@@ -199,8 +162,7 @@ module _ (g : Graph) where
   -- A turn to x agrees with a plain walk that comes to p: it goes on from there, or both are refused.
   data Step (s : Trail) (x : Turn) (p : Outcome) : Type 0 where
     on : (fs : List Frame) (z : Trail) → Shows x.after fs z → z.said ≡ s.said ++ x.said → whole x.after.at.next fs (Goes z) ≡ p → Step s x p
-    off : (r a b : ℕ) → r ≢ 0 → x.after.at.refusal ≡ r → x.after.at.first ≡ a → x.after.at.second ≡ b → x.said ≡ [] → HoldTrail x.after s
-        → p ≡ Refused r a b s → Step s x p
+    off : (why : WalkError) → x.after.at.refusal ≡ Some why → x.said ≡ [] → HoldTrail x.after s → p ≡ Refused why s → Step s x p
 
   -- two choices by one test
   chosen : {s : Trail} (k : Outcome → Outcome) (p q : Bool) {x y : Turn} {a b : Outcome} → p ≡ q → (q ≡ true → Step s x (k a)) → (q ≡ false → Step s y (k b))
@@ -271,17 +233,15 @@ module _ (g : Graph) where
           pairs = tb.pairs;
         }
 
-    met_shows : z.refusal ≡ 0 → z.first ≡ 0 → z.second ≡ 0 → (fs : List Frame) → Held g w.met w.back w.taken fs → From g t b fs
+    met_shows : z.refusal ≡ None → (fs : List Frame) → Held g w.met w.back w.taken fs → From g t b fs
         → length fs ≤ w.at.count → ((u : ℕ) → get_or w.met u 0 ≡ 0 → get_or w.taken u 0 ≡ 0)
         → Shows (met_at w z t b) (frame t b 0 ∷ fs) (meets s t b es)
-    met_shows gr gf gs fs h fr dp un =
+    met_shows gr fs h fr dp un =
         let nz : z.count + 1 ≢ 0 = omega arith in
         let here : get_or (set w.met t (z.count + 1)) t 0 ≡ z.count + 1 = get_or-set_same w.met t (z.count + 1) 0 (omega (arith, rm.met)) in
         record {
           going = gr;
-          first = gf;
-          second = gs;
-          stands = (refl, refl, refl);
+          stands = (refl, refl);
           held =
               more t b 0 fs l (rw here nz) (get_or-set_same w.back t b 0 (omega (arith, rm.back))) (un t m) (held_off t m h) fr
               (held_met t (z.count + 1) b m h);
@@ -321,7 +281,7 @@ module _ (g : Graph) where
     unfolding whole climb and_then
     root_met l m =
         on (frame w.at.next 0 0 ∷ []) (meets s w.at.next 0 root_said)
-        (met_shows w s h.tables h.room h.counted (root_passed w.at) refl refl w.at.next 0 root_said l m h.going h.first h.second [] none refl (omega arith) h.unused)
+        (met_shows w s h.tables h.room h.counted (root_passed w.at) refl refl w.at.next 0 root_said l m h.going [] none refl (omega arith) h.unused)
         refl
         (ap (λ (p : Outcome). and_then p (roots (w.at.next + 1))) (sym (visit_is g.size 0 w.at.next 0 (meets s w.at.next 0 root_said) (omega arith))))
 
@@ -330,8 +290,6 @@ module _ (g : Graph) where
         on [] s
         (record {
           going = h.going;
-          first = h.first;
-          second = h.second;
           stands = h.stands;
           held = h.held;
           unused = h.unused;
@@ -368,14 +326,12 @@ module _ (g : Graph) where
   module _ (w : Walk) (f : Frame) (fs : List Frame) (s : Trail) (h : Shows w (f ∷ fs) s) (t : Top w f fs) where
     -- ---- it has no entry left
     module _ (none_left : degree_at g f.atom ≤ f.done) where
-      left_shows : (gs : List Frame) (z : Walker) → z.refusal ≡ 0 → z.first ≡ 0 → z.second ≡ 0 → z.count ≡ w.at.count → z.pool ≡ w.at.pool
+      left_shows : (gs : List Frame) (z : Walker) → z.refusal ≡ None → z.count ≡ w.at.count → z.pool ≡ w.at.pool
           → length gs ≤ w.at.count → Stands (with_walker w z) gs (leaves s) → Held g w.met w.back w.taken gs → Shows (with_walker w z) gs (leaves s)
-      left_shows gs z zr zf zs zc zp zd st hd =
+      left_shows gs z zr zc zp zd st hd =
           let k = moved_tables w s h.tables z zc zp in
           record {
             going = zr;
-            first = zf;
-            second = zs;
             stands = st;
             held = hd;
             unused = h.unused;
@@ -391,15 +347,15 @@ module _ (g : Graph) where
   unfolding left_in
   leave_step w f [] s h t l =
       by_test (λ (z : Walker). Step s (quiet (with_walker w z)) (whole w.at.next (f ∷ []) (Goes s))) (eqb (get_or w.back f.atom 0) 0)
-      (λ q. on [] (leaves s) (left_shows w f [] s h t l [] (at_end w.at) h.going h.first h.second refl refl (omega arith) refl none) (said_none _)
+      (λ q. on [] (leaves s) (left_shows w f [] s h t l [] (at_end w.at) h.going refl refl (omega arith) refl none) (said_none _)
       (sym (rest_none w.at.next f [] s l)))
       (λ q. absurd (eqb-false _ _ q (t.back ∙ t.from)))
   leave_step w f (p ∷ fs) s h t l =
       by_test (λ (z : Walker). Step s (quiet (with_walker w z)) (whole w.at.next (f ∷ p ∷ fs) (Goes s))) (eqb (get_or w.back f.atom 0) 0)
       (λ q. absurd (t.from.0 (sym t.back ∙ eqb-true _ _ q)))
       (λ q. on (p ∷ fs) (leaves s)
-      (left_shows w f (p ∷ fs) s h t l (p ∷ fs) (back_at w.at (bond_in g.bonds g.first f.atom (get_or w.back f.atom 0 - 1)).to) h.going h.first h.second refl refl (omega (arith, h.deep))
-      (refl, ap (λ (b : ℕ). (bond_in g.bonds g.first f.atom (b - 1)).to) t.back ∙ t.from.1, ap (λ (n : ℕ). n + 1) h.stands.2) t.under)
+      (left_shows w f (p ∷ fs) s h t l (p ∷ fs) (back_at w.at (bond_in g.bonds g.first f.atom (get_or w.back f.atom 0 - 1)).to) h.going refl refl (omega (arith, h.deep))
+      (ap (λ (b : ℕ). Some (bond_in g.bonds g.first f.atom (b - 1)).to) t.back ∙ ap Some t.from.1, ap (λ (n : ℕ). n + 1) h.stands.1) t.under)
       (said_none _)
       (sym (rest_none w.at.next f (p ∷ fs) s l)))
 
@@ -435,8 +391,6 @@ module _ (g : Graph) where
     took_shows =
         record {
           going = h.going;
-          first = h.first;
-          second = h.second;
           stands = h.stands;
           held = took_held;
           unused = took_unused;
@@ -447,26 +401,24 @@ module _ (g : Graph) where
         }
 
     -- refused
-    refuse_step : (r a b : ℕ) (pairs : List ℕ) → pairs ≡ w.pairs → r ≢ 0 → Step s (refuse_turn (pooled took pairs) r a b) (after (Refused r a b s))
-    refuse_step r a b pairs e nz =
+    refuse_step : (why : WalkError) (pairs : List ℕ) → pairs ≡ w.pairs → Step s (refuse_turn (pooled took pairs) why) (after (Refused why s))
+    refuse_step why pairs e =
         let k = h.tables in
-        off r a b nz refl refl refl refl
+        off why refl refl
         (record { count = k.count; walked = k.walked; met = k.met; back = k.back; pool = k.pool; pairs = e ∙ k.pairs })
-        (whole_refused w.at.next (further f ∷ fs) r a b s)
+        (whole_refused w.at.next (further f ∷ fs) why s)
 
     -- to an atom met before
-    given_step : (k : BondKind) (u : ℕ) (x : Given) (pairs : List ℕ) → (x ≡ Full → pairs ≡ s.pairs)
+    given_step : (k : BondKind) (u : ℕ) (x : Option (Pool × ℕ)) (pairs : List ℕ) → (x ≡ None → pairs ≡ s.pairs)
         → Step s (numbered_of took k f.atom u x pairs) (after (joins s k f.atom u x pairs))
     unfolding numbered_of joins
-    given_step k u Full pairs e = refuse_step ring_numbers f.atom u pairs (e refl ∙ sym h.tables.pairs) (omega arith)
-    given_step k u (Number p n) pairs e =
+    given_step k u None pairs e = refuse_step (RingNumbers f.atom u) pairs (e refl ∙ sym h.tables.pairs)
+    given_step k u (Some (p, n)) pairs e =
         let b = h.tables in
         on (further f ∷ fs) _
         (record {
           going = h.going;
-          first = h.first;
-          second = h.second;
-          stands = (h.stands.0, h.stands.1, refl);
+          stands = (h.stands.0, refl);
           held = took_held;
           unused = took_unused;
           room = record { met = took_room.met; walked = took_room.walked; back = took_room.back; taken = took_room.taken };
@@ -474,7 +426,7 @@ module _ (g : Graph) where
           counted = h.counted;
           tables = record { count = b.count; walked = b.walked; met = b.met; back = b.back; pool = refl; pairs = refl };
         })
-        (ap (λ (d : ℕ). s.said ++ pops_then d (Join k n)) (sym h.stands.2))
+        (ap (λ (d : ℕ). s.said ++ pops_then d (Join k n)) (sym h.stands.1))
         refl
 
     ring_step : (k : BondKind) (u : ℕ)
@@ -487,32 +439,32 @@ module _ (g : Graph) where
         (given_step k u (hit_of s.pool s.pairs f.atom u).answer (hit_of s.pool s.pairs f.atom u).left (hit_keeps s.pool s.pairs f.atom u).full)
 
     -- to an atom met before, once both ends were compared
-    tied_step : (k : BondKind) (u : ℕ) (x : Way) → Nonzero x → Step s (tied_of took k f.atom u x) (after (ties s k f.atom u x))
-    unfolding tied_of ties Nonzero
-    tied_step k u (Refuses r a b) nz = refuse_step r a b w.pairs refl nz
-    tied_step k u (Enters b) nz = ring_step k u
+    tied_step : (k : BondKind) (u : ℕ) (x : Result ℕ WalkError) → Step s (tied_of took k f.atom u x) (after (ties s k f.atom u x))
+    unfolding tied_of ties
+    tied_step k u (Err why) = refuse_step why w.pairs refl
+    tied_step k u (Ok b) = ring_step k u
 
     -- to a new atom
-    way_step : (k : BondKind) (u : ℕ) → u < g.size → get_or w.met u 0 ≡ 0 → (x : Way) → EntersBy g f.atom u x → Nonzero x
+    way_step : (k : BondKind) (u : ℕ) → u < g.size → get_or w.met u 0 ≡ 0 → (x : Result ℕ WalkError) → EntersBy g f.atom u x
         → Step s (entered_of g took k u x) (after (enters g (below fs) s k u x))
-    unfolding entered_of enters EntersBy Nonzero whole climb and_then
-    way_step k u l m (Refuses r a b) by nz = refuse_step r a b w.pairs refl nz
-    way_step k u l m (Enters b) by nz =
+    unfolding entered_of enters EntersBy whole climb and_then
+    way_step k u l m (Err why) by = refuse_step why w.pairs refl
+    way_step k u l m (Ok b) by =
         let es : List Event = pops_then s.left (Extend k (said_as (kind_at g u) b)) in
         let c : w.at.count < g.size = fewer took s took_tables took_room h.counted w.at refl refl u b es l m in
         on (frame u b 0 ∷ further f ∷ fs) (meets s u b es)
-        (met_shows took s took_tables took_room h.counted w.at refl refl u b es l m h.going h.first h.second (further f ∷ fs) took_held by h.deep took_unused)
-        (ap (λ (d : ℕ). s.said ++ pops_then d (Extend k (said_as (kind_at g u) b))) (sym h.stands.2))
+        (met_shows took s took_tables took_room h.counted w.at refl refl u b es l m h.going (further f ∷ fs) took_held by h.deep took_unused)
+        (ap (λ (d : ℕ). s.said ++ pops_then d (Extend k (said_as (kind_at g u) b))) (sym h.stands.1))
         (ap after (sym (visit_is (g.size - suc (length fs)) (suc (length fs)) u b (meets s u b es) (omega (arith, c, h.deep)))))
 
     bond_step : (e : BondEntry) → Step s (bond_turn g took f.atom e) (after (follows g (below fs) f.atom e s))
     unfolding bond_turn follows enter_turn tie_turn
     bond_step e =
-        chosen after (leb g.size e.to) (leb g.size e.to) refl (λ q. refuse_step unknown_target f.atom e.to w.pairs refl (omega arith))
-        (λ q. chosen after (eqb e.to f.atom) (eqb e.to f.atom) refl (λ z. refuse_step loop f.atom 0 w.pairs refl (omega arith))
+        chosen after (leb g.size e.to) (leb g.size e.to) refl (λ q. refuse_step (UnknownTarget f.atom e.to) w.pairs refl)
+        (λ q. chosen after (eqb e.to f.atom) (eqb e.to f.atom) refl (λ z. refuse_step (Loop f.atom) w.pairs refl)
         (λ z. chosen after (eqb (get_or w.met e.to 0) 0) (eqb (number_in s.order e.to) 0) (ap (λ (n : ℕ). eqb n 0) (h.tables.met e.to))
-        (λ y. way_step e.kind e.to (leb-false _ _ q) (h.tables.met e.to ∙ eqb-true _ _ y) _ (way_back g e.kind f.atom e.to) (way_nonzero g e.kind f.atom e.to))
-        (λ y. tied_step e.kind e.to _ (tie_nonzero g e.kind f.atom e.to))))
+        (λ y. way_step e.kind e.to (leb-false _ _ q) (h.tables.met e.to ∙ eqb-true _ _ y) _ (way_back g e.kind f.atom e.to))
+        (λ y. tied_step e.kind e.to _)))
 
     entry_step : f.done < degree_at g f.atom → Step s (entry_turn g w f.atom f.done) (whole w.at.next (f ∷ fs) (Goes s))
     unfolding entry_turn
@@ -533,11 +485,9 @@ module _ (g : Graph) where
   turn_step : (w : Walk) (fs : List Frame) (s : Trail) → Shows w fs s → Step s (turn_of g w) (whole w.at.next fs (Goes s))
   unfolding turn_of
   turn_step w [] s h =
-      by_test (λ (x : Turn). Step s x (whole w.at.next [] (Goes s))) w.at.current (λ q. absurd (false≢true (sym h.stands ∙ q))) (λ q. root_step w s h)
+      subst (λ (o : Option ℕ). Step s (turn_at g w o) (whole w.at.next [] (Goes s))) (sym h.stands) (root_step w s h)
   turn_step w (f ∷ fs) s h =
-      by_test (λ (x : Turn). Step s x (whole w.at.next (f ∷ fs) (Goes s))) w.at.current
-      (λ q. subst (λ (a : ℕ). Step s (atom_of g w a) (whole w.at.next (f ∷ fs) (Goes s))) (sym h.stands.1) (atom_step_lem w f fs s h (top w f fs h.held)))
-      (λ q. absurd (false≢true (sym q ∙ h.stands.0)))
+      subst (λ (o : Option ℕ). Step s (turn_at g w o) (whole w.at.next (f ∷ fs) (Goes s))) (sym h.stands.0) (atom_step_lem w f fs s h (top w f fs h.held))
 
   -- ---- turns
   -- a state where the turns end
@@ -545,35 +495,35 @@ module _ (g : Graph) where
   unfolding whole climb and_then roots_from
   done_one w [] s h d =
       let z : g.size - w.at.next ≡ 0 = omega (arith, d.next) in
-      rw z (record { said = append-nil s.said; refusal = h.going; first = h.first; second = h.second; numbered = tt; tables = h.tables })
-  done_one w (f ∷ fs) s h d = absurd (false≢true (sym d.current ∙ h.stands.0))
+      rw z (record { said = append-nil s.said; refusal = h.going; tables = h.tables })
+  done_one w (f ∷ fs) s h d = absurd (let y : None ≡ Some f.atom = sym d.current ∙ h.stands.0 in impossible cc)
 
   module _ (n : ℕ)
-      (ih : (w : Walk) (fs : List Frame) (s : Trail) → Shows w fs s → ((walk_to g n w).at.refusal ≡ 0 → Finished g (walk_to g n w))
+      (ih : (w : Walk) (fs : List Frame) (s : Trail) → Shows w fs s → ((walk_to g n w).at.refusal ≡ None → Finished g (walk_to g n w))
       → OneWalk (whole w.at.next fs (Goes s)) (walk_to g n w) (s.said ++ events_of g n w)) where
-    one_more : (s : Trail) (x : Turn) (p : Outcome) → Step s x p → ((walk_to g n x.after).at.refusal ≡ 0 → Finished g (walk_to g n x.after))
+    one_more : (s : Trail) (x : Turn) (p : Outcome) → Step s x p → ((walk_to g n x.after).at.refusal ≡ None → Finished g (walk_to g n x.after))
         → OneWalk p (walk_to g n x.after) (s.said ++ (x.said ++ events_of g n x.after))
     one_more s x p (on fs z h e q) d =
         let r = ih x.after fs z h d in
         let a : s.said ++ (x.said ++ events_of g n x.after) ≡ z.said ++ events_of g n x.after =
         sym (append_assoc s.said x.said (events_of g n x.after)) ∙ ap (λ (l : List Event). l ++ events_of g n x.after) (sym e) in
         rw a (subst (λ (y : Outcome). OneWalk y (walk_to g n x.after) (z.said ++ events_of g n x.after)) q r)
-    one_more s x p (off r a b nz er ea eb es tb q) d =
-        let ne : x.after.at.refusal ≢ 0 = λ e. nz (sym er ∙ e) in
+    one_more s x p (off why er es tb q) d =
+        let ne : x.after.at.refusal ≢ None = λ e. let y : Some why ≡ None = sym er ∙ e in impossible cc in
         let st : walk_to g n x.after ≡ x.after = walk_off g n x.after ne in
         let si : s.said ++ (x.said ++ events_of g n x.after) ≡ s.said =
         ap₂ (λ (k l : List Event). s.said ++ (k ++ l)) es (say_off g n x.after ne) ∙ append-nil s.said in
-        let one : OneWalk (Refused r a b s) x.after s.said =
-        record { said = refl; refusal = er; first = ea; second = eb; numbered = nz; tables = tb } in
+        let one : OneWalk (Refused why s) x.after s.said =
+        record { said = refl; refusal = er; tables = tb } in
         rw (q, st, si) one
 
-  turns_one : (n : ℕ) (w : Walk) (fs : List Frame) (s : Trail) → Shows w fs s → ((walk_to g n w).at.refusal ≡ 0 → Finished g (walk_to g n w))
+  turns_one : (n : ℕ) (w : Walk) (fs : List Frame) (s : Trail) → Shows w fs s → ((walk_to g n w).at.refusal ≡ None → Finished g (walk_to g n w))
       → OneWalk (whole w.at.next fs (Goes s)) (walk_to g n w) (s.said ++ events_of g n w)
   unfolding walk_to events_of step_of
   turns_one zero w fs s h d = done_one w fs s h (d h.going)
   turns_one (suc n) w fs s h d =
       let q : step_of g w ≡ turn_of g w = simp h.going in
-      subst (λ (x : Turn). ((walk_to g n x.after).at.refusal ≡ 0 → Finished g (walk_to g n x.after)) → OneWalk (whole w.at.next fs (Goes s)) (walk_to g n x.after) (s.said ++ (x.said ++ events_of g n x.after))) (sym q)
+      subst (λ (x : Turn). ((walk_to g n x.after).at.refusal ≡ None → Finished g (walk_to g n x.after)) → OneWalk (whole w.at.next fs (Goes s)) (walk_to g n x.after) (s.said ++ (x.said ++ events_of g n x.after))) (sym q)
       (one_more n (turns_one n) s (turn_of g w) (whole w.at.next fs (Goes s)) (turn_step w fs s h)) d
 
   -- ---- a whole walk
@@ -585,8 +535,6 @@ module _ (g : Graph) where
   start_shows pairs =
       record {
         going = refl;
-        first = refl;
-        second = refl;
         stands = refl;
         held = none;
         unused = λ t q. zero_at g.size t;
@@ -617,7 +565,7 @@ module _ (g : Graph) where
       (ended g g.size g.size g.size g.size pairs (record { met = omega arith; back = omega arith; taken = omega arith }) m few))
 
   -- Where it was not refused every atom was met, so the walk order fills its table.
-  pub all_met : (pairs : List ℕ) (m : ℕ) → degrees g g.size ≤ m → refusal_in (plain_walk g pairs) ≡ 0
+  pub all_met : (pairs : List ℕ) (m : ℕ) → degrees g g.size ≤ m → refusal_in (plain_walk g pairs) ≡ None
       → (least_walk g (turns_of g.size m) pairs).walked ≡ (trail_of (plain_walk g pairs)).order
   all_met pairs m few e =
       let o = one_walk pairs m few in

@@ -14,6 +14,7 @@ use Rattle.walk_entry.specs.Graph.{Graph, graph, kind_or, kind_in, bond_in}
 use Rattle.walk_entry.specs.Ways.{is_refused, is_fixed, even, said_as, scan_in, judged_back, way_of}
 use Rattle.walk_entry.specs.Ties.{leading, last_leading, tie_of}
 use Rattle.walk.specs.Walk.{pops_of}
+use Rattle.walk_laws.proofs.Numbers.{in_numbers}
 use Rattle.walk_laws.specs.Plain.{Outcome, Goes, Refused, and_then, number_from, joins, rings, ties, enters, follows, entries_from, visit_of, roots_from, plain_walk}
 
 -- what a walk comes to: the refusal's number and what it carries, or zeros; what was said; the walk order; the entries back
@@ -28,7 +29,7 @@ shown r es order back = record { refusal = r; said = es; order = order; back = b
 
 shows : Outcome → Shown
 shows (Goes s) = shown [] s.said s.order s.back
-shows (Refused r a b s) = shown (r ∷ a ∷ b ∷ []) s.said s.order s.back
+shows (Refused why s) = shown (in_numbers why) s.said s.order s.back
 
 -- the pool's words, for numbers up to 3
 abbrev lent : List ℕ

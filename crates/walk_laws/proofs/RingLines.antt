@@ -14,6 +14,7 @@ use Rattle.walk_entry.specs.Graph.{Graph, graph, kind_or, kind_in, bond_in}
 use Rattle.walk_entry.specs.Ways.{is_refused, is_fixed, even, said_as, scan_in, judged_back, way_of}
 use Rattle.walk_entry.specs.Ties.{leading, last_leading, tie_of}
 use Rattle.walk.specs.Walk.{pops_of}
+use Rattle.walk_laws.proofs.Numbers.{in_numbers}
 use Rattle.walk_laws.specs.Plain.{Outcome, Goes, Refused, and_then, number_from, joins, rings, ties, enters, follows, entries_from, visit_of, roots_from, plain_walk}
 
 -- ---- graphs, as their atoms' entries: the first word of an atom, then the kind and the target of each of its entries
@@ -52,7 +53,7 @@ graph_in atoms = graph (length atoms) (atom_table atoms) (bond_table atoms) (sta
 -- ---- what a walk of each comes to: the number and what it carries, nothing where it is not refused
 refusal_of : Outcome → List ℕ
 refusal_of (Goes s) = []
-refusal_of (Refused r a b s) = r ∷ a ∷ b ∷ []
+refusal_of (Refused why s) = in_numbers why
 
 -- the pool's words, for numbers up to 3
 abbrev lent : List ℕ

@@ -14,6 +14,8 @@ use Rattle.walk.specs.Walk.{Walk, Turn}
 use Rattle.walk_laws.specs.Trek.{Room, fresh}
 use Rattle.walk_laws.proofs.Moves.{Move, still, skip, root, ends, leaves, takes, refuses, joins, enters, parent_of}
 use Rattle.walk_laws.proofs.Sums.{unmet, unmet_set, unmet_all}
+use Rattle.std.specs.Prelude.{is_some}
+use Rattle.walk.proofs.Place.{atom_at}
 
 -- the entries back lead from an atom up to its root, over so many atoms, all of them met
 pub data Up (g : Graph) (met back : List ℕ) : ℕ → ℕ → Type 0 where
@@ -56,8 +58,8 @@ pub record Sound (g : Graph) (w : Walk) (d : ℕ) : Type 0 where
   pub next : w.at.next ≤ g.size
   pub counted : w.at.count + unmet g.size w.met ≡ g.size
   pub tried : (a : ℕ) → a < w.at.next → get_or w.met a 0 ≢ 0
-  pub stands : w.at.current ≡ true → Up g w.met w.back w.at.here d
-  pub rests : w.at.current ≡ false → (d ≡ 0) × (w.at.pend ≡ 0)
+  pub stands : is_some w.at.here ≡ true → Up g w.met w.back (atom_at w) d
+  pub rests : is_some w.at.here ≡ false → (d ≡ 0) × (w.at.pend ≡ 0)
 
 pub sound_start : (g : Graph) (lm lw lb lt : ℕ) (pairs : List ℕ) → Room g lm lb lt → Sound g (fresh lm lw lb lt pairs) 0
 sound_start g lm lw lb lt pairs r =
@@ -137,7 +139,7 @@ module _ {g : Graph} {w : Walk} {d : ℕ} (s : Sound g w d) where
         stands = s.stands;
         rests = s.rests;
       }
-  step_sound (refuses r h pairs q a b) =
+  step_sound (refuses r h pairs why) =
       record {
         room = took_room _ _;
         next = s.next;
@@ -160,7 +162,7 @@ module _ {g : Graph} {w : Walk} {d : ℕ} (s : Sound g w d) where
       let here : get_or (set w.met t (w.at.count + 1)) t 0 ≡ w.at.count + 1 =
       get_or-set_same w.met t (w.at.count + 1) 0 (omega (arith, s.room.met)) in
       let back : get_or (set w.back t b) t 0 ≡ b = get_or-set_same w.back t b 0 (omega (arith, s.room.back)) in
-      let up : Up g (set w.met t (w.at.count + 1)) (set w.back t b) w.at.here d = up_kept t (w.at.count + 1) b m (s.stands r) in
+      let up : Up g (set w.met t (w.at.count + 1)) (set w.back t b) (atom_at w) d = up_kept t (w.at.count + 1) b m (s.stands r) in
       record {
         room = record { met = (met_room t (w.at.count + 1) b).met; back = (met_room t (w.at.count + 1) b).back; taken = (took_room _ _).taken };
         next = s.next;

@@ -1,30 +1,18 @@
 -- The walk by turns and the plain walk are one: what is said of both.
-use Rattle.std.specs.Prelude.{ℕ, ◌≡◌, ◌≢◌, List, length, get_or, take}
+use Rattle.std.specs.Prelude.{ℕ, ◌≡◌, List, length, get_or, take, Option, Some, None}
+use Rattle.walk_entry.specs.declared.WalkError.{WalkError}
 use Rattle.writer.specs.Line.{Event}
 use Rattle.walk.specs.Walk.{Walk}
 use Rattle.walk_laws.specs.Plain.{Trail, Outcome, Goes, Refused, number_in}
 
--- what a walk had done at its end, the number of its refusal, 0 for none, and the two atoms that the refusal carries
+-- what a walk had done at its end, and its refusal, if any
 abbrev pub trail_of : Outcome → Trail
 trail_of (Goes s) = s
-trail_of (Refused r a b s) = s
+trail_of (Refused why s) = s
 
-abbrev pub refusal_in : Outcome → ℕ
-refusal_in (Goes s) = 0
-refusal_in (Refused r a b s) = r
-
-abbrev pub first_in : Outcome → ℕ
-first_in (Goes s) = 0
-first_in (Refused r a b s) = a
-
-abbrev pub second_in : Outcome → ℕ
-second_in (Goes s) = 0
-second_in (Refused r a b s) = b
-
--- a refusal has a number
-abbrev pub RefusalNumbered : Outcome → Type 0
-RefusalNumbered (Goes s) = Unit {0}
-RefusalNumbered (Refused r a b s) = r ≢ 0
+abbrev pub refusal_in : Outcome → Option WalkError
+refusal_in (Goes s) = None
+refusal_in (Refused why s) = Some why
 
 -- The tables of the turns hold what a trail has: the atoms met and how many, the number of each, its entry back, and the pool.
 pub record HoldTrail (w : Walk) (s : Trail) : Type 0 where
@@ -35,12 +23,8 @@ pub record HoldTrail (w : Walk) (s : Trail) : Type 0 where
   pub pool : w.at.pool ≡ s.pool
   pub pairs : w.pairs ≡ s.pairs
 
--- Turns that left w and said these events have a plain walk's outcome: what was said, the refusal and what it carries, and the
--- tables.
+-- Turns that left w and said these events have a plain walk's outcome: what was said, the refusal, and the tables.
 pub record OneWalk (p : Outcome) (w : Walk) (es : List Event) : Type 0 where
   pub said : es ≡ (trail_of p).said
   pub refusal : w.at.refusal ≡ refusal_in p
-  pub first : w.at.first ≡ first_in p
-  pub second : w.at.second ≡ second_in p
-  pub numbered : RefusalNumbered p
   pub tables : HoldTrail w (trail_of p)

@@ -4,14 +4,12 @@
 use Rattle.std.specs.Prelude.{ℕ, zero, suc, ◌+◌, List, [], ◌∷◌, ◌++◌, set, replicate, leb, eqb}
 use Rattle.feature.specs.Pick.{pick}
 use Rattle.feature.specs.declared.bond_kind.BondKind.{BondKind}
-use Rattle.desk_numbers.specs.Numbers.{unknown_target, loop, ring_numbers}
 use Rattle.join_pool.specs.declared.Pool.{Pool}
-use Rattle.join_pool.specs.declared.Given.{Given}
-use Rattle.join_pool.specs.declared.Given.TheVariants.{Number, Full}
+use Rattle.std.specs.Prelude.{Err, None, Ok, Option, Result, Some}
+use Rattle.walk_entry.specs.declared.WalkError.{WalkError}
+use Rattle.walk_entry.specs.declared.WalkError.TheVariants.{UnknownTarget, Loop, RingNumbers}
 use Rattle.join_pool.specs.Pairs.{hit_of, empty_of}
 use Rattle.writer.specs.Line.{Event, Root, Extend, Join}
-use Rattle.walk_entry.specs.declared.entry.Way.{Way}
-use Rattle.walk_entry.specs.declared.entry.Way.TheVariants.{Enters, Refuses}
 use Rattle.walk_entry.specs.Graph.{BondEntry, Graph, kind_at, degree_at, bond_of}
 use Rattle.walk_entry.specs.Ways.{said_as, way_of}
 use Rattle.walk_entry.specs.Ties.{tie_of}
@@ -27,15 +25,15 @@ pub record Trail : Type 0 where
   pub left : ℕ
   pub said : List Event
 
--- It goes on, or was refused: with the refusal's number and the two atoms that this carries.
+-- It goes on, or was refused.
 pub data Outcome : Type 0 where
   Goes : Trail → Outcome
-  Refused : ℕ → ℕ → ℕ → Trail → Outcome
+  Refused : WalkError → Trail → Outcome
 
 -- After a refusal nothing more is done.
 unfoldable pub and_then : Outcome → (Trail → Outcome) → Outcome
 and_then (Goes s) f = f s
-and_then (Refused r a b s) f = Refused r a b s
+and_then (Refused why s) f = Refused why s
 
 -- the number of atom a in a walk order that is counted from i on, 0 if it was not met
 unfoldable pub number_from : ℕ → List ℕ → ℕ → ℕ
@@ -54,33 +52,33 @@ abbrev pub leaves : Trail → Trail
 leaves s = record { order = s.order; back = s.back; pool = s.pool; pairs = s.pairs; left = s.left + 1; said = s.said }
 
 -- A ring number for a bond of kind k from a to an atom t that was met before. It is said after the pops; 11 if there is none left.
-unfoldable pub joins : Trail → BondKind → ℕ → ℕ → Given → List ℕ → Outcome
-joins s k a t Full pairs = Refused ring_numbers a t s
-joins s k a t (Number p n) pairs =
+unfoldable pub joins : Trail → BondKind → ℕ → ℕ → Option (Pool × ℕ) → List ℕ → Outcome
+joins s k a t None pairs = Refused (RingNumbers a t) s
+joins s k a t (Some (p, n)) pairs =
     Goes (record { order = s.order; back = s.back; pool = p; pairs = pairs; left = 0; said = s.said ++ pops_then s.left (Join k n) })
 
 unfoldable pub rings : Trail → BondKind → ℕ → ℕ → Outcome
 rings s k a t = joins s k a t (hit_of s.pool s.pairs a t).answer (hit_of s.pool s.pairs a t).left
 
 -- A bond to an atom t that was met before: the entries of both for each other refuse it, by 7, 8 or 9, or a ring number is asked for.
-unfoldable pub ties : Trail → BondKind → ℕ → ℕ → Way → Outcome
-ties s k a t (Refuses r x y) = Refused r x y s
-ties s k a t (Enters b) = rings s k a t
+unfoldable pub ties : Trail → BondKind → ℕ → ℕ → Result ℕ WalkError → Outcome
+ties s k a t (Err why) = Refused why s
+ties s k a t (Ok b) = rings s k a t
 
 -- A bond to a new atom t: its entries back to the source refuse it, by 10, 8, 7 or 9, or name one, at place b. Then it is said
 -- after the pops, its mark turned as that place asks, and visited before anything else.
 abbrev pub Visit : Type 0
 Visit = ℕ → ℕ → Trail → Outcome
 
-unfoldable pub enters : Graph → Visit → Trail → BondKind → ℕ → Way → Outcome
-enters g visit s k t (Refuses r a b) = Refused r a b s
-enters g visit s k t (Enters b) = visit t b (meets s t b (pops_then s.left (Extend k (said_as (kind_at g t) b))))
+unfoldable pub enters : Graph → Visit → Trail → BondKind → ℕ → Result ℕ WalkError → Outcome
+enters g visit s k t (Err why) = Refused why s
+enters g visit s k t (Ok b) = visit t b (meets s t b (pops_then s.left (Extend k (said_as (kind_at g t) b))))
 
 -- A bond of the atom a: 5 if its target is no atom, 6 if it is a itself, then the target.
 unfoldable pub follows : Graph → Visit → ℕ → BondEntry → Trail → Outcome
 follows g visit a e s =
-    pick (leb g.size e.to) (Refused unknown_target a e.to s)
-    (pick (eqb e.to a) (Refused loop a 0 s)
+    pick (leb g.size e.to) (Refused (UnknownTarget a e.to) s)
+    (pick (eqb e.to a) (Refused (Loop a) s)
     (pick (eqb (number_in s.order e.to) 0) (enters g visit s e.kind e.to (way_of g e.kind a e.to))
     (ties s e.kind a e.to (tie_of g e.kind a e.to))))
 

@@ -1,5 +1,5 @@
 -- What is said of a whole walk: whether the writer takes its events, how many entries there are to take, and when it is done.
-use Rattle.std.specs.Prelude.{ℕ, zero, suc, ◌+◌, ◌≤◌, ◌<◌, ◌≡◌, ◌≢◌, List, [], ◌∷◌, false, length, get_or, replicate}
+use Rattle.std.specs.Prelude.{ℕ, zero, suc, ◌+◌, ◌≤◌, ◌<◌, ◌≡◌, ◌≢◌, List, [], ◌∷◌, None, length, get_or, replicate}
 use Rattle.writer.specs.Line.{Event, Root, Extend, Join, Pop, write_event}
 use Rattle.walk_entry.specs.Graph.{Graph, degree_at}
 use Rattle.walk.specs.Walk.{Walk, walk, start_walker, walk_to, events_of}
@@ -34,7 +34,7 @@ degrees g (suc n) = degrees g n + degree_at g n
 
 -- The walk is done: there is no current atom, every atom was tried as a root, and every atom was met and counted.
 pub record Finished (g : Graph) (w : Walk) : Type 0 where
-  pub current : w.at.current ≡ false
+  pub current : w.at.here ≡ None
   pub next : g.size ≤ w.at.next
   pub met : (a : ℕ) → a < g.size → get_or w.met a 0 ≢ 0
   pub count : w.at.count ≡ g.size

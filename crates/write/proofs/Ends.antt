@@ -1,15 +1,14 @@
 -- The end of a walk: what the tables of its writer hold is the line that it said. Assumes nothing.
 use Prim.Native.Nat.{ℕ, ◌+◌, ◌-◌, ◌≤◌, ◌<◌}
 use mathlib.Core.Path.{◌≡◌, refl, ◌∙◌, ap, sym, subst}
-use mathlib.Core.Logic.{◌≢◌}
 use mathlib.Core.List.{List, [], ◌++◌}
 use mathlib.Core.Bool.{Bool, true, false}
 use native.Mathlib.Omega.{arith}
 use native.Mathlib.Nat.{zero-add}
 use lib.ListN.{length, drop, length-replicate}
 use lib.Seq.{sets, sets-eq, length-sets}
-use lib.Dec.{ltb, eqb}
-use borrow.Author.Tests.{lt-ltb, le-ltb, eq-eqb, ne_eqb, ltb-false}
+use lib.Dec.{ltb}
+use borrow.Author.Tests.{ltb-false}
 use Rattle.feature.proofs.Lists.{drop_zeros}
 use Rattle.feature.specs.Pick.{pick}
 use Rattle.table.specs.Limits.{atom_limit, bond_limit, lesser_of}
@@ -24,30 +23,18 @@ use Rattle.walk.specs.declared.walker.Walker.{Walker}
 use Rattle.walk.specs.Walk.{Walk, walk, start_walker, walk_to, events_of, turns_of}
 use Rattle.walk_laws.specs.Trek.{fresh}
 use Rattle.feature.proofs.Cases.{by_test}
-use Rattle.write.specs.declared.answer.Written.{Written}
-use Rattle.write.specs.declared.answer.Written.TheVariants.{Done, OutRoom}
+use Rattle.std.specs.Prelude.{Ok, Result}
+use Rattle.write.specs.declared.answer.WriteError.{WriteError}
+use Rattle.write.specs.declared.answer.WriteError.TheVariants.{Stopped, OutRoom}
+use Rattle.walk_entry.specs.declared.WalkError.{WalkError}
 use Rattle.table.specs.Zeros.{zeros}
-use Rattle.write.specs.Write.{pair_words, start_in, walk_in, write_refusal, WriteLeft, write_leaves, line_refusing, put_line, output_ended, line_concluded, graph_written}
+use Rattle.write.specs.Write.{pair_words, start_in, walk_in, unless, WriteLeft, write_leaves, line_refusing, put_line, output_ended, line_concluded, graph_written}
 use Rattle.write.specs.Order as made
 use Rattle.write.specs.Steps.{WorkCleared, graph_in, small_walk, small_said, small_written}
 use Rattle.write.proofs.Lengths.{small_written_lem}
 
 -- ---- each way out
-pub end_refused : (out o : List ℕ) (z : Walker) (line : Writer) (r : Written) → z.refusal ≢ 0 → o ≡ zeros (length out) → r ≡ write_refusal z → write_leaves r o ≡ output_ended out z line
-unfolding output_ended
-end_refused out o z line r d e f =
-    ap (λ (x : Written). write_leaves x o) f ∙ ap (λ (x : List ℕ). write_leaves (write_refusal z) x) e ∙ simp (ne_eqb _ _ d)
-
-pub end_short : (out o : List ℕ) (z : Walker) (line : Writer) → z.refusal ≡ 0 → length out < line.len → o ≡ zeros (length out) → write_leaves (OutRoom line.len) o ≡ output_ended out z line
-unfolding output_ended
-end_short out o z line d h e =
-    ap (λ (x : List ℕ). write_leaves (OutRoom line.len) x) e ∙ simp (eq-eqb _ _ d, lt-ltb _ _ h)
-
-pub end_done : (out : List ℕ) (z : Walker) (line : Writer) → z.refusal ≡ 0 → line.len ≤ length out → write_leaves (Done line.len) out ≡ output_ended out z line
-unfolding output_ended
-end_done out z line d h = simp (eq-eqb _ _ d, le-ltb _ _ h)
-
-pub left_zeros : (r : Written) (o : List ℕ) (n : ℕ) → o ≡ zeros n → write_leaves r o ≡ line_refusing n r
+pub left_zeros : (r : Result ℕ WriteError) (o : List ℕ) (n : ℕ) → o ≡ zeros n → write_leaves r o ≡ write_leaves r (zeros n)
 left_zeros r o n e = ap (λ (x : List ℕ). write_leaves r x) e
 
 pub few : (n m : ℕ) → n ≤ atom_limit → m ≤ bond_limit → turns_of n m < 1000000
@@ -71,18 +58,18 @@ module _ (room : ℕ) (out : List ℕ) (z : Walker) (w : Writer) (line : List �
   long : length out ≡ room
   long = ap length holds ∙ length-sets (zeros room) 0 line ∙ length-replicate {A = ℕ} room 0
 
-  fits : (b : Bool) → ltb room (length line) ≡ b → pick b (line_refusing room (OutRoom (length line))) (write_leaves (Done (length line)) out) ≡ put_line room line
+  fits : (b : Bool) → ltb room (length line) ≡ b → pick b (line_refusing room (OutRoom (length line))) (write_leaves (Ok (length line)) out) ≡ put_line room line
   unfolding put_line
   fits true e = simp e
   fits false e =
-      ap (λ (x : List ℕ). write_leaves (Done (length line)) x) (holds ∙ laid_out room line (ltb-false room (length line) e)) ∙ simp e
+      ap (λ (x : List ℕ). write_leaves (Ok (length line)) x) (holds ∙ laid_out room line (ltb-false room (length line) e)) ∙ simp e
 
   pub ended_is : output_ended out z w ≡ line_concluded room z line
   unfolding output_ended line_concluded
   ended_is =
-      ap (λ (k : ℕ). pick (eqb z.refusal 0) (pick (ltb k w.len) (line_refusing k (OutRoom w.len)) (write_leaves (Done w.len) out)) (line_refusing k (write_refusal z))) long
-      ∙ ap (λ (k : ℕ). pick (eqb z.refusal 0) (pick (ltb room k) (line_refusing room (OutRoom k)) (write_leaves (Done k) out)) (line_refusing room (write_refusal z))) has
-      ∙ ap (λ (x : WriteLeft). pick (eqb z.refusal 0) x (line_refusing room (write_refusal z))) (fits (ltb room (length line)) refl)
+      ap (λ (k : ℕ). unless z.refusal (λ (why : WalkError). line_refusing k (Stopped why)) (pick (ltb k w.len) (line_refusing k (OutRoom w.len)) (write_leaves (Ok w.len) out))) long
+      ∙ ap (λ (k : ℕ). unless z.refusal (λ (why : WalkError). line_refusing room (Stopped why)) (pick (ltb room k) (line_refusing room (OutRoom k)) (write_leaves (Ok k) out))) has
+      ∙ ap (λ (x : WriteLeft). unless z.refusal (λ (why : WalkError). line_refusing room (Stopped why)) x) (fits (ltb room (length line)) refl)
 
 -- ---- a graph written, on work tables of k words each
 full_room : (k : ℕ) → k ≤ atom_limit → piece_room (zeros k) ≡ k
@@ -143,21 +130,7 @@ module _ (atoms bonds : List ℕ) (n m : ℕ) (first met walked back taken pairs
       e
 
 -- ---- a walk order
-pub order_refused : (walked met back w' m' b' : List ℕ) (n : ℕ) (z : Walker) (r : Written) → z.refusal ≢ 0 → w' ≡ zeros (length walked) → m' ≡ zeros (length met) → b' ≡ zeros (length back) → r ≡ write_refusal z → made.order r w' m' b' ≡ made.order_concluded n z walked met back
-unfolding made.order_concluded
-order_refused walked met back w' m' b' n z r d e f g h =
-    ap (λ (x : Written). made.order x w' m' b') h
-    ∙ ap (λ (x : List ℕ). made.order (write_refusal z) x m' b') e
-    ∙ ap (λ (x : List ℕ). made.order (write_refusal z) (zeros (length walked)) x b') f
-    ∙ ap (λ (x : List ℕ). made.order (write_refusal z) (zeros (length walked)) (zeros (length met)) x) g
-    ∙ simp (ne_eqb _ _ d)
-
-pub order_done : (walked met back m' : List ℕ) (n : ℕ) (z : Walker) → z.refusal ≡ 0 → m' ≡ made.lowered met → made.order (Done n) walked m' back ≡ made.order_concluded n z walked met back
-unfolding made.order_concluded
-order_done walked met back m' n z d e =
-    ap (λ (x : List ℕ). made.order (Done n) walked x back) e ∙ simp (eq-eqb _ _ d)
-
-pub tables_zero : (r : Written) (a b c : List ℕ) (k l n : ℕ) → a ≡ zeros k → b ≡ zeros l → c ≡ zeros n → made.order r a b c ≡ made.order_refusing k l n r
+pub tables_zero : (r : Result ℕ WriteError) (a b c : List ℕ) (k l n : ℕ) → a ≡ zeros k → b ≡ zeros l → c ≡ zeros n → made.order r a b c ≡ made.order r (zeros k) (zeros l) (zeros n)
 tables_zero r a b c k l n e f g =
     ap (λ (x : List ℕ). made.order r x b c) e
     ∙ ap (λ (x : List ℕ). made.order r (zeros k) x c) f
@@ -178,3 +151,11 @@ graph_ordered_lem atoms bonds first n m lm lw lb m₀ w₀ b₀ met walked back 
     (walk_is atom_limit atoms bonds first n m f (start_in lm lw lb) (walk z met walked back taken pairs)
     (w ∙ ap (λ (i : ℕ). walk_to (graph n atoms bonds first) (turns_of n m) (walk start_walker m₀ w₀ b₀ (zeros atom_limit) (zeros i))) (length-replicate {A = ℕ} pair_words 0)
     ∙ ap (λ (x : Walk). walk_to (graph n atoms bonds first) (turns_of n m) x) (start_is start_walker lm lw lb m₀ w₀ b₀ (zeros atom_limit) (zeros pair_words) e1 e2 e3)))
+
+-- the same of tables that hold the same
+pub concluded_as : (n : ℕ) (z : Walker) (walked met back w m b : List ℕ) (r : made.Order) → r ≡ made.order_concluded n z walked met back → walked ≡ w → met ≡ m → back ≡ b → r ≡ made.order_concluded n z w m b
+concluded_as n z walked met back w m b r h e f g =
+    h
+    ∙ ap (λ (x : List ℕ). made.order_concluded n z x met back) e
+    ∙ ap (λ (x : List ℕ). made.order_concluded n z w x back) f
+    ∙ ap (λ (x : List ℕ). made.order_concluded n z w m x) g

@@ -1,16 +1,19 @@
 -- The tests before a walk, in their order, for the write call and the walk order. Assumes nothing.
-use Prim.Native.Nat.{ℕ, ◌+◌, ◌/◌, ◌≤◌, ◌<◌}
-use mathlib.Core.Path.{◌≡◌, ◌∙◌, ap}
+use Prim.Native.Nat.{ℕ, ◌/◌, ◌≤◌}
+use mathlib.Core.Path.{◌≡◌, refl, sym, ◌∙◌, ap}
+use mathlib.Core.Bool.{Bool, true, false}
 use mathlib.Core.List.{List}
 use native.Mathlib.Omega.{arith}
 use lib.ListN.{length}
-use borrow.Author.Tests.{lt-ltb, le-ltb}
+use lib.Dec.{ltb}
+use Rattle.feature.specs.Pick.{pick}
 use Rattle.table.specs.Records.{atom_words, bond_words}
 use Rattle.table.specs.Limits.{RoomOf, atom_limit, bond_limit, lesser_of}
 use Rattle.table_check.specs.Judge.{bad_record}
-use Rattle.write.specs.declared.answer.Written.{Written}
-use Rattle.write.specs.declared.answer.Written.TheVariants.{AtomRoom, BondRoom, BadTable}
-use Rattle.write.specs.Write.{atom_places, bond_slots, admitted}
+use Rattle.std.specs.Prelude.{Err, Ok, Result, Option, Some, None}
+use Rattle.write.specs.declared.answer.WriteError.{WriteError}
+use Rattle.write.specs.declared.answer.WriteError.TheVariants.{AtomRoom, BondRoom, BadTable}
+use Rattle.write.specs.Write.{atom_places, bond_slots, unless, admitted}
 use Rattle.write.specs.Order.{order_room}
 
 pub atom_room_is : (atoms : List ℕ) (a : ℕ) → RoomOf atom_limit (length atoms / atom_words) a → a ≡ atom_places atoms
@@ -31,18 +34,30 @@ order_room_is atoms lw ln lb a b c r h i j k = (
   omega (arith, h.most, i.most, j.most, k.most),
 )
 
--- the room is a, for entries b, and the first bad record is d
-module _ (A : Type 0) (refused : Written → A) (made : A) (atoms bonds : List ℕ) (n m room a b d : ℕ) (is_room : a ≡ room) where
-  pub admit_13 : a < n → refused (AtomRoom n) ≡ admitted room atoms n bonds m refused made
-  admit_13 h = simp (← is_room, lt-ltb _ _ h)
+-- ---- what the tests answer, a call by the same tests answers
+settled_by : {A : Type 0} (refused : WriteError → A) (made : A) → Result (Unit {0}) WriteError → A
+settled_by refused made (Err why) = refused why
+settled_by refused made (Ok u) = made
 
-  pub admit_14 : n ≤ a → RoomOf bond_limit (length bonds / bond_words) b → b < m → refused (BondRoom m) ≡ admitted room atoms n bonds m refused made
-  admit_14 h i j = simp (← is_room, le-ltb _ _ h, ← bond_room_is bonds b i, lt-ltb _ _ j)
+settle : {A : Type 0} (refused : WriteError → A) (made : A) (p q : Bool) (o : Option ℕ) (a b : WriteError) (f : ℕ → WriteError)
+    → pick p (refused a) (pick q (refused b) (unless o (λ x. refused (f x)) made)) ≡ settled_by refused made (pick p (Err a) (pick q (Err b) (unless o (λ x. Err (f x)) (Ok tt))))
+unfolding settled_by
+settle refused made true q o a b f = refl
+settle refused made false true o a b f = refl
+settle refused made false false (Some x) a b f = refl
+settle refused made false false None a b f = refl
 
-  pub admit_17 : n ≤ a → RoomOf bond_limit (length bonds / bond_words) b → m ≤ b → d ≡ bad_record atoms n bonds m → d < n + m → refused (BadTable d) ≡ admitted room atoms n bonds m refused made
-  admit_17 h i j e k =
-      simp (← is_room, le-ltb _ _ h, ← bond_room_is bonds b i, le-ltb _ _ j, ← e, lt-ltb _ _ k)
+module _ (A : Type 0) (refused : WriteError → A) (made : A) (atoms bonds : List ℕ) (n m room : ℕ) (r : Result (Unit {0}) WriteError)
+    (is : r ≡ admitted room atoms n bonds m (λ why. Err why) (Ok tt)) where
+  by_answer : settled_by refused made r ≡ admitted room atoms n bonds m refused made
+  by_answer =
+      ap (settled_by refused made) is
+      ∙ sym (settle refused made (ltb room n) (ltb (bond_slots bonds) m) (bad_record atoms n bonds m) (AtomRoom n) (BondRoom m) BadTable)
 
-  pub admit_all : n ≤ a → RoomOf bond_limit (length bonds / bond_words) b → m ≤ b → d ≡ bad_record atoms n bonds m → n + m ≤ d → made ≡ admitted room atoms n bonds m refused made
-  admit_all h i j e k =
-      simp (← is_room, le-ltb _ _ h, ← bond_room_is bonds b i, le-ltb _ _ j, ← e, le-ltb _ _ k)
+  pub admit_refused : (why : WriteError) → r ≡ Err why → refused why ≡ admitted room atoms n bonds m refused made
+  unfolding settled_by
+  admit_refused why e = ap (settled_by refused made) (sym e) ∙ by_answer
+
+  pub admit_all : (u : Unit {0}) → r ≡ Ok u → made ≡ admitted room atoms n bonds m refused made
+  unfolding settled_by
+  admit_all u e = ap (settled_by refused made) (sym e) ∙ by_answer

@@ -1,12 +1,12 @@
 -- The walk order is the write call's walk, whatever lengths were lent; and smaller work tables write the same. Assumes nothing.
-use Prim.Native.Nat.{ℕ, zero, suc, ◌+◌, ◌-◌, ◌/◌, ◌≤◌}
+use Prim.Native.Nat.{ℕ, zero, suc, ◌-◌, ◌/◌, ◌≤◌}
 use mathlib.Core.Path.{◌≡◌, refl, sym, ap, ap₂, ◌∙◌}
 use mathlib.Core.List.{List, [], ◌∷◌, ◌++◌}
 use mathlib.Core.Bool.{Bool, true, false}
 use native.Mathlib.Omega.{arith}
 use lib.ListN.{length, get_or, set, length-replicate}
 use lib.Seq.{take_at}
-use lib.Dec.{ltb, eqb}
+use lib.Dec.{ltb}
 use borrow.Author.Tests.{le-ltb, ltb-true}
 use Rattle.feature.specs.Pick.{pick}
 use Rattle.table.specs.Records.{atom_words}
@@ -15,7 +15,6 @@ use Rattle.table.specs.Starts.{entry_starts, sum_of}
 use Rattle.table_check.specs.Judge.{bad_record}
 use Rattle.writer.specs.Line.{Event, line_of, write_events}
 use Rattle.walk_entry.specs.Graph.{Graph, graph}
-use Rattle.desk_numbers.specs.Numbers.{half_bond, duplicate_bond, incompatible_bond, inversion, unknown_target, loop}
 use Rattle.walk.specs.declared.walker.Walker.{Walker}
 use Rattle.walk.specs.Walk.{Walk, walk_to, events_of, turns_of}
 use Rattle.walk_laws.specs.Trek.{Room, fresh, least_walk, least_said}
@@ -23,12 +22,13 @@ use Rattle.walk_laws.specs.Steps.{longer, longer_graph, longer_walk, Lengths, Ex
 use Rattle.feature.proofs.Cases.{by_test}
 use Rattle.walk_laws.proofs.Accepted.{accepted}
 use Rattle.walk_laws.proofs.Longer.{get_d_longer, set_longer, longer_zeros, least_exact, any_length, pieces_alike}
-use Rattle.write.specs.declared.answer.Written.{Written}
-use Rattle.write.specs.declared.answer.Written.TheVariants.{Done}
+use Rattle.std.specs.Prelude.{None, Ok, Option, Result, Some}
+use Rattle.write.specs.declared.answer.WriteError.{WriteError}
+use Rattle.write.proofs.Unless.{by_unless}
 use Rattle.table.specs.Zeros.{zeros}
 use Rattle.table.proofs.EntryStarts.{entry_starts_length}
 use Rattle.table.proofs.Rooms.{lesser_both}
-use Rattle.write.specs.Write.{pair_words, graph_of, walk_in, walk_of, said_in, walk_events, line_said, write_refusal, atom_places, bond_slots, WriteLeft, put_line, line_concluded, graph_written, write_of}
+use Rattle.write.specs.Write.{pair_words, graph_of, walk_in, walk_of, said_in, walk_events, line_said, unless, atom_places, bond_slots, WriteLeft, put_line, line_concluded, graph_written, write_of}
 use Rattle.write.specs.Order as made
 use Rattle.write.specs.Steps.{cut_to, Handed, Looks, as_order, graph_in, small_walk, small_said, small_written}
 use Rattle.write.proofs.Tables.{length_lowered}
@@ -138,7 +138,7 @@ module _ (atoms : List ℕ) (n : ℕ) (bonds : List ℕ) (m : ℕ) where
     -- what a walk on tables of these lengths hands out when it is done
     abbrev handed : ℕ → ℕ → ℕ → made.Order
     handed lw ln lb =
-        made.order (Done n) (walk_in ln lw lb atoms n bonds m).walked (made.lowered (walk_in ln lw lb atoms n bonds m).met) (walk_in ln lw lb atoms n bonds m).back
+        made.order (Ok n) (walk_in ln lw lb atoms n bonds m).walked (made.lowered (walk_in ln lw lb atoms n bonds m).met) (walk_in ln lw lb atoms n bonds m).back
 
     handed_is : (lw ln lb : ℕ) → n ≤ lw → n ≤ ln → n ≤ lb → Handed n lw ln lb (walk_of atoms n bonds m) (handed lw ln lb)
     handed_is lw ln lb hw hn hb =
@@ -197,33 +197,18 @@ has_room lw ln lb n atoms e =
     let f = lesser_both atom_limit (length atoms / atom_words) n (le-ltb (atom_places atoms) n d.0) in
     record { few = f.0; walked = d.1; number = c.1; back = b.1 }
 
--- a refusal but for the want of room in an output is the walk order's too
-refusal_kept : (n : ℕ) (z : Walker) → as_order n (write_refusal z) ≡ write_refusal z
-unfolding write_refusal as_order
-refusal_kept n z =
-    by_test Keeps (eqb z.refusal unknown_target) (λ q. refl)
-    (λ q. by_test Keeps (eqb z.refusal loop) (λ q. refl)
-    (λ q. by_test Keeps (eqb z.refusal half_bond) (λ q. refl)
-    (λ q. by_test Keeps (eqb z.refusal duplicate_bond) (λ q. refl)
-    (λ q. by_test Keeps (eqb z.refusal incompatible_bond) (λ q. refl)
-    (λ q. by_test Keeps (eqb z.refusal inversion) (λ q. refl)
-    (λ q. refl))))))
-  where
-    Keeps : Written → Type 0
-    Keeps r = as_order n r ≡ r
-
--- and is not done
-not_done : (r : Written) (k : ℕ) → as_order (suc k) r ≡ r → r ≡ Done k → ⊥
+-- a refusal but for the want of room in an output is not done
+not_done : (r : Result ℕ WriteError) (k : ℕ) → as_order (suc k) r ≡ r → r ≡ Ok k → ⊥
 unfolding as_order
 not_done r k keeps e =
-    let y : Done (suc k) ≡ Done k = ap (as_order (suc k)) (sym e) ∙ keeps ∙ e in
+    let y : Ok (suc k) ≡ Ok k = ap (as_order (suc k)) (sym e) ∙ keeps ∙ e in
     let z : suc k ≡ k = cc in
     omega (arith, z)
 
 module _ (lw ln lb : ℕ) (atoms : List ℕ) (n : ℕ) (bonds : List ℕ) (m : ℕ) where
   record Hands (k : ℕ) (o : made.Order) : Type 0 where
-    tables : o.answer ≡ Done k → Handed n lw ln lb (walk_of atoms n bonds m) o
-    looks : o.answer ≡ Done k → Looks (walk_of atoms n bonds m) o
+    tables : o.answer ≡ Ok k → Handed n lw ln lb (walk_of atoms n bonds m) o
+    looks : o.answer ≡ Ok k → Looks (walk_of atoms n bonds m) o
 
   hands_no : (k : ℕ) (o : made.Order) → as_order (suc k) o.answer ≡ o.answer → Hands k o
   hands_no k o h = record { tables = λ e. absurd (not_done o.answer k h e); looks = λ e. absurd (not_done o.answer k h e) }
@@ -234,19 +219,18 @@ module _ (lw ln lb : ℕ) (atoms : List ℕ) (n : ℕ) (bonds : List ℕ) (m : �
       by_test (Hands k) (ltb (made.order_room lw ln lb atoms) n) (λ q. hands_no k _ refl)
       (λ q. let r = has_room lw ln lb n atoms q in
       by_test (Hands k) (ltb (bond_slots bonds) m) (λ q. hands_no k _ refl)
-      (λ q. by_test (Hands k) (ltb (bad_record atoms n bonds m) (n + m)) (λ q. hands_no k _ refl)
-      (λ q. by_test (Hands k) (eqb (walk_in ln lw lb atoms n bonds m).at.refusal 0)
+      (λ q. by_unless (Hands k) (bad_record atoms n bonds m) (λ bad q. hands_no k _ refl)
+      (λ q. by_unless (Hands k) (walk_in ln lw lb atoms n bonds m).at.refusal (λ why q. hands_no k _ refl)
       (λ q. record {
         tables = λ e. handed_is atoms n bonds m r.few lw ln lb r.walked r.number r.back;
         looks = λ e. handed_looks atoms n bonds m r.few lw ln lb r.walked r.number r.back;
-      })
-      (λ q. hands_no k _ (refusal_kept (suc k) (walk_in ln lw lb atoms n bonds m).at)))))
+      }))))
 
   -- A walk order that is done hands out the tables of the write call's walk, cut to the atoms, zeros after them.
-  pub order_tables : (k : ℕ) → (made.order_of lw ln lb atoms n bonds m).answer ≡ Done k → Handed n lw ln lb (walk_of atoms n bonds m) (made.order_of lw ln lb atoms n bonds m)
+  pub order_tables : (k : ℕ) → (made.order_of lw ln lb atoms n bonds m).answer ≡ Ok k → Handed n lw ln lb (walk_of atoms n bonds m) (made.order_of lw ln lb atoms n bonds m)
   order_tables k = (order_hands k).tables
 
-  pub order_looks : (k : ℕ) → (made.order_of lw ln lb atoms n bonds m).answer ≡ Done k → Looks (walk_of atoms n bonds m) (made.order_of lw ln lb atoms n bonds m)
+  pub order_looks : (k : ℕ) → (made.order_of lw ln lb atoms n bonds m).answer ≡ Ok k → Looks (walk_of atoms n bonds m) (made.order_of lw ln lb atoms n bonds m)
   order_looks k = (order_hands k).looks
 
   -- ---- its answer
@@ -257,19 +241,24 @@ module _ (lw ln lb : ℕ) (atoms : List ℕ) (n : ℕ) (bonds : List ℕ) (m : �
   answered p true e f h = rw e (f refl)
   answered p false e f h = rw e (h refl)
 
-  put_answers : (room : ℕ) (line w u v : List ℕ) → Answers (made.order (Done n) w u v) (put_line room line)
+  answered_by : {A : Type 0} (p q : Option A) {a : made.Order} {x : WriteLeft} {f : A → made.Order} {g : A → WriteLeft} → p ≡ q → ((z : A) → Answers (f z) (g z)) → (q ≡ None → Answers a x)
+      → Answers (unless p f a) (unless q g x)
+  answered_by p (Some z) e f h = rw e (f z)
+  answered_by p None e f h = rw e (h refl)
+
+  put_answers : (room : ℕ) (line w u v : List ℕ) → Answers (made.order (Ok n) w u v) (put_line room line)
   unfolding put_line as_order
   put_answers room line w u v =
-      by_test (Answers (made.order (Done n) w u v)) (ltb room (length line)) (λ q. record { is = refl }) (λ q. record { is = refl })
+      by_test (Answers (made.order (Ok n) w u v)) (ltb room (length line)) (λ q. record { is = refl }) (λ q. record { is = refl })
 
   module _ (hw : n ≤ lw) (hn : n ≤ ln) (hb : n ≤ lb) where
     graph_answers : (room : ℕ) → n ≤ atom_limit → Answers (made.graph_ordered lw ln lb atoms n bonds m) (graph_written room atoms n bonds m)
-    unfolding made.graph_ordered made.order_concluded graph_written line_concluded
+    unfolding made.graph_ordered made.order_concluded graph_written line_concluded as_order
     graph_answers room few =
         let e : (walk_in ln lw lb atoms n bonds m).at ≡ (walk_of atoms n bonds m).at = same_end atoms n bonds m few ln lw lb hn hw hb in
-        answered (eqb (walk_in ln lw lb atoms n bonds m).at.refusal 0) (eqb (walk_of atoms n bonds m).at.refusal 0) (ap (λ (z : Walker). eqb z.refusal 0) e)
+        answered_by (walk_in ln lw lb atoms n bonds m).at.refusal (walk_of atoms n bonds m).at.refusal (ap (λ (z : Walker). z.refusal) e)
+        (λ why. record { is = refl })
         (λ q. put_answers room _ _ _ _)
-        (λ q. record { is = ap write_refusal e ∙ sym (refusal_kept n (walk_of atoms n bonds m).at) })
 
     -- The walk order answers what the write call answers, whatever lengths with room for the atoms were lent, but that it is done
     -- where the write call is or has no room for the line.
@@ -278,7 +267,7 @@ module _ (lw ln lb : ℕ) (atoms : List ℕ) (n : ℕ) (bonds : List ℕ) (m : �
     all_answer room =
         answered (ltb (made.order_room lw ln lb atoms) n) (ltb (atom_places atoms) n) (order_room_lem lw ln lb n atoms hw hn hb) (λ q. record { is = refl })
         (λ q. answered (ltb (bond_slots bonds) m) (ltb (bond_slots bonds) m) refl (λ z. record { is = refl })
-        (λ z. answered (ltb (bad_record atoms n bonds m) (n + m)) (ltb (bad_record atoms n bonds m) (n + m)) refl (λ y. record { is = refl })
+        (λ z. answered_by (bad_record atoms n bonds m) (bad_record atoms n bonds m) refl (λ bad. record { is = refl })
         (λ y. graph_answers room (has_room lw ln lb n atoms (order_room_lem lw ln lb n atoms hw hn hb ∙ q)).few)))
 
     pub order_answer : (room : ℕ) → (made.order_of lw ln lb atoms n bonds m).answer ≡ as_order n (write_of room atoms n bonds m).answer

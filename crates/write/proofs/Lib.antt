@@ -1,4 +1,5 @@
 -- Laws that the proofs of the write call and the walk order cite.
+pub mod Unless
 pub mod Tables
 pub mod Lengths
 pub mod Ends

@@ -7,7 +7,6 @@ use native.Mathlib.Omega.{arith}
 use lib.ListN.{length, get_or, length-append, length-replicate}
 use lib.Seq.{ext_get_or}
 use lib.Dec.{ltb}
-use borrow.Author.Tests.{ltb-false, eq-eqb, ne_eqb}
 use Rattle.feature.specs.Pick.{pick}
 use Rattle.table.specs.Records.{atom_words}
 use Rattle.table.specs.Limits.{atom_limit}
@@ -20,16 +19,18 @@ use Rattle.walk.specs.Walk.{Walk, walk_to, events_of, turns_of}
 use Rattle.walk_laws.specs.Trek.{fresh, degrees, least_walk, least_said}
 use Rattle.walk_laws.specs.Steps.{longer, longer_graph, longer_walk, Lengths, ExactWalk}
 use Rattle.walk_laws.specs.Plain.{Outcome, Goes, Refused, number_in}
-use Rattle.walk_laws.specs.OneWalk.{trail_of, refusal_in, first_in, second_in, RefusalNumbered, OneWalk}
+use Rattle.walk_laws.specs.OneWalk.{trail_of, refusal_in, OneWalk}
 use Rattle.walk_laws.proofs.Judged.{judged_few}
 use Rattle.walk_laws.proofs.Longer.{least_exact, any_length}
 use Rattle.walk_laws.proofs.Plain.{one_walk, all_met}
-use Rattle.write.specs.declared.answer.Written.TheVariants.{Done}
+use Rattle.std.specs.Prelude.{None, Ok}
+use Rattle.write.specs.declared.answer.WriteError.TheVariants.{Stopped}
+use Rattle.write.proofs.Unless.{same_unless}
 use Rattle.table.specs.Zeros.{zeros}
 use Rattle.table.proofs.Rooms.{lesser_both}
-use Rattle.write.specs.Write.{pair_words, graph_of, walk_in, said_in, line_said, write_refusal, atom_places, bond_slots, line_refusing, put_line, line_concluded, graph_written, write_of}
+use Rattle.write.specs.Write.{pair_words, graph_of, walk_in, said_in, line_said, atom_places, bond_slots, put_line, line_concluded, graph_written, write_of}
 use Rattle.write.specs.Order as made
-use Rattle.write.specs.Plain.{outcome_of, answer_to, outcome_written, write_plain, numbers_from, outcome_ordered, order_plain}
+use Rattle.write.specs.Plain.{outcome_of, outcome_written, write_plain, numbers_from, outcome_ordered, order_plain}
 use Rattle.write.proofs.Tables.{length_lowered}
 use Rattle.write.proofs.Lengths.{lowered_longer, look_lowered, has_room}
 
@@ -39,20 +40,11 @@ same_but true x h = refl
 same_but false x h = h refl
 
 -- ---- ends
--- an answer goes by the refusal and what it carries
-answer_by : (z : Walker) (r a b : ℕ) → z.refusal ≡ r → z.first ≡ a → z.second ≡ b → write_refusal z ≡ answer_to r a b
-unfolding write_refusal
-answer_by z r a b er ea eb =
-    ap (λ (x : ℕ). answer_to x z.first z.second) er ∙ ap (λ (x : ℕ). answer_to r x z.second) ea ∙ ap (answer_to r a) eb
-
 -- the end of a walk with that outcome
-written_by_lem : (room : ℕ) (p : Outcome) (z : Walker) (es : List Event) → es ≡ (trail_of p).said → z.refusal ≡ refusal_in p → z.first ≡ first_in p → z.second ≡ second_in p
-    → RefusalNumbered p → line_concluded room z (line_said es) ≡ outcome_written room p
+written_by_lem : (room : ℕ) (p : Outcome) (z : Walker) (es : List Event) → es ≡ (trail_of p).said → z.refusal ≡ refusal_in p → line_concluded room z (line_said es) ≡ outcome_written room p
 unfolding line_concluded outcome_written
-written_by_lem room (Goes s) z es e er ea eb nz =
-    simp (eq-eqb z.refusal 0 er) (ap (λ (l : List Event). put_line room (line_said l)) e)
-written_by_lem room (Refused r a b s) z es e er ea eb nz =
-    simp (ne_eqb z.refusal 0 (λ q. nz (sym er ∙ q))) (ap (line_refusing room) (answer_by z r a b er ea eb))
+written_by_lem room (Goes s) z es e er = simp er (ap (λ (l : List Event). put_line room (line_said l)) e)
+written_by_lem room (Refused why s) z es e er = simp er
 
 -- ---- numbers
 length_numbers : (order : List ℕ) (a n : ℕ) → length (numbers_from order a n) ≡ n
@@ -117,7 +109,7 @@ module _ (atoms : List ℕ) (n : ℕ) (bonds : List ℕ) (m : ℕ) where
     unfolding graph_written
     graph_plain room =
         ap₂ (λ (w : Walk) (es : List Event). line_concluded room w.at (line_said es)) (walk_least atom_limit atom_limit atom_limit few few few) (said_least atom_limit atom_limit atom_limit few few few)
-        ∙ written_by_lem room outcome least.at (least_said g turns (zeros pair_words)) one.said one.refusal one.first one.second one.numbered
+        ∙ written_by_lem room outcome least.at (least_said g turns (zeros pair_words)) one.said one.refusal
 
     -- ---- the walk order
     module _ (lw ln lb : ℕ) (hw : n ≤ lw) (hn : n ≤ ln) (hb : n ≤ lb) where
@@ -128,7 +120,7 @@ module _ (atoms : List ℕ) (n : ℕ) (bonds : List ℕ) (m : ℕ) where
       long_length l x h e =
           length-append x (zeros (l - n)) ∙ omega (arith, h, e, length-replicate {A = ℕ} (l - n) 0)
 
-      ordered_by_lem : (p : Outcome) → OneWalk p least (least_said g turns (zeros pair_words)) → (refusal_in p ≡ 0 → least.walked ≡ (trail_of p).order)
+      ordered_by_lem : (p : Outcome) → OneWalk p least (least_said g turns (zeros pair_words)) → (refusal_in p ≡ None → least.walked ≡ (trail_of p).order)
           → made.order_at_end n filled ≡ outcome_ordered lw ln lb n p
       unfolding made.order_concluded outcome_ordered
       ordered_by_lem (Goes s) o all =
@@ -136,17 +128,16 @@ module _ (atoms : List ℕ) (n : ℕ) (bonds : List ℕ) (m : ℕ) where
           let a : least.walked ≡ s.order = all refl in
           let b : made.lowered (longer (ln - n) least.met) ≡ longer (ln - n) (numbers_from s.order 0 n) =
           lowered_longer (ln - n) least.met ∙ ap (longer (ln - n)) (lowered_numbers n least.met s.order x.met o.tables.met) in
-          simp (eq-eqb least.at.refusal 0 o.refusal)
-          (ap (λ (l : List ℕ). made.order (Done n) (longer (lw - n) l) (made.lowered (longer (ln - n) least.met)) (longer (lb - n) least.back)) a
-          ∙ ap (λ (l : List ℕ). made.order (Done n) (longer (lw - n) s.order) l (longer (lb - n) least.back)) b
-          ∙ ap (λ (l : List ℕ). made.order (Done n) (longer (lw - n) s.order) (longer (ln - n) (numbers_from s.order 0 n)) (longer (lb - n) l)) o.tables.back)
-      ordered_by_lem (Refused r a b s) o all =
+          simp o.refusal
+          (ap (λ (l : List ℕ). made.order (Ok n) (longer (lw - n) l) (made.lowered (longer (ln - n) least.met)) (longer (lb - n) least.back)) a
+          ∙ ap (λ (l : List ℕ). made.order (Ok n) (longer (lw - n) s.order) l (longer (lb - n) least.back)) b
+          ∙ ap (λ (l : List ℕ). made.order (Ok n) (longer (lw - n) s.order) (longer (ln - n) (numbers_from s.order 0 n)) (longer (lb - n) l)) o.tables.back)
+      ordered_by_lem (Refused why s) o all =
           let x : ExactWalk g least = least_exact g turns (zeros pair_words) in
-          simp (ne_eqb least.at.refusal 0 (λ q. o.numbered (sym o.refusal ∙ q)))
-          (ap (λ (k : ℕ). made.order_refusing k (length (longer (ln - n) least.met)) (length (longer (lb - n) least.back)) (write_refusal least.at)) (long_length lw least.walked hw x.walked)
-          ∙ ap (λ (k : ℕ). made.order_refusing lw k (length (longer (lb - n) least.back)) (write_refusal least.at)) (long_length ln least.met hn x.met)
-          ∙ ap (λ (k : ℕ). made.order_refusing lw ln k (write_refusal least.at)) (long_length lb least.back hb x.back)
-          ∙ ap (made.order_refusing lw ln lb) (answer_by least.at r a b o.refusal o.first o.second))
+          simp o.refusal
+          (ap (λ (k : ℕ). made.order_refusing k (length (longer (ln - n) least.met)) (length (longer (lb - n) least.back)) (Stopped why)) (long_length lw least.walked hw x.walked)
+          ∙ ap (λ (k : ℕ). made.order_refusing lw k (length (longer (lb - n) least.back)) (Stopped why)) (long_length ln least.met hn x.met)
+          ∙ ap (λ (k : ℕ). made.order_refusing lw ln k (Stopped why)) (long_length lb least.back hb x.back))
 
       order_graph : made.graph_ordered lw ln lb atoms n bonds m ≡ outcome_ordered lw ln lb n outcome
       unfolding made.graph_ordered
@@ -154,8 +145,8 @@ module _ (atoms : List ℕ) (n : ℕ) (bonds : List ℕ) (m : ℕ) where
           ap (made.order_at_end n) (walk_least ln lw lb hn hw hb) ∙ ordered_by_lem outcome one (all_met g (zeros pair_words) m entries)
 
   -- ---- whole calls
-  judged_entries : ltb (bad_record atoms n bonds m) (n + m) ≡ false → degrees g n ≤ m
-  judged_entries q = judged_few n m atoms bonds (entry_starts n atoms (zeros atom_limit)) (ltb-false (bad_record atoms n bonds m) (n + m) q)
+  judged_entries : bad_record atoms n bonds m ≡ None → degrees g n ≤ m
+  judged_entries = judged_few n m atoms bonds (entry_starts n atoms (zeros atom_limit))
 
   -- The write call writes what the plain walk says, or answers what refused it.
   pub write_plain_lem : (room : ℕ) → write_of room atoms n bonds m ≡ write_plain room atoms n bonds m
@@ -163,7 +154,7 @@ module _ (atoms : List ℕ) (n : ℕ) (bonds : List ℕ) (m : ℕ) where
   write_plain_lem room =
       same_but (ltb (atom_places atoms) n) _
       (λ a. same_but (ltb (bond_slots bonds) m) _
-      (λ b. same_but (ltb (bad_record atoms n bonds m) (n + m)) _
+      (λ b. same_unless (bad_record atoms n bonds m) _
       (λ c. graph_plain (lesser_both atom_limit (length atoms / atom_words) n a).0 (judged_entries c) room)))
 
   -- The walk order hands out the plain walk's tables, zeros after them, or answers what refused it.
@@ -173,5 +164,5 @@ module _ (atoms : List ℕ) (n : ℕ) (bonds : List ℕ) (m : ℕ) where
       same_but (ltb (made.order_room lw ln lb atoms) n) _
       (λ a. let r = has_room lw ln lb n atoms a in
       same_but (ltb (bond_slots bonds) m) _
-      (λ b. same_but (ltb (bad_record atoms n bonds m) (n + m)) _
+      (λ b. same_unless (bad_record atoms n bonds m) _
       (λ c. order_graph r.few (judged_entries c) lw ln lb r.walked r.number r.back)))

@@ -1,15 +1,14 @@
 -- The walk order: the number in walk order of each atom, the atom of each such number, and for each atom the place, from 1, of
 -- its entry back to the atom that it was reached from, 0 for a root. It has the refusals of the write call but for 16, and
 -- answers 13 where a table has less room than there are atoms. After a refusal all three tables are zero.
-use Rattle.std.specs.Prelude.{ℕ, ◌-◌, List, [], ◌∷◌, length, eqb}
-use Rattle.feature.specs.Pick.{pick}
+use Rattle.std.specs.Prelude.{ℕ, ◌-◌, List, [], ◌∷◌, length, Result, Ok, Err}
 use Rattle.table.specs.Limits.{lesser_of}
 use Rattle.walk.specs.declared.walker.Walker.{Walker}
 use Rattle.walk.specs.Walk.{Walk}
-use Rattle.write.specs.declared.answer.Written.{Written}
-use Rattle.write.specs.declared.answer.Written.TheVariants.{Done}
+use Rattle.write.specs.declared.answer.WriteError.{WriteError}
+use Rattle.write.specs.declared.answer.WriteError.TheVariants.{Stopped}
 use Rattle.table.specs.Zeros.{zeros}
-use Rattle.write.specs.Write.{walk_in, write_refusal, admitted, atom_places}
+use Rattle.write.specs.Write.{walk_in, unless, admitted, atom_places}
 
 -- marks are one more than a number in walk order, or 0
 unfoldable pub lowered : List ℕ → List ℕ
@@ -17,23 +16,23 @@ lowered [] = []
 lowered (x ∷ l) = (x - 1) ∷ lowered l
 
 pub record Order : Type 0 where
-  pub answer : Written
+  pub answer : Result ℕ WriteError
   pub walked : List ℕ
   pub number : List ℕ
   pub back : List ℕ
 
-abbrev pub order : Written → List ℕ → List ℕ → List ℕ → Order
+abbrev pub order : Result ℕ WriteError → List ℕ → List ℕ → List ℕ → Order
 order r walked number back = record { answer = r; walked = walked; number = number; back = back }
 
 -- zeros in tables of so many words
-abbrev pub order_refusing : ℕ → ℕ → ℕ → Written → Order
-order_refusing walked number back r = order r (zeros walked) (zeros number) (zeros back)
+abbrev pub order_refusing : ℕ → ℕ → ℕ → WriteError → Order
+order_refusing walked number back why = order (Err why) (zeros walked) (zeros number) (zeros back)
 
 -- the end of a walk, with the tables that it filled
 unfoldable pub order_concluded : ℕ → Walker → List ℕ → List ℕ → List ℕ → Order
 order_concluded n z walked met back =
-    pick (eqb z.refusal 0) (order (Done n) walked (lowered met) back)
-    (order_refusing (length walked) (length met) (length back) (write_refusal z))
+    unless z.refusal (λ why. order_refusing (length walked) (length met) (length back) (Stopped why))
+    (order (Ok n) walked (lowered met) back)
 
 abbrev pub order_at_end : ℕ → Walk → Order
 order_at_end n w = order_concluded n w.at w.walked w.met w.back

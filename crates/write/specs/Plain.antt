@@ -1,26 +1,20 @@
 -- The write call and the walk order by the plain walk of crates/walk_laws. proofs/Plain says that they are `write_of` and `order_of`.
-use Rattle.std.specs.Prelude.{ℕ, zero, suc, ◌+◌, ◌-◌, List, [], ◌∷◌, ◌++◌}
-use Rattle.walk.specs.Walk.{start_walker, refused_as}
+use Rattle.std.specs.Prelude.{ℕ, zero, suc, ◌+◌, ◌-◌, List, [], ◌∷◌, ◌++◌, Ok}
 use Rattle.walk_laws.specs.Plain.{Outcome, Goes, Refused, number_in, plain_walk}
-use Rattle.write.specs.declared.answer.Written.{Written}
-use Rattle.write.specs.declared.answer.Written.TheVariants.{Done}
+use Rattle.write.specs.declared.answer.WriteError.TheVariants.{Stopped}
 use Rattle.table.specs.Zeros.{zeros}
-use Rattle.write.specs.Write.{pair_words, graph_of, line_said, write_refusal, admitted, atom_places, WriteLeft, line_refusing, put_line}
+use Rattle.write.specs.Write.{pair_words, graph_of, line_said, admitted, atom_places, WriteLeft, line_refusing, put_line}
 use Rattle.write.specs.Order as made
 
 -- the plain walk of the graph of n atoms that tables hold
 abbrev pub outcome_of : ℕ → List ℕ → List ℕ → Outcome
 outcome_of n atoms bonds = plain_walk (graph_of n atoms bonds) (zeros pair_words)
 
--- the answer to a refusal with what it carries
-abbrev pub answer_to : ℕ → ℕ → ℕ → Written
-answer_to r a b = write_refusal (refused_as start_walker r a b)
-
 -- ---- the write call
 -- the line that was said, or the refusal
 unfoldable pub outcome_written : ℕ → Outcome → WriteLeft
 outcome_written room (Goes s) = put_line room (line_said s.said)
-outcome_written room (Refused r a b s) = line_refusing room (answer_to r a b)
+outcome_written room (Refused why s) = line_refusing room (Stopped why)
 
 unfoldable pub write_plain : ℕ → List ℕ → ℕ → List ℕ → ℕ → WriteLeft
 write_plain room atoms n bonds m =
@@ -35,8 +29,8 @@ numbers_from order a (suc n) = (number_in order a - 1) ∷ numbers_from order (a
 -- tables of these lengths: the walk order, the number of each atom, the place of its entry back, and zeros after them
 unfoldable pub outcome_ordered : ℕ → ℕ → ℕ → ℕ → Outcome → made.Order
 outcome_ordered walked number back n (Goes s) =
-    made.order (Done n) (s.order ++ zeros (walked - n)) (numbers_from s.order 0 n ++ zeros (number - n)) (s.back ++ zeros (back - n))
-outcome_ordered walked number back n (Refused r a b s) = made.order_refusing walked number back (answer_to r a b)
+    made.order (Ok n) (s.order ++ zeros (walked - n)) (numbers_from s.order 0 n ++ zeros (number - n)) (s.back ++ zeros (back - n))
+outcome_ordered walked number back n (Refused why s) = made.order_refusing walked number back (Stopped why)
 
 unfoldable pub order_plain : ℕ → ℕ → ℕ → List ℕ → ℕ → List ℕ → ℕ → made.Order
 order_plain walked number back atoms n bonds m =

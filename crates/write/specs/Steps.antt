@@ -10,8 +10,9 @@ use Rattle.writer.specs.Line.{Event, line_of, write_events}
 use Rattle.walk_entry.specs.Graph.{Graph, graph}
 use Rattle.walk.specs.Walk.{Walk, walk_to, events_of, turns_of}
 use Rattle.walk_laws.specs.Trek.{fresh}
-use Rattle.write.specs.declared.answer.Written.{Written}
-use Rattle.write.specs.declared.answer.Written.TheVariants.{Done, UnknownTarget, Loop, HalfBond, DuplicateBond, IncompatibleBond, Inversion, RingNumbers, AtomRoom, BondRoom, OutRoom, BadTable}
+use Rattle.std.specs.Prelude.{Err, Ok, Result}
+use Rattle.write.specs.declared.answer.WriteError.{WriteError}
+use Rattle.write.specs.declared.answer.WriteError.TheVariants.{Stopped, AtomRoom, BondRoom, OutRoom, BadTable}
 use Rattle.write.specs.Order.{lowered, Order}
 
 -- counts within the limits, and an output of zeros
@@ -43,7 +44,7 @@ cut_to n l words = take n words ++ zeros (l - n)
 -- A walk order of n atoms in tables of these lengths is done, and they hold what the walk w left: the atoms in walk order, the
 -- number of each, which is one less than its mark, and the places of the entries back.
 pub record Handed (n walked-long number-long back_long : ℕ) (w : Walk) (o : Order) : Type 0 where
-  pub done : o.answer ≡ Done n
+  pub done : o.answer ≡ Ok n
   pub walked : o.walked ≡ cut_to n walked-long w.walked
   pub number : o.number ≡ cut_to n number-long (lowered w.met)
   pub back : o.back ≡ cut_to n back_long w.back
@@ -55,19 +56,13 @@ pub record Looks (w : Walk) (o : Order) : Type 0 where
   pub back : (a : ℕ) → get_or o.back a 0 ≡ get_or w.back a 0
 
 -- the walk order's answer by the write call's: it has no output, so no want of room in it, and counts atoms, not bytes
-unfoldable pub as_order : ℕ → Written → Written
-as_order n (Done len) = Done n
-as_order n (OutRoom len) = Done n
-as_order n (UnknownTarget a b) = UnknownTarget a b
-as_order n (Loop a) = Loop a
-as_order n (HalfBond a b) = HalfBond a b
-as_order n (DuplicateBond a b) = DuplicateBond a b
-as_order n (IncompatibleBond a b) = IncompatibleBond a b
-as_order n (Inversion a) = Inversion a
-as_order n (RingNumbers a b) = RingNumbers a b
-as_order n (AtomRoom k) = AtomRoom k
-as_order n (BondRoom k) = BondRoom k
-as_order n (BadTable k) = BadTable k
+unfoldable pub as_order : ℕ → Result ℕ WriteError → Result ℕ WriteError
+as_order n (Ok len) = Ok n
+as_order n (Err (OutRoom len)) = Ok n
+as_order n (Err (Stopped why)) = Err (Stopped why)
+as_order n (Err (AtomRoom k)) = Err (AtomRoom k)
+as_order n (Err (BondRoom k)) = Err (BondRoom k)
+as_order n (Err (BadTable k)) = Err (BadTable k)
 
 -- ---- a write on work tables of k words each: where entries begin, marks, atoms walked, entries back, entries taken, and where
 -- the pieces of the line begin

@@ -4,39 +4,70 @@
 // order: the walk order.
 #![tactic(auto)]
 
-ghost use Rattle.std.specs.Prelude.{◌≡◌, ◌≤◌, length};
-ghost use Rattle.table.specs.Steps.{few_atoms};
-ghost use Rattle.write.specs.Write.{write_leaves, output_ended, graph_written};
+ghost use Rattle.std.specs.Prelude.{◌≡◌, ◌≤◌, length, IfOk};
+ghost use Rattle.table.specs.Limits.{atom_limit, bond_limit};
+ghost use Rattle.write.specs.Write.{admitted, write_leaves, output_ended, graph_written};
 ghost use Rattle.write.specs.Plain.{write_plain};
 ghost use Rattle.write.specs.Numbers.{write_in_numbers};
 ghost use Rattle.write.specs.Steps.{Writable, WorkCleared};
+ghost use Rattle.writer.specs.Lent.{SameLine};
 
-use answer::{Written, refusal};
+use answer::WriteError;
 use join_pool::PAIRS;
 use table::clear_bytes;
 use table::limits::{ATOMS, FEW_ATOMS, atom_room, bond_room};
 use table::starts::lay_starts;
 use table_check::judge;
 use walk::lent::walk;
-use walk::turn::Turned;
+use walk::tables::Tables;
+use walk::walker::Walker;
+use walk_entry::graph::Graph;
+use writer::{Line, Writer};
 
 pub mod answer;
 pub mod order;
 
-// What the end of a walk comes to, with the output that it was told to.
-fn conclude(out: &mut [u8], end: Turned) -> Written
-    ensures { write_leaves result out.new ≡ output_ended out.old end.walker end.line }
+// The tests before a walk, with room for so many atoms: the counts handed in, then the records.
+#[tactic(auto, unfolding(crate::specs::Write::bond_slots))]
+pub(crate) fn admit(
+    room: usize,
+    atoms: &[u32],
+    n: usize,
+    bonds: &[u32],
+    m: usize,
+) -> Result<(), WriteError>
+    requires { room ≤ atom_limit }
+    ensures tests { result ≡ admitted room atoms.now n bonds.now m (λ why. Err why) (Ok tt) }
+    ensures within { IfOk result (λ u. (n ≤ room) × (m ≤ bond_limit)) }
 {
-    let len = end.line.len;
-    if end.walker.refusal != 0 {
-        clear_bytes(out);
-        return refusal(end.walker);
+    if room < n {
+        return Err(WriteError::AtomRoom(n));
     }
-    if out.len() < len {
-        clear_bytes(out);
-        return Written::OutRoom(len);
+    if bond_room(bonds) < m {
+        return Err(WriteError::BondRoom(m));
     }
-    Written::Done(len)
+    match judge(atoms, n, bonds, m) {
+        Some(bad) => Err(WriteError::BadTable(bad)),
+        None => Ok(()),
+    }
+}
+
+// What the end of a walk comes to, with the output that it was told to.
+#[tactic(auto, unfolding(crate::specs::Write::output_ended))]
+fn conclude(line: &mut Line<'_>, walker: Walker) -> Result<usize, WriteError>
+    ensures ended { write_leaves result line.new.out.now ≡ output_ended line.old.out.now walker line.old.at }
+    ensures same { SameLine line.old line.new }
+{
+    let len = line.at.len;
+    if let Some(why) = walker.refusal {
+        clear_bytes(line.out);
+        return Err(WriteError::Stopped(why));
+    }
+    if line.out.len() < len {
+        clear_bytes(line.out);
+        return Err(WriteError::OutRoom(len));
+    }
+    Ok(len)
 }
 
 // A graph written into an output of zeros, with work tables of zeros that have room for its atoms.
@@ -46,98 +77,73 @@ fn write_in(
     bonds: &[u32],
     m: usize,
     first: &mut [u32],
-    met: &mut [u32],
-    walked: &mut [u32],
-    back: &mut [u32],
-    taken: &mut [u32],
-    pairs: &mut [u32],
-    starts: &mut [u32],
-    out: &mut [u8],
-) -> Written
-    requires { Writable n m out.old × WorkCleared n first.old met.old walked.old back.old taken.old pairs.old starts.old }
-    ensures { write_leaves result out.new ≡ graph_written (length out.old) atoms.now n bonds.now m }
+    tables: &mut Tables<'_>,
+    line: &mut Line<'_>,
+) -> Result<usize, WriteError>
+    requires { Writable n m line.old.out.now × WorkCleared n first.old tables.old.met.now tables.old.walked.now tables.old.back.now tables.old.taken.now tables.old.pairs.now line.old.starts.now }
+    ensures written { write_leaves result line.new.out.now ≡ graph_written (length line.old.out.now) atoms.now n bonds.now m }
+    ensures same { SameLine line.old line.new }
 {
     lay_starts(first, atoms, n);
-    let end = walk(
-        n, m, atoms, bonds, first, met, walked, back, taken, pairs, starts, out,
-    );
-    conclude(out, end)
+    let g = Graph {
+        size: n,
+        atoms,
+        bonds,
+        first,
+    };
+    let walker = walk(g, m, tables, line);
+    conclude(line, walker)
 }
 
-// A graph of few atoms, with little work room.
-fn write_few(atoms: &[u32], n: usize, bonds: &[u32], m: usize, out: &mut [u8]) -> Written
-    requires { Writable n m out.old × (n ≤ few_atoms) }
+// The same with work tables of so many words.
+fn write_sized<const WORDS: usize>(
+    atoms: &[u32],
+    n: usize,
+    bonds: &[u32],
+    m: usize,
+    out: &mut [u8],
+) -> Result<usize, WriteError>
+    requires { Writable n m out.old × (n ≤ WORDS) × (WORDS ≤ atom_limit) }
     ensures { write_leaves result out.new ≡ graph_written (length out.old) atoms.now n bonds.now m }
 {
-    let mut first = [0u32; FEW_ATOMS];
-    let mut met = [0u32; FEW_ATOMS];
-    let mut walked = [0u32; FEW_ATOMS];
-    let mut back = [0u32; FEW_ATOMS];
-    let mut taken = [0u32; FEW_ATOMS];
+    let mut first = [0u32; WORDS];
+    let mut met = [0u32; WORDS];
+    let mut walked = [0u32; WORDS];
+    let mut back = [0u32; WORDS];
+    let mut taken = [0u32; WORDS];
     let mut pairs = [0u32; PAIRS];
-    let mut starts = [0u32; FEW_ATOMS];
-    write_in(
-        atoms,
-        n,
-        bonds,
-        m,
-        &mut first,
-        &mut met,
-        &mut walked,
-        &mut back,
-        &mut taken,
-        &mut pairs,
-        &mut starts,
+    let mut starts = [0u32; WORDS];
+    let mut tables = Tables {
+        met: &mut met,
+        walked: &mut walked,
+        back: &mut back,
+        taken: &mut taken,
+        pairs: &mut pairs,
+    };
+    let mut line = Line {
+        at: Writer { pieces: 0, len: 0 },
         out,
-    )
+        starts: &mut starts,
+    };
+    write_in(atoms, n, bonds, m, &mut first, &mut tables, &mut line)
 }
 
-// The same for a graph of any size.
-fn write_many(atoms: &[u32], n: usize, bonds: &[u32], m: usize, out: &mut [u8]) -> Written
-    requires { Writable n m out.old }
-    ensures { write_leaves result out.new ≡ graph_written (length out.old) atoms.now n bonds.now m }
-{
-    let mut first = [0u32; ATOMS];
-    let mut met = [0u32; ATOMS];
-    let mut walked = [0u32; ATOMS];
-    let mut back = [0u32; ATOMS];
-    let mut taken = [0u32; ATOMS];
-    let mut pairs = [0u32; PAIRS];
-    let mut starts = [0u32; ATOMS];
-    write_in(
-        atoms,
-        n,
-        bonds,
-        m,
-        &mut first,
-        &mut met,
-        &mut walked,
-        &mut back,
-        &mut taken,
-        &mut pairs,
-        &mut starts,
-        out,
-    )
-}
-
-// Writes the graph of n atoms and m bond entries. The bytes after its line are zero; after a refusal all are.
-pub fn write(atoms: &[u32], n: usize, bonds: &[u32], m: usize, out: &mut [u8]) -> Written
+// Writes the graph of n atoms and m bond entries: the bytes of its line. The bytes after it are zero; after a refusal all are.
+pub fn write(
+    atoms: &[u32],
+    n: usize,
+    bonds: &[u32],
+    m: usize,
+    out: &mut [u8],
+) -> Result<usize, WriteError>
     ensures { write_in_numbers (write_leaves result out.new)
         ≡ write_in_numbers (write_plain (length out.old) atoms.now n bonds.now m) }
 {
     clear_bytes(out);
-    if atom_room(atoms) < n {
-        return Written::AtomRoom(n);
-    }
-    if bond_room(bonds) < m {
-        return Written::BondRoom(m);
-    }
-    let bad = judge(atoms, n, bonds, m);
-    if bad < n + m {
-        return Written::BadTable(bad);
-    }
+    admit(atom_room(atoms), atoms, n, bonds, m)?;
     if n <= FEW_ATOMS {
-        return write_few(atoms, n, bonds, m, out);
+        write_sized::<FEW_ATOMS>(atoms, n, bonds, m, out)
+    } else {
+        write_sized::<ATOMS>(atoms, n, bonds, m, out)
     }
-    write_many(atoms, n, bonds, m, out)
 }

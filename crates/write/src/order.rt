@@ -7,14 +7,17 @@ ghost use Rattle.write.specs.Plain.{order_plain};
 ghost use Rattle.write.specs.Numbers.{order_in_numbers};
 ghost use Rattle.write.specs.Order as made;
 
-use crate::answer::{Written, refusal};
+use crate::admit;
+use crate::answer::WriteError;
 use join_pool::PAIRS;
 use table::clear;
-use table::limits::{ATOMS, atom_room, bond_room, lesser};
+use table::limits::{ATOMS, atom_room, lesser};
 use table::starts::lay_starts;
-use table_check::judge;
 use walk::lent::walk;
+use walk::tables::Tables;
 use walk::walker::Walker;
+use walk_entry::graph::Graph;
+use writer::{Line, Writer};
 
 // Zeros in all three tables.
 fn clear_order(walked: &mut [u32], number: &mut [u32], back: &mut [u32])
@@ -27,44 +30,34 @@ fn clear_order(walked: &mut [u32], number: &mut [u32], back: &mut [u32])
     clear(back);
 }
 
-fn less_one(mark: u32) -> u32
-    ensures { result ≡ mark - 1 }
-{
-    if mark == 0 {
-        return 0;
-    }
-    mark - 1
-}
-
 // Numbers from 0 for marks that are one more.
+#[tactic(auto, using(crate::proofs::Tables::lower_turn, crate::proofs::Tables::lower_end))]
 fn lower(number: &mut [u32])
     ensures { number.new ≡ lowered number.old }
 {
-    let mut a: usize = 0;
-    while a < number.len() {
-        let mark = number[a];
-        number[a] = less_one(mark);
-        a += 1;
+    for mark in number.iter_mut() {
+        *mark = mark.saturating_sub(1);
     }
 }
 
 // What the end of a walk comes to, with the tables that it filled.
+#[tactic(auto, unfolding(crate::specs::Order::order_concluded))]
 fn conclude(
     walked: &mut [u32],
     number: &mut [u32],
     back: &mut [u32],
     n: usize,
     walker: Walker,
-) -> Written
+) -> Result<usize, WriteError>
     ensures { made.order result walked.new number.new back.new
         ≡ order_concluded n walker walked.old number.old back.old }
 {
-    if walker.refusal != 0 {
+    if let Some(why) = walker.refusal {
         clear_order(walked, number, back);
-        return refusal(walker);
+        return Err(WriteError::Stopped(why));
     }
     lower(number);
-    Written::Done(n)
+    Ok(n)
 }
 
 fn order_graph(
@@ -75,7 +68,7 @@ fn order_graph(
     walked: &mut [u32],
     number: &mut [u32],
     back: &mut [u32],
-) -> Written
+) -> Result<usize, WriteError>
     requires { (n ≤ atom_limit)
         × (m ≤ bond_limit)
         × (walked.old ≡ zeros (length walked.old))
@@ -91,21 +84,26 @@ fn order_graph(
     let mut starts = [0u32; ATOMS];
     let mut none = [0u8; 1];
     lay_starts(&mut first, atoms, n);
-    let end = walk(
-        n,
-        m,
+    let g = Graph {
+        size: n,
         atoms,
         bonds,
-        &first,
-        number,
+        first: &first,
+    };
+    let mut tables = Tables {
+        met: number,
         walked,
         back,
-        &mut taken,
-        &mut pairs,
-        &mut starts,
-        &mut none,
-    );
-    conclude(walked, number, back, n, end.walker)
+        taken: &mut taken,
+        pairs: &mut pairs,
+    };
+    let mut line = Line {
+        at: Writer { pieces: 0, len: 0 },
+        out: &mut none,
+        starts: &mut starts,
+    };
+    let walker = walk(g, m, &mut tables, &mut line);
+    conclude(walked, number, back, n, walker)
 }
 
 // How many atoms there is room for.
@@ -131,7 +129,7 @@ pub fn order(
     walked: &mut [u32],
     number: &mut [u32],
     back: &mut [u32],
-) -> Written
+) -> Result<usize, WriteError>
     ensures { order_in_numbers (made.order result walked.new number.new back.new)
         ≡ order_in_numbers
         (order_plain (length walked.old) (length number.old) (length back.old)
@@ -139,15 +137,6 @@ pub fn order(
 {
     let room = order_room(atoms, walked, number, back);
     clear_order(walked, number, back);
-    if room < n {
-        return Written::AtomRoom(n);
-    }
-    if bond_room(bonds) < m {
-        return Written::BondRoom(m);
-    }
-    let bad = judge(atoms, n, bonds, m);
-    if bad < n + m {
-        return Written::BadTable(bad);
-    }
+    admit(room, atoms, n, bonds, m)?;
     order_graph(atoms, n, bonds, m, walked, number, back)
 }

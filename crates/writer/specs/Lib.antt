@@ -2,3 +2,4 @@ pub mod Line
 pub mod Tables
 pub mod Pieces
 pub mod Steps
+pub mod Lent

@@ -6,8 +6,12 @@ use Rattle.feature.specs.Pick.{pick}
 use Rattle.spell.specs.Spell.{atom_text, bond_text, rnum_text}
 use Rattle.table.specs.Limits.{atom_limit, lesser_of}
 use Rattle.writer.specs.declared.Writer.{Writer}
-use Rattle.writer.specs.declared.Wrote.{Wrote}
-use Rattle.writer.specs.declared.Wrote.TheVariants.{Held, AtomRoom, OutRoom, NoPiece, Overpop}
+use Rattle.std.specs.Prelude.{Err, Ok, Result}
+use Rattle.writer.specs.declared.WriterError.TheVariants.{NoPiece}
+use Rattle.writer.specs.declared.WriterError.TheVariants.{AtomRoom}
+use Rattle.writer.specs.declared.WriterError.{WriterError}
+use Rattle.writer.specs.declared.WriterError.TheVariants.{OutRoom}
+use Rattle.writer.specs.declared.WriterError.TheVariants.{Overpop}
 use Rattle.writer.specs.Line.{Event, Root, Extend, Join, Pop, dot_text, wrapped}
 
 -- how many pieces are held and how long their line is; the output, and where each piece starts in it
@@ -74,32 +78,32 @@ say_all s (e ∷ es) = say_all (say_t s e) es
 
 -- ---- a single event with its answer
 pub record EventTold : Type 0 where
-  pub answer : Wrote
+  pub answer : Result Writer WriterError
   pub out : List ℕ
   pub starts : List ℕ
 
-abbrev pub told_with : Wrote → List ℕ → List ℕ → EventTold
+abbrev pub told_with : Result Writer WriterError → List ℕ → List ℕ → EventTold
 told_with r out starts = record { answer = r; out = out; starts = starts }
 
 -- a refused event changes nothing
-abbrev pub event_refusing : Spoken → Wrote → EventTold
+abbrev pub event_refusing : Spoken → Result Writer WriterError → EventTold
 event_refusing s r = told_with r s.out s.starts
 
 -- what an event comes to, where the output has room for it
 unfoldable pub fitting : Spoken → Spoken → EventTold
 fitting s n =
-    pick (ltb (length s.out) n.at.len) (event_refusing s (OutRoom n.at.len))
-    (told_with (Held n.at) n.out n.starts)
+    pick (ltb (length s.out) n.at.len) (event_refusing s (Err (OutRoom n.at.len)))
+    (told_with (Ok n.at) n.out n.starts)
 
 -- 18, 19, 13, then 16
 unfoldable pub event_of : Spoken → Event → EventTold
 event_of s (Root k) =
-    pick (leb (piece_room s.starts) s.at.pieces) (event_refusing s (AtomRoom s.at.pieces)) (fitting s (say_t s (Root k)))
+    pick (leb (piece_room s.starts) s.at.pieces) (event_refusing s (Err (AtomRoom s.at.pieces))) (fitting s (say_t s (Root k)))
 event_of s (Extend b k) =
-    pick (leb (piece_room s.starts) s.at.pieces) (event_refusing s (AtomRoom s.at.pieces))
+    pick (leb (piece_room s.starts) s.at.pieces) (event_refusing s (Err (AtomRoom s.at.pieces)))
     (fitting s (say_t s (Extend b k)))
-event_of s (Join b n) = pick (eqb s.at.pieces 0) (event_refusing s NoPiece) (fitting s (say_t s (Join b n)))
-event_of s (Pop d) = pick (leb s.at.pieces d) (event_refusing s Overpop) (fitting s (say_t s (Pop d)))
+event_of s (Join b n) = pick (eqb s.at.pieces 0) (event_refusing s (Err NoPiece)) (fitting s (say_t s (Join b n)))
+event_of s (Pop d) = pick (leb s.at.pieces d) (event_refusing s (Err Overpop)) (fitting s (say_t s (Pop d)))
 
 -- ---- how far an event goes
 -- so far below 2^32 that no sum here wraps

@@ -8,19 +8,8 @@ ghost use Rattle.writer.specs.Tables.{far, bytes_from};
 
 use feature::atom_kind::AtomKind;
 use feature::bond_kind::BondKind;
-use spell::{spell_atom, spell_bond, spell_rnum};
+use spell::{put, spell_atom, spell_bond, spell_rnum};
 use table::limits::lesser;
-
-pub fn lay_byte(out: &mut [u8], at: usize, b: u8) -> usize
-    requires { at < far + 100 }
-    ensures { Laid 1 out.old at (b ∷ []) out.new result }
-{
-    if at < out.len() {
-        out[at] = b;
-        return at + 1;
-    }
-    at + 1
-}
 
 pub fn lay_atom(out: &mut [u8], at: usize, k: AtomKind) -> usize
     requires { at < far + 100 }
@@ -47,18 +36,15 @@ pub fn lay_rnum(out: &mut [u8], at: usize, n: u32) -> usize
 }
 
 // A byte put at a place, and the bytes from there up to the end moved one place on.
+#[tactic(auto, using(table::proofs::Stores::sets_out))]
 fn insert(out: &mut [u8], at: usize, end: usize, b: u8)
     requires { (at ≤ end) × (end < far) }
     ensures { out.new ≡ sets out.old at (b ∷ bytes_from at (end - at) out.old) }
 {
-    let stop = lesser(out.len(), end + 1);
-    let mut carry = b;
-    let mut i = at;
-    while i < stop {
-        let next = out[i];
-        out[i] = carry;
-        carry = next;
-        i += 1;
+    if at < out.len() {
+        let stop = out.len().min(end + 1);
+        out.copy_within(at..stop - 1, at + 1);
+        out[at] = b;
     }
 }
 
@@ -68,5 +54,5 @@ pub fn wrap(out: &mut [u8], at: usize, end: usize)
     ensures { out.new ≡ sets out.old at (wrapped (bytes_from at (end - at) out.old)) }
 {
     insert(out, at, end, b'(');
-    lay_byte(out, end + 1, b')');
+    put(out, end + 1, b')');
 }

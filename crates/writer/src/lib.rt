@@ -10,7 +10,7 @@ mod lay;
 pub mod say;
 
 // What a writer knows beside its tables.
-#[derive(Clone, Copy)]
+#[derive(Clone, Copy, Debug, PartialEq, Eq)]
 pub struct Writer {
     // How many pieces are held.
     pub pieces: usize,
@@ -18,10 +18,19 @@ pub struct Writer {
     pub len: usize,
 }
 
-// What a single event answers.
-#[derive(Clone, Copy)]
-pub enum Wrote {
-    Held(Writer),
+// A line in the making: what its writer knows, and the output and the table that are lent for it. Contracts see it as one
+// record, `spoken_in` of specs/Lent.antt.
+#[derive(Drop)]
+pub struct Line<'a> {
+    pub at: Writer,
+    pub out: &'a mut [u8],
+    // Where each piece starts in the output.
+    pub starts: &'a mut [u32],
+}
+
+// Why a single event is refused.
+#[derive(Clone, Copy, Debug, PartialEq, Eq)]
+pub enum WriterError {
     // A piece more than there is room for: those held.
     AtomRoom(usize),
     // The bytes with the event done.

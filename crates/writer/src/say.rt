@@ -2,111 +2,109 @@
 ghost use Rattle.std.specs.Prelude.{◌≡◌, ◌≤◌, ◌<◌};
 ghost use Rattle.spell.specs.Spell.{Laid};
 ghost use Rattle.writer.specs.Line.{Event, dot_text};
-ghost use Rattle.writer.specs.Tables.{far, spoken, piece_room, last_start, say_t};
+ghost use Rattle.writer.specs.Tables.{far, piece_room, last_start, say_t};
 ghost use Rattle.writer.specs.Steps.{LineNear, LineGrows};
+ghost use Rattle.writer.specs.Lent.{spoken_in, SameLine};
 
-use crate::Writer;
-use crate::lay::{lay_atom, lay_bond, lay_byte, lay_rnum, wrap};
+use crate::lay::{lay_atom, lay_bond, lay_rnum, wrap};
+use crate::{Line, Writer};
 use feature::atom_kind::AtomKind;
 use feature::bond_kind::BondKind;
+use spell::put;
 use table::limits::{ATOMS, lesser};
 use table::{look, poke};
 
-// How many pieces there is room for.
-pub fn piece_room(starts: &[u32]) -> usize
-    ensures { result ≡ piece_room starts.now }
-{
-    lesser(ATOMS, starts.len())
-}
-
 // What leads a root in.
+#[tactic(auto, unfolding(crate::specs::Line::dot_text))]
 fn lay_dot(out: &mut [u8], at: usize, pieces: usize) -> usize
     requires { at < far }
     ensures { Laid 1 out.old at (dot_text pieces) out.new result }
 {
-    if pieces == 0 {
-        return at;
-    }
-    lay_byte(out, at, b'.')
+    if pieces == 0 { at } else { put(out, at, b'.') }
 }
 
-pub fn say_root(out: &mut [u8], starts: &mut [u32], w: Writer, k: AtomKind) -> Writer
-    requires { LineNear w }
-    ensures starts_after { spoken result out.new starts.new ≡ say_t (spoken w out.old starts.old) (Event.Root k) }
-    ensures line_grows { LineGrows w result }
-{
-    let pieces = w.pieces;
-    let at = w.len;
-    if piece_room(starts) <= pieces {
-        return w;
+impl Line<'_> {
+    // How many pieces there is room for.
+    #[tactic(auto, unfolding(crate::specs::Tables::piece_room))]
+    pub fn piece_room(&self) -> usize
+        ensures { result ≡ piece_room self.now.starts.now }
+    {
+        lesser(ATOMS, self.starts.len())
     }
-    let dotted = lay_dot(out, at, pieces);
-    let len = lay_atom(out, dotted, k);
-    poke(starts, pieces, at as u32);
-    Writer {
-        pieces: pieces + 1,
-        len,
-    }
-}
 
-pub fn say_extend(out: &mut [u8], starts: &mut [u32], w: Writer, b: BondKind, k: AtomKind) -> Writer
-    requires { LineNear w }
-    ensures starts_after { spoken result out.new starts.new ≡ say_t (spoken w out.old starts.old) (Event.Extend b k) }
-    ensures line_grows { LineGrows w result }
-{
-    let pieces = w.pieces;
-    let at = w.len;
-    if piece_room(starts) <= pieces {
-        return w;
+    #[tactic(auto, unfolding(crate::specs::Tables::say_t, crate::specs::Tables::piece_t, crate::specs::Tables::added))]
+    pub fn say_root(&mut self, k: AtomKind)
+        requires { LineNear self.old.at }
+        ensures starts_after { spoken_in self.new ≡ say_t (spoken_in self.old) (Event.Root k) }
+        ensures line_grows { LineGrows self.old.at self.new.at }
+        ensures same { SameLine self.old self.new }
+    {
+        let Writer { pieces, len } = self.at;
+        if self.piece_room() <= pieces {
+            return;
+        }
+        let dotted = lay_dot(self.out, len, pieces);
+        self.at.len = lay_atom(self.out, dotted, k);
+        self.at.pieces = pieces + 1;
+        poke(self.starts, pieces, len as u32);
     }
-    let bonded = lay_bond(out, at, b);
-    let len = lay_atom(out, bonded, k);
-    poke(starts, pieces, at as u32);
-    Writer {
-        pieces: pieces + 1,
-        len,
-    }
-}
 
-pub fn say_join(out: &mut [u8], starts: &mut [u32], w: Writer, b: BondKind, n: u32) -> Writer
-    requires { LineNear w }
-    ensures starts_after { spoken result out.new starts.new ≡ say_t (spoken w out.old starts.old) (Event.Join b n) }
-    ensures line_grows { LineGrows w result }
-{
-    let pieces = w.pieces;
-    if pieces == 0 {
-        return w;
+    #[tactic(auto, unfolding(crate::specs::Tables::say_t, crate::specs::Tables::piece_t, crate::specs::Tables::added))]
+    pub fn say_extend(&mut self, b: BondKind, k: AtomKind)
+        requires { LineNear self.old.at }
+        ensures starts_after { spoken_in self.new ≡ say_t (spoken_in self.old) (Event.Extend b k) }
+        ensures line_grows { LineGrows self.old.at self.new.at }
+        ensures same { SameLine self.old self.new }
+    {
+        let Writer { pieces, len } = self.at;
+        if self.piece_room() <= pieces {
+            return;
+        }
+        let bonded = lay_bond(self.out, len, b);
+        self.at.len = lay_atom(self.out, bonded, k);
+        self.at.pieces = pieces + 1;
+        poke(self.starts, pieces, len as u32);
     }
-    let bonded = lay_bond(out, w.len, b);
-    let len = lay_rnum(out, bonded, n);
-    Writer { pieces, len }
-}
 
-// Where the last d pieces start.
-fn start_of(starts: &[u32], w: Writer, d: usize) -> usize
-    requires { d ≤ w.pieces }
-    ensures { (result ≡ last_start starts.now w d) × (result ≤ w.len) }
-{
-    if d == 0 {
-        return w.len;
+    #[tactic(auto, unfolding(crate::specs::Tables::say_t, crate::specs::Tables::join_t, crate::specs::Tables::lengthened))]
+    pub fn say_join(&mut self, b: BondKind, n: u32)
+        requires { LineNear self.old.at }
+        ensures starts_after { spoken_in self.new ≡ say_t (spoken_in self.old) (Event.Join b n) }
+        ensures line_grows { LineGrows self.old.at self.new.at }
+        ensures same { SameLine self.old self.new }
+    {
+        if self.at.pieces == 0 {
+            return;
+        }
+        let bonded = lay_bond(self.out, self.at.len, b);
+        self.at.len = lay_rnum(self.out, bonded, n);
     }
-    lesser(w.len, look(starts, w.pieces - d) as usize)
-}
 
-pub fn say_pop(out: &mut [u8], starts: &mut [u32], w: Writer, d: usize) -> Writer
-    requires { LineNear w }
-    ensures starts_after { spoken result out.new starts.new ≡ say_t (spoken w out.old starts.old) (Event.Pop d) }
-    ensures line_grows { LineGrows w result }
-{
-    let pieces = w.pieces;
-    let len = w.len;
-    if pieces <= d {
-        return w;
+    // Where the last d pieces start.
+    #[tactic(auto, unfolding(crate::specs::Tables::last_start))]
+    fn start_of(&self, d: usize) -> usize
+        requires { d ≤ self.now.at.pieces }
+        ensures { (result ≡ last_start self.now.starts.now self.now.at d) × (result ≤ self.now.at.len) }
+    {
+        if d == 0 {
+            return self.at.len;
+        }
+        lesser(self.at.len, look(self.starts, self.at.pieces - d) as usize)
     }
-    let at = start_of(starts, w, d);
-    wrap(out, at, len);
-    Writer {
-        pieces: pieces - d,
-        len: len + 2,
+
+    #[tactic(auto, unfolding(crate::specs::Tables::say_t, crate::specs::Tables::pop_t, crate::specs::Tables::wrap_t))]
+    pub fn say_pop(&mut self, d: usize)
+        requires { LineNear self.old.at }
+        ensures starts_after { spoken_in self.new ≡ say_t (spoken_in self.old) (Event.Pop d) }
+        ensures line_grows { LineGrows self.old.at self.new.at }
+        ensures same { SameLine self.old self.new }
+    {
+        if self.at.pieces <= d {
+            return;
+        }
+        let at = self.start_of(d);
+        wrap(self.out, at, self.at.len);
+        self.at.pieces -= d;
+        self.at.len += 2;
     }
 }

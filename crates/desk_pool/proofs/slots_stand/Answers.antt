@@ -1,20 +1,7 @@
-use borrow.Author.Rules.{rules}
-use Rattle.feature.specs.Every.{every}
-use Rattle.desk_pool.specs.Slots.{top, is_slot}
-use Prim.Native.Nat.{◌+◌}
-use mathlib.Core.Path.{refl, sym, ◌∙◌}
-use Rattle.feature.proofs.Every.{every_step, every_fails, every_end}
+use Rattle.std.proofs.Common.{refl, rules}
+use Rattle.desk_pool.specs.Slots.{is_slot}
+use Rattle.feature.proofs.AllBelow.{all_below}
 use Rattle.desk_pool.proofs.slots_stand.Goals as goal
 
-pub loop-n-init : goal.loop-n-init
-unfolding every
-loop-n-init c = (search rules, refl)
-
-pub returns-then-not-is_slot : goal.returns-then-not-is_slot
-returns-then-not-is_slot c = sym (every_fails (is_slot c.args.p c.args.pairs.now) (top + 1) c.loop-n.n (search rules) (sym c.is_slot.ensures ∙ c.if-not-is_slot.true))
-
-pub loop-n-preserved : goal.loop-n-preserved
-loop-n-preserved c = (search rules, every_step (is_slot c.args.p c.args.pairs.now) c.loop-n.n c.loop-n.invariant.1 (sym c.is_slot.ensures ∙ c.if-not-is_slot.false))
-
 pub returns : goal.returns
-returns c = every_end (is_slot c.args.p c.args.pairs.now) (top + 1) c.loop-n.n c.loop-n.invariant.1 c.loop-n.invariant.0 (search rules)
+returns c = all_below _ _ _ (is_slot c.args.p c.args.pairs.now) _ refl c.all.ensures.ran (λ x b q k. search rules)

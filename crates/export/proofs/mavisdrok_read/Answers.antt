@@ -1,9 +1,9 @@
 -- What the read call leaves, and the report of its answer.
-use Rattle.export.proofs.Reports.{read_parts}
+use mathlib.Core.Path.{ap}
 use Rattle.read.proofs.One.{same_said}
-use Rattle.export.specs.Calls.{read_x}
+use Rattle.export.specs.Calls.{read_by, read_x}
 use Rattle.export.proofs.mavisdrok_read.Goals as goal
 
 pub returns : goal.returns
 unfolding read_x
-returns c = read_parts _ _ _ _ _ _ _ (same_said _ _ c.read-answer.ensures) c.of_read.ensures c.lay.ensures
+returns c = simp (c.lay.ensures, c.from.ensures) (ap (read_by c.args.report.now) (same_said _ _ c.read.ensures))

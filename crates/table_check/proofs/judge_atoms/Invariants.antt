@@ -6,8 +6,4 @@ use Rattle.table_check.proofs.judge_atoms.Given as goal
 
 abbrev pub invariant-loop-a : goal.invariant-loop-a
 invariant-loop-a l =
-    (atoms_from l.atoms l.m (l.n - l.a) l.a l.held ≡ atoms_from l.atoms l.m l.n 0 0) × (l.held ≤ l.m) × (l.a ≤ l.n)
-
-abbrev pub decreases-loop-a : goal.decreases-loop-a
-decreases-loop-a l =
-    l.n - l.a
+    (atoms_from l.atoms l.m (l.n - l.a) l.a l.held ≡ atoms_from l.atoms l.m l.n 0 0) × (l.held ≤ l.m)

@@ -1,13 +1,9 @@
 -- The invariant: judging what is left comes to judging all.
-use Prim.Native.Nat.{◌-◌, ◌≤◌}
+use Prim.Native.Nat.{◌-◌}
 use mathlib.Core.Path.{◌≡◌}
 use Rattle.table_check.specs.Judge.{first_bad_bond}
 use Rattle.table_check.proofs.judge_bonds.Given as goal
 
 abbrev pub invariant-loop-e : goal.invariant-loop-e
 invariant-loop-e l =
-    (first_bad_bond l.bonds l.held (l.m - l.e) l.e ≡ first_bad_bond l.bonds l.held l.m 0) × (l.e ≤ l.m)
-
-abbrev pub decreases-loop-e : goal.decreases-loop-e
-decreases-loop-e l =
-    l.m - l.e
+    first_bad_bond l.bonds l.held (l.m - l.e) l.e ≡ first_bad_bond l.bonds l.held l.m 0

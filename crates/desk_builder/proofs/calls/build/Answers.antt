@@ -4,18 +4,20 @@ use mathlib.Core.Bool.{not}
 use native.Mathlib.Omega.{arith}
 use Rattle.desk_builder.proofs.Ways.{state_counts}
 use Rattle.desk_builder.proofs.Builds.{end_within, build_none, build_less, build_goes}
+use Rattle.desk_builder.proofs.calls.build.Goals.{then-not-is_state-via-then-not-is_state, then-not-is_state-via-else-not-is_state+then-bonds-builder}
 use Rattle.desk_builder.proofs.calls.build.Goals as goal
 
 pub returns-then-not-is_state : goal.returns-then-not-is_state
-returns-then-not-is_state c = build_none _ _ c.is_state.ensures (ap not c.if-not-is_state.true) c.clear.ensures c.clear-then-not-is_state.ensures
+returns-then-not-is_state c =
+    elim c.then-not-is_state.branch [
+      | then-not-is_state-via-then-not-is_state w ↦ build_none _ _ c.is_state.ensures (ap not w.if-not-is_state.true) c.clear.ensures c.clear-then-not-is_state.ensures
+      | then-not-is_state-via-else-not-is_state+then-bonds-builder w ↦ build_less _ _ c.is_state.ensures (ap not w.if-not-is_state.false) w.if-bonds-builder.true c.clear.ensures c.clear-then-not-is_state.ensures
+    ]
 
 pub overflow_mul-builder : goal.overflow_mul-builder
 overflow_mul-builder c =
     let h = state_counts _ c.is_state.ensures (ap not c.if-not-is_state.false) in
     omega (arith, h.entries, h.slots)
-
-pub returns-then-bonds-builder : goal.returns-then-bonds-builder
-returns-then-bonds-builder c = build_less _ _ c.is_state.ensures (ap not c.if-not-is_state.false) c.if-bonds-builder.true c.clear-then-bonds-builder.ensures c.clear-then-bonds-builder-2.ensures
 
 pub overflow_mul-end : goal.overflow_mul-end
 overflow_mul-end c = omega (arith, (end_within _ c.is_state.ensures (ap not c.if-not-is_state.false)).1)

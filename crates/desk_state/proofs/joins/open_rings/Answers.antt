@@ -1,21 +1,16 @@
-use Rattle.desk_state.proofs.Turns.{open_step, open_most, open_one}
+use Rattle.std.proofs.Common.{◌∙◌, rules}
+use borrow.Author.Tests.{tests}
+use Rattle.std.proofs.lemmas.Iterator.{YieldsList-from_slice, YieldsList-from_take}
+use Rattle.std.proofs.lemmas.Iterator.Consumers.{YieldsList-at, YieldsList-from_filter, count_from_yields_List}
 use Rattle.table.specs.Limits.{ring_number_count}
-use Rattle.desk_state.specs.Standing.{open_rings}
-use borrow.Author.Rules.{rules}
-use native.Mathlib.Omega.{arith}
-use mathlib.Core.Path.{◌≡◌, refl, sym, ap, ◌∙◌}
-use Prim.Native.Nat.{ℕ, ◌+◌}
+use Rattle.desk_state.proofs.Rings.{is_open, open_counted}
 use Rattle.desk_state.proofs.joins.open_rings.Goals as goal
 
-pub loop-n-init : goal.loop-n-init
-unfolding open_rings
-loop-n-init c = (search rules, refl)
-
-pub overflow_add-count : goal.overflow_add-count
-overflow_add-count c = omega (arith, c.open_at-count.ensures, open_one c.args.rings.now c.loop-n.n, open_most c.args.rings.now c.loop-n.n, c.loop-n.invariant.0, c.loop-n.invariant.1)
-
-pub loop-n-preserved : goal.loop-n-preserved
-loop-n-preserved c = (search rules, ap (λ (x : ℕ). x + c.open_at-count.result) c.loop-n.invariant.1 ∙ ap (λ (x : ℕ). open_rings c.args.rings.now c.loop-n.n + x) c.open_at-count.ensures ∙ sym (open_step c.args.rings.now c.loop-n.n))
-
 pub returns : goal.returns
-returns c = let all : c.loop-n.n ≡ ring_number_count = omega (arith, c.loop-n.invariant.0, c.loop-n-test.false) in c.loop-n.invariant.1 ∙ ap (open_rings c.args.rings.now) all
+returns c =
+    count_from_yields_List c.filter.result _ c.count.ensures.ran
+    (YieldsList-from_filter _ is_open
+    (YieldsList-at c.filter.ensures.source (YieldsList-from_take ring_number_count (YieldsList-at c.take.ensures.source (YieldsList-from_slice c.args.rings.now (cc))) (cc)))
+    c.filter.ensures.closure
+    (λ x r q k. search (rules, tests)))
+    ∙ open_counted c.args.rings.now ring_number_count

@@ -1,12 +1,9 @@
 -- it is. Assumes nothing.
-use Prim.Native.Nat.{ℕ, ◌-◌, ◌<◌}
+use Prim.Native.Nat.{ℕ, ◌<◌}
 use mathlib.Core.Path.{◌≡◌}
 use lib.ListN.{get_or}
-use Rattle.feature.specs.Names.{symbols, names}
+use Rattle.feature.specs.Names.{names}
 use Rattle.feature.proofs.element.find_from.Given as goal
 
 abbrev pub invariant-loop-place : goal.invariant-loop-place
 invariant-loop-place l = (j : ℕ) → j < l.place → get_or names j 0 ≡ l.key → ⊥
-
-abbrev pub decreases-loop-place : goal.decreases-loop-place
-decreases-loop-place l = symbols - l.place

@@ -1,7 +1,7 @@
 use mathlib.Core.Path.{refl, sym, ◌∙◌}
 use native.Mathlib.Omega.{arith}
 use borrow.Author.Rules.{rules}
-use Rattle.read_line.proofs.Turn.{branch_in, from, branch_ready, branch_deep, branch_refused, branch_closed, line_refused, first_ready, line_whole, line_alone, rest_first, rest_end, body_open, after_branch, stuck_branch, after_unit, stuck_unit}
+use Rattle.read_line.proofs.Turn.{seen, branch_in, from, branch_ready, branch_deep, branch_refused, branch_closed, line_refused, first_ready, line_whole, line_alone, rest_first, rest_end, body_open, after_branch, stuck_branch, after_unit, stuck_unit}
 use Rattle.read_line.proofs.line.+line_rest_read_branch.Goals as goal
 
 pub line_rest-loop-atoms-init : goal.line_rest-loop-atoms-init
@@ -94,17 +94,17 @@ read_branch-returns-then-f-ne0 t c = branch_refused _ _ _ _ c.requires.0 c.requi
 pub read_branch-leave_branch-requires : goal.read_branch-leave_branch-requires
 read_branch-leave_branch-requires t c = ((c.line_atom-first.ensures c.args.rings.now).moved.within, c.requires.0.short)
 
-pub read_branch-shape_of-atoms-then-d : goal.read_branch-shape_of-atoms-then-d
-read_branch-shape_of-atoms-then-d t c = c.line_atom-first.auto.atoms
+pub read_branch-shape_of-atoms-then-eq : goal.read_branch-shape_of-atoms-then-eq
+read_branch-shape_of-atoms-then-eq t c = c.line_atom-first.auto.atoms
 
-pub read_branch-shape_of-entries-then-d : goal.read_branch-shape_of-entries-then-d
-read_branch-shape_of-entries-then-d t c = c.line_atom-first.auto.entries
+pub read_branch-shape_of-entries-then-eq : goal.read_branch-shape_of-entries-then-eq
+read_branch-shape_of-entries-then-eq t c = c.line_atom-first.auto.entries
 
-pub read_branch-shape_of-path-then-d : goal.read_branch-shape_of-path-then-d
-read_branch-shape_of-path-then-d t c = c.line_atom-first.auto.path
+pub read_branch-shape_of-path-then-eq : goal.read_branch-shape_of-path-then-eq
+read_branch-shape_of-path-then-eq t c = c.line_atom-first.auto.path
 
-pub read_branch-returns-then-d : goal.read_branch-returns-then-d
-read_branch-returns-then-d t c = simp c.leave_branch.ensures (branch_closed _ _ _ _ c.requires.0 c.requires.1 _ c.read_lead-l.ensures c.if-room-eq0.false _ _ _ (line_alone _ _ _ _ _ _ _ _ (c.line_atom-first.ensures c.args.rings.now) c.if-f-ne0.false (sym c.peek-d.ensures.is ∙ c.if-d.true)) c.if-f-ne0.false)
+pub read_branch-returns-then-eq : goal.read_branch-returns-then-eq
+read_branch-returns-then-eq t c = simp c.leave_branch.ensures (branch_closed _ _ _ _ c.requires.0 c.requires.1 _ c.read_lead-l.ensures c.if-room-eq0.false _ _ _ (line_alone _ _ _ _ _ _ _ _ (c.line_atom-first.ensures c.args.rings.now) c.if-f-ne0.false (seen _ _ _ _ c.peek.ensures c.if-eq.ensures)) c.if-f-ne0.false)
 
 pub read_branch-line_rest-r-requires : goal.read_branch-line_rest-r-requires
 read_branch-line_rest-r-requires t c = (omega (arith, (c.line_atom-first.ensures c.args.rings.now).moved.on c.if-f-ne0.false, (c.line_atom-first.ensures c.args.rings.now).moved.within, from _ _ c.requires.1 _ c.read_lead-l.ensures), (first_ready _ _ _ 0 _ _ _ _ (c.line_atom-first.ensures c.args.rings.now) c.if-f-ne0.false c.requires.0.short, (c.line_atom-first.ensures c.args.rings.now).count))

@@ -1,10 +1,5 @@
--- `replay::tables::parse` is safe and ends. Assumes nothing.
-use mathlib.Core.Path.{◌≡◌}
-use lib.ListN.{length}
+use Rattle.std.proofs.Common.{length}
 use Rattle.replay.proofs.tables.parse.Given as goal
 
-abbrev pub invariant-loop-left : goal.invariant-loop-left
-invariant-loop-left l = (length l.atoms ≡ length l.initial.atoms) × (length l.bonds ≡ length l.initial.bonds)
-
-abbrev pub decreases-loop-left : goal.decreases-loop-left
-decreases-loop-left l = l.left
+abbrev pub decreases-loop-counts : goal.decreases-loop-counts
+decreases-loop-counts l = length l.r.rest.now

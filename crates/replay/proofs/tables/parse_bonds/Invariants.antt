@@ -1,10 +1,8 @@
--- `replay::tables::parse_bonds` is safe and ends. Assumes nothing.
-use mathlib.Core.Path.{◌≡◌}
-use lib.ListN.{length}
+use Rattle.std.proofs.Common.{◌≤◌, length}
 use Rattle.replay.proofs.tables.parse_bonds.Given as goal
 
-abbrev pub invariant-loop-left : goal.invariant-loop-left
-invariant-loop-left l = length l.bonds ≡ length l.initial.bonds
+abbrev pub invariant-loop-held : goal.invariant-loop-held
+invariant-loop-held l = (l.held ≤ l.entries) × (length l.r.rest.now ≤ length l.initial.r.rest.now)
 
-abbrev pub decreases-loop-left : goal.decreases-loop-left
-decreases-loop-left l = l.left
+abbrev pub decreases-loop-held : goal.decreases-loop-held
+decreases-loop-held l = length l.r.rest.now

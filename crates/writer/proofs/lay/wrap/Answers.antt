@@ -3,4 +3,4 @@ use Rattle.writer.proofs.Laws.{wrap_both}
 use Rattle.writer.proofs.lay.wrap.Goals as goal
 
 pub returns : goal.returns
-returns c = wrap_both _ _ _ _ _ _ _ c.requires.0 c.insert.ensures c.lay_byte.ensures
+returns c = wrap_both _ _ _ _ _ _ _ c.requires.0 c.insert.ensures c.put.ensures
