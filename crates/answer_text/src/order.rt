@@ -1,5 +1,7 @@
 // A walk order on one line: for each atom, in walk order, its number, its number in walk order and its text as it is
 // written, separated by `:`; after each but the last a `;`: `0:0:C;2:1:N`.
+ghost use Rattle.std.specs.Prelude.{◌≡◌};
+
 use oracle_form::output::Output;
 use packing::load;
 use spell::spell_atom;
@@ -21,7 +23,9 @@ pub struct Order<'a> {
 }
 
 // The text of an atom, by the place of its entry back.
-fn put_text(out: &mut Output, atoms: &[u32], atom: u32, back: u32) {
+fn put_text(out: &mut Output, atoms: &[u32], atom: u32, back: u32)
+    ensures same_room { out.new.room.ghost_name ≡ out.old.room.ghost_name }
+{
     match load(atoms, atom as usize * ATOM_WORDS) {
         Some(k) => {
             let mut text = [0u8; LONGEST];
@@ -32,7 +36,9 @@ fn put_text(out: &mut Output, atoms: &[u32], atom: u32, back: u32) {
     }
 }
 
-fn put_atom(out: &mut Output, atoms: &[u32], atom: u32, order: Order) {
+fn put_atom(out: &mut Output, atoms: &[u32], atom: u32, order: Order)
+    ensures same_room { out.new.room.ghost_name ≡ out.old.room.ghost_name }
+{
     let place = atom as usize;
     out.number(place);
     out.put(b':');
@@ -42,7 +48,9 @@ fn put_atom(out: &mut Output, atoms: &[u32], atom: u32, order: Order) {
 }
 
 // The first n atoms of a walk order.
-pub fn put_order(out: &mut Output, atoms: &[u32], n: usize, order: Order) {
+pub fn put_order(out: &mut Output, atoms: &[u32], n: usize, order: Order)
+    ensures same_room { out.new.room.ghost_name ≡ out.old.room.ghost_name }
+{
     for (i, atom) in order.walked.iter().take(n).enumerate() {
         if i > 0 {
             out.put(b';');

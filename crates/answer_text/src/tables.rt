@@ -2,6 +2,8 @@
 // bond being its kind and the number of its target: `C e1;C e0 =2 e3;O =1;N e1`. The empty graph is the empty text.
 //
 // Numbers that stand for no atom or no bond are shown as `?`. No graph that was read has any.
+ghost use Rattle.std.specs.Prelude.{◌≡◌};
+
 use oracle_form::output::Output;
 use oracle_form::{bond, kind};
 use packing::{load, load_bond};
@@ -19,7 +21,9 @@ pub struct Graph<'a> {
 }
 
 // The kind in an atom's record.
-fn put_kind(out: &mut Output, record: &[u32]) {
+fn put_kind(out: &mut Output, record: &[u32])
+    ensures same_room { out.new.room.ghost_name ≡ out.old.room.ghost_name }
+{
     match load(record, 0) {
         Some(k) => kind::put(out, k),
         None => out.put(UNKNOWN),
@@ -27,7 +31,9 @@ fn put_kind(out: &mut Output, record: &[u32]) {
 }
 
 // The bond in an entry's record, after a blank.
-fn put_bond(out: &mut Output, record: &[u32]) {
+fn put_bond(out: &mut Output, record: &[u32])
+    ensures same_room { out.new.room.ghost_name ≡ out.old.room.ghost_name }
+{
     out.put(b' ');
     match load_bond(record, 0) {
         Some((k, target)) => {
@@ -40,7 +46,9 @@ fn put_bond(out: &mut Output, record: &[u32]) {
 
 // The table's first atoms, as many as are counted or as it has, each with its bonds: an atom's entries come after those of the
 // atoms before it.
-pub fn put_graph(out: &mut Output, graph: Graph) {
+pub fn put_graph(out: &mut Output, graph: Graph)
+    ensures same_room { out.new.room.ghost_name ≡ out.old.room.ghost_name }
+{
     let mut entries = graph.bonds;
     let atoms = graph.atoms.chunks_exact(ATOM_WORDS);
     for (atom, record) in atoms.take(graph.atom_count).enumerate() {
@@ -55,7 +63,9 @@ pub fn put_graph(out: &mut Output, graph: Graph) {
     }
 }
 
-fn put_bonds(out: &mut Output, entries: &[u32]) {
+fn put_bonds(out: &mut Output, entries: &[u32])
+    ensures same_room { out.new.room.ghost_name ≡ out.old.room.ghost_name }
+{
     for record in entries.chunks_exact(BOND_WORDS) {
         put_bond(out, record);
     }

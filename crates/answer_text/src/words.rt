@@ -91,14 +91,18 @@ fn shown(b: u8) -> u8 {
 }
 
 // A text as it is shown.
-pub fn put_shown(out: &mut Output, text: &[u8]) {
+pub fn put_shown(out: &mut Output, text: &[u8])
+    ensures same_room { out.new.room.ghost_name ≡ out.old.room.ghost_name }
+{
     for b in text {
         out.put(shown(*b));
     }
 }
 
 // The mark under a place of a text that is shown in a line above.
-pub fn put_caret(out: &mut Output, place: usize) {
+pub fn put_caret(out: &mut Output, place: usize)
+    ensures same_room { out.new.room.ghost_name ≡ out.old.room.ghost_name }
+{
     for _ in 0..place {
         out.put(b' ');
     }

@@ -55,12 +55,22 @@ pool_in w =
 
 -- ---- the words of a state
 abbrev pub failure_words : Option FailedJoin → List ℕ
-failure_words None = 0 ∷ []
+failure_words None = 0 ∷ 0 ∷ 0 ∷ []
 failure_words (Some f) = 1 ∷ f.closing ∷ f.opening ∷ []
 
 unfoldable pub builder_words : Builder → List ℕ
 builder_words b =
     b.refusal ∷ b.carried ∷ b.places ∷ b.slots ∷ b.atoms ∷ b.entries ∷ b.top ∷ b.joins ∷ failure_words b.failed
+
+-- what an event lays of them over the words that it was told on: where no join has failed, those of a failed join's atoms stay
+-- as they are, whatever they are
+abbrev pub failure_told : Option FailedJoin → List ℕ
+failure_told None = 0 ∷ []
+failure_told (Some f) = failure_words (Some f)
+
+unfoldable pub event_words : Builder → List ℕ
+event_words b =
+    b.refusal ∷ b.carried ∷ b.places ∷ b.slots ∷ b.atoms ∷ b.entries ∷ b.top ∷ b.joins ∷ failure_told b.failed
 
 unfoldable pub writer_list : Writer → List ℕ
 writer_list w = w.pieces ∷ w.len ∷ []
@@ -72,12 +82,9 @@ pool_list p = p.counter ∷ p.spare ∷ []
 unfoldable pub builder_kept : List ℕ → Builder → List ℕ
 builder_kept words b = pick (eqb b.refusal 0) (sets words 0 (builder_words b)) words
 
--- an accepted start remembers no failure: 0 in the words of a failure's atoms
-unfoldable pub failure_forgotten : List ℕ → Builder → List ℕ
-failure_forgotten words b = pick (eqb b.refusal 0) (sets words 9 (0 ∷ 0 ∷ [])) words
-
-abbrev pub builder_started : List ℕ → Builder → List ℕ
-builder_started words b = builder_kept (failure_forgotten words b) b
+-- after an event on the state that they stood for
+unfoldable pub event_kept : List ℕ → Builder → List ℕ
+event_kept words b = pick (eqb b.refusal 0) (sets words 0 (event_words b)) words
 
 abbrev pub writer_kept : List ℕ → Result Writer writer.Refusal → List ℕ
 writer_kept words said = sets words 0 (writer_words said)

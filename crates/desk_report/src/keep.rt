@@ -1,16 +1,16 @@
 // What an accepted call leaves in the words of a state, and what any event leaves beside its tables: those words and the report.
 // A refused call leaves the state's words as they were.
-ghost use Rattle.std.specs.Prelude.{◌≡◌, slice_set};
+ghost use Rattle.std.specs.Prelude.{◌≡◌};
 ghost use Rattle.desk_report.specs.Report.{of_event, of_said, of_handed, laid_into};
-ghost use Rattle.desk_report.specs.State.{builder_kept, builder_started, failure_forgotten, writer_kept, pool_kept};
+ghost use Rattle.desk_report.specs.State.{builder_kept, event_kept, writer_kept, pool_kept};
 
 use crate::answer::Report;
-use crate::state::{CLOSING, OPENING, StateWords};
+use crate::state::{StateWords, lay_event};
 use builder::builder::Builder;
 use join_pool::Pool;
 use writer::Writer;
 
-// What a builder's event leaves beside its tables.
+// What a builder's start leaves beside its tables: all words of its state, whatever was there.
 #[tactic(auto, unfolding(crate::specs::State::builder_kept))]
 pub fn keep_builder(state: &mut [u64], report: &mut [u64], builder: Builder)
     ensures state_after { state.new ≡ builder_kept state.old builder }
@@ -22,35 +22,17 @@ pub fn keep_builder(state: &mut [u64], report: &mut [u64], builder: Builder)
     Report::of_event(builder).lay(report);
 }
 
-// A word put at a place; past the end nothing changes.
-#[tactic(auto, using(std::proofs::lemmas::List::set_past))]
-fn put(words: &mut [u64], at: usize, word: u64)
-    ensures { words.new ≡ slice_set words.old at word }
-{
-    if at < words.len() {
-        words[at] = word;
-    }
-}
-
-// An accepted start remembers no failure: 0 in the words of a failure's atoms.
-#[tactic(auto, unfolding(crate::specs::State::failure_forgotten))]
-fn forget_failure(state: &mut [u64], builder: Builder)
-    ensures { state.new ≡ failure_forgotten state.old builder }
-{
-    let accepted = builder.refusal == 0;
-    if accepted {
-        put(state, CLOSING, 0);
-        put(state, OPENING, 0);
-    }
-}
-
-// What a start leaves beside its tables.
-pub fn keep_start(state: &mut [u64], report: &mut [u64], builder: Builder)
-    ensures state_after { state.new ≡ builder_started state.old builder }
+// What a builder's event leaves beside its tables, over the words of the state that it was told on.
+#[tactic(auto, unfolding(crate::specs::State::event_kept))]
+pub fn keep_event(state: &mut [u64], report: &mut [u64], builder: Builder)
+    ensures state_after { state.new ≡ event_kept state.old builder }
     ensures report_after { report.new ≡ laid_into report.old (of_event builder) }
 {
-    forget_failure(state, builder);
-    keep_builder(state, report, builder);
+    Report::of_event(builder).lay(report);
+    if builder.refusal != 0 {
+        return;
+    }
+    lay_event(builder, state);
 }
 
 // What a writer's event leaves beside its tables.

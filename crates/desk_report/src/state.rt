@@ -2,7 +2,7 @@
 // too few, or too large for their field, stand for no state. Words after those of a state are untouched.
 ghost use Rattle.std.specs.Prelude.{◌≡◌, ℕ, List, Option};
 ghost use Rattle.std.proofs.lemmas.List.Edits.{sets};
-ghost use Rattle.desk_report.specs.State.{builder_in, writer_in, pool_in, builder_words, failure_words, writer_list, pool_list};
+ghost use Rattle.desk_report.specs.State.{builder_in, writer_in, pool_in, builder_words, failure_words, event_words, failure_told, writer_list, pool_list};
 ghost use Rattle.desk_report.specs.Steps.{narrow_in, failure_by};
 
 use crate::answer::lay_words;
@@ -12,10 +12,8 @@ use writer::Writer;
 
 // The words of a builder's state.
 pub const BUILDER_WORDS: usize = 11;
-// Where those of a failed join's atoms are.
-pub const CLOSING: usize = 9;
-
-pub const OPENING: usize = 10;
+// Those before a failed join's atoms.
+const BEFORE_FAILURE: usize = 9;
 
 // A state that is kept as words between two calls.
 pub trait StateWords {
@@ -88,26 +86,46 @@ impl StateWords for Builder {
         })
     }
 
-    // Where no join has failed, the words of its atoms are left as they are.
-    #[tactic(auto, unfolding(crate::specs::State::builder_words, crate::specs::State::failure_words))]
     fn lay(self, lent: &mut [u64]) {
-        let [r, v, p, l, n, m, t, o] = [
-            u64::from(self.refusal),
-            self.carried as u64,
-            self.places as u64,
-            self.slots as u64,
-            self.atoms as u64,
-            self.entries as u64,
-            self.top as u64,
-            self.joins as u64,
-        ];
-        match self.failed {
-            None => lay_words(lent, &[r, v, p, l, n, m, t, o, 0]),
-            Some(f) => {
-                let (x, y) = (u64::from(f.closing), u64::from(f.opening));
-                lay_words(lent, &[r, v, p, l, n, m, t, o, 1, x, y]);
-            }
-        }
+        lay_words(lent, &words_of(self));
+    }
+}
+
+// The words of a builder's state: of the atoms of a failed join 0 where none has failed.
+#[tactic(auto, unfolding(crate::specs::State::builder_words, crate::specs::State::failure_words))]
+fn words_of(builder: Builder) -> [u64; BUILDER_WORDS]
+    ensures { result ≡ builder_words builder }
+{
+    let (failed, closing, opening) = match builder.failed {
+        None => (0, 0, 0),
+        Some(f) => (1, u64::from(f.closing), u64::from(f.opening)),
+    };
+    [
+        u64::from(builder.refusal),
+        builder.carried as u64,
+        builder.places as u64,
+        builder.slots as u64,
+        builder.atoms as u64,
+        builder.entries as u64,
+        builder.top as u64,
+        builder.joins as u64,
+        failed,
+        closing,
+        opening,
+    ]
+}
+
+// Lays the state that an event has made over the words of the one before. Where no join has failed, those of a failed join's
+// atoms are left as they are: whoever keeps them may have anything there.
+#[tactic(auto, unfolding(crate::specs::State::builder_words, crate::specs::State::event_words, crate::specs::State::failure_words, crate::specs::State::failure_told))]
+pub fn lay_event(builder: Builder, lent: &mut [u64])
+    ensures { lent.new ≡ sets lent.old 0 (event_words builder) }
+{
+    let words = words_of(builder);
+    if builder.failed.is_some() {
+        lay_words(lent, &words);
+    } else {
+        lay_words(lent, &words[..BEFORE_FAILURE]);
     }
 }
 

@@ -11,7 +11,7 @@ use table::look;
 // Where the words of an entry are.
 pub const SOURCE: usize = 0;
 
-const KIND: usize = 1;
+pub const KIND: usize = 1;
 
 pub const TARGET: usize = 2;
 

@@ -9,6 +9,7 @@ ghost use Rattle.desk_state.specs.Standing.{is_kind, is_target, is_builder_entry
 ghost use Rattle.desk_state.specs.Steps.{Between};
 
 use crate::entry::Entry;
+pub use crate::entry::{KIND, TARGET};
 use crate::joins::{joins_rise, joins_stand, leads_alone};
 use crate::pairs::pairs_stand;
 use builder::builder::{Builder, ENTRY_WORDS, OPEN};

@@ -1,6 +1,5 @@
 -- What a start and events leave in the lent words can be handed in again: no event with words of an atom, a bond and a ring
 -- number is answered 17, however many went before. Assumes nothing.
-use Prim.{⊥}
 use Prim.Native.Nat.{ℕ, ◌+◌, ◌<◌, ◌≤◌}
 use mathlib.Core.Path.{◌≡◌, refl, sym, ap, subst, ◌∙◌}
 use mathlib.Core.Logic.{◌≢◌}
@@ -8,8 +7,7 @@ use mathlib.Core.List.{List, [], ◌∷◌}
 use mathlib.Core.Bool.{Bool, true, false}
 use native.Mathlib.Omega.{arith}
 use lib.ListN.{length, get_or, set}
-use Rattle.std.proofs.Common.{get_or-set_same, get_or-set_other, length-set}
-use lib.Seq.{sets, length-sets}
+use lib.Seq.{sets}
 use lib.Dec.{ltb, leb, eqb}
 use borrow.Author.Tests.{eqb-true, eqb-false, eq-eqb, lt-ltb, ltb-false, lt-leb, le-ltb}
 use Rattle.feature.specs.Pick.{pick, both}
@@ -34,9 +32,9 @@ use Rattle.desk_builder.specs.Events.{anew, judged, rooms_of, fresh_of, start_d,
 use Rattle.desk_builder.proofs.Start.{started}
 use Rattle.desk_builder.specs.Runs.{Root, Extend, Join, Pop, call_d, fits}
 use Rattle.desk_builder.proofs.Again.{root_stands, extend_stands, join_stands, pop_stands, call_other}
-use Rattle.desk_report.specs.State.{on_state, builder_size, narrow, builder_in, builder_kept, builder_words, failure_in, failure_forgotten}
+use Rattle.desk_report.specs.State.{on_state, builder_size, narrow, builder_in, builder_kept, builder_words, event_kept, event_words, failure_in}
 use Rattle.desk_report.specs.Report.{of_event, laid_into}
-use Rattle.desk_report.proofs.Again.{FailureFits, builder_again}
+use Rattle.desk_report.proofs.Again.{Narrow, builder_again, FailureFits, event_again}
 use Rattle.export.specs.Given.{on_atom, on_bond}
 use Rattle.export.specs.Events.{BuilderCells, cells_of_builder, over, builder_after, builder_begun, builder_unheard, builder_event, start_x, builder_root_x, builder_extend_x, builder_join_x, builder_pop_x}
 
@@ -119,20 +117,34 @@ held_in w s h =
     let opening = some_past (leb narrow (get_or w 10 0)) (Some (told w)) s closing.1 in
     record { enough = ltb-false _ _ enough.0; closing = closing.0; opening = opening.0 }
 
+-- what holds of eleven words and any more holds of words enough
+of_eleven : (P : List ℕ → Type 0) → ((a b c d e f g h i j k : ℕ) (rest : List ℕ) → P (a ∷ b ∷ c ∷ d ∷ e ∷ f ∷ g ∷ h ∷ i ∷ j ∷ k ∷ rest)) → (w : List ℕ) → 11 ≤ length w → P w
+of_eleven P go [] l = absurd (omega arith)
+of_eleven P go (a ∷ []) l = absurd (omega arith)
+of_eleven P go (a ∷ b ∷ []) l = absurd (omega arith)
+of_eleven P go (a ∷ b ∷ c ∷ []) l = absurd (omega arith)
+of_eleven P go (a ∷ b ∷ c ∷ d ∷ []) l = absurd (omega arith)
+of_eleven P go (a ∷ b ∷ c ∷ d ∷ e ∷ []) l = absurd (omega arith)
+of_eleven P go (a ∷ b ∷ c ∷ d ∷ e ∷ f ∷ []) l = absurd (omega arith)
+of_eleven P go (a ∷ b ∷ c ∷ d ∷ e ∷ f ∷ g ∷ []) l = absurd (omega arith)
+of_eleven P go (a ∷ b ∷ c ∷ d ∷ e ∷ f ∷ g ∷ h ∷ []) l = absurd (omega arith)
+of_eleven P go (a ∷ b ∷ c ∷ d ∷ e ∷ f ∷ g ∷ h ∷ i ∷ []) l = absurd (omega arith)
+of_eleven P go (a ∷ b ∷ c ∷ d ∷ e ∷ f ∷ g ∷ h ∷ i ∷ j ∷ []) l = absurd (omega arith)
+of_eleven P go (a ∷ b ∷ c ∷ d ∷ e ∷ f ∷ g ∷ h ∷ i ∷ j ∷ k ∷ rest) l = go a b c d e f g h i j k rest
+
 -- what is laid into enough words is what they stand for
-laid_in : (w : List ℕ) (s : Builder) → 11 ≤ length w → leb narrow s.refusal ≡ false → FailureFits s.failed (get_or w 9 0) (get_or w 10 0) → builder_in (sets w 0 (builder_words s)) ≡ Some s
-laid_in [] s l x y = absurd (omega arith)
-laid_in (a ∷ []) s l x y = absurd (omega arith)
-laid_in (a ∷ b ∷ []) s l x y = absurd (omega arith)
-laid_in (a ∷ b ∷ c ∷ []) s l x y = absurd (omega arith)
-laid_in (a ∷ b ∷ c ∷ d ∷ []) s l x y = absurd (omega arith)
-laid_in (a ∷ b ∷ c ∷ d ∷ e ∷ []) s l x y = absurd (omega arith)
-laid_in (a ∷ b ∷ c ∷ d ∷ e ∷ f ∷ []) s l x y = absurd (omega arith)
-laid_in (a ∷ b ∷ c ∷ d ∷ e ∷ f ∷ g ∷ []) s l x y = absurd (omega arith)
-laid_in (a ∷ b ∷ c ∷ d ∷ e ∷ f ∷ g ∷ h ∷ []) s l x y = absurd (omega arith)
-laid_in (a ∷ b ∷ c ∷ d ∷ e ∷ f ∷ g ∷ h ∷ i ∷ []) s l x y = absurd (omega arith)
-laid_in (a ∷ b ∷ c ∷ d ∷ e ∷ f ∷ g ∷ h ∷ i ∷ j ∷ []) s l x y = absurd (omega arith)
-laid_in (a ∷ b ∷ c ∷ d ∷ e ∷ f ∷ g ∷ h ∷ i ∷ j ∷ k ∷ rest) s l x y = builder_again a b c d e f g h i j k rest s.refusal s.carried s.places s.slots s.atoms s.entries s.top s.joins s.failed x y
+laid_in : (w : List ℕ) (s : Builder) → 11 ≤ length w → leb narrow s.refusal ≡ false → Narrow s.failed → builder_in (sets w 0 (builder_words s)) ≡ Some s
+laid_in w s l x y =
+    of_eleven (λ v. builder_in (sets v 0 (builder_words s)) ≡ Some s)
+    (λ a b c d e f g h i j k rest. builder_again a b c d e f g h i j k rest s.refusal s.carried s.places s.slots s.atoms s.entries s.top s.joins s.failed x y)
+    w l
+
+-- and so is what an event lays over words that fit
+told_in : (w : List ℕ) (s : Builder) → 11 ≤ length w → leb narrow s.refusal ≡ false → FailureFits s.failed (get_or w 9 0) (get_or w 10 0) → builder_in (sets w 0 (event_words s)) ≡ Some s
+told_in w s l x y =
+    of_eleven (λ v. FailureFits s.failed (get_or v 9 0) (get_or v 10 0) → builder_in (sets v 0 (event_words s)) ≡ Some s)
+    (λ a b c d e f g h i j k rest z. event_again a b c d e f g h i j k rest s.refusal s.carried s.places s.slots s.atoms s.entries s.top s.joins s.failed x z)
+    w l y
 
 -- ---- the words and the tables stand for a state
 pub record Stood (c : BuilderCells) : Type 0 where
@@ -144,7 +156,7 @@ narrow_atom : (b : Bld) → is_state b ≡ true → (n : ℕ) → n < b.st.atoms
 narrow_atom b is n l = let h = (holds b is).keeps in lt-leb narrow n (omega (arith, l, h.within, h.most_places))
 
 after_stood : (c : BuilderCells) (s : Builder) (x : Bld) → Held c.state → builder_in c.state ≡ Some s → is_state (over c s) ≡ true → Tame (over c s) x → is_state x ≡ true → Stood (builder_after c x)
-unfolding builder_after builder_kept refuse
+unfolding builder_after event_kept refuse
 after_stood c s x held in_words_lem was tame is = by_refusal (eqb x.st.refusal 0) refl where
   fits : (q : Option FailedJoin) → x.st.failed ≡ q → FailureFits q (get_or c.state 9 0) (get_or c.state 10 0)
   fits None e = (held.closing, held.opening)
@@ -152,9 +164,9 @@ after_stood c s x held in_words_lem was tame is = by_refusal (eqb x.st.refusal 0
       let z = (holds x is).failing f e in
       (narrow_atom x is f.closing z.0, narrow_atom x is f.opening z.1)
 
-  by_refusal : (q : Bool) → eqb x.st.refusal 0 ≡ q → Stood (cells_of_builder x.atoms x.entries x.path x.rings (pick q (sets c.state 0 (builder_words x.st)) c.state) (laid_into c.report (of_event x.st)))
+  by_refusal : (q : Bool) → eqb x.st.refusal 0 ≡ q → Stood (cells_of_builder x.atoms x.entries x.path x.rings (pick q (sets c.state 0 (event_words x.st)) c.state) (laid_into c.report (of_event x.st)))
   by_refusal true none =
-      record { builder = x.st; words = laid_in c.state x.st held.enough (ap (leb narrow) (eqb-true x.st.refusal 0 none)) (fits x.st.failed refl); stands = is }
+      record { builder = x.st; words = told_in c.state x.st held.enough (ap (leb narrow) (eqb-true x.st.refusal 0 none)) (fits x.st.failed refl); stands = is }
   by_refusal false some =
       let z = tame.same (eqb-false x.st.refusal 0 some) in
       record { builder = s; words = in_words_lem; stands = ap (λ (y : Bld). is_state (bld y.atoms y.entries y.path y.rings s)) z.2 ∙ was }
@@ -225,23 +237,14 @@ no_failure : (a e p r : List ℕ) → (start_d a e p r).st.failed ≡ None
 unfolding start_d fresh_of rooms_of
 no_failure a e p r = by_test (λ (x : Bld). x.st.failed ≡ None) (is_state (fresh_of a e p r)) (λ t. refl) (λ t. refl)
 
--- words with 0 for a failure's atoms
-forgotten_fits : (w : List ℕ) → 11 ≤ length w → FailureFits None (get_or (sets w 9 (0 ∷ 0 ∷ [])) 9 0) (get_or (sets w 9 (0 ∷ 0 ∷ [])) 10 0)
-forgotten_fits w l = (
-  ap (leb narrow) (get_or-set_other (set w 9 0) 10 9 0 0 (λ e. omega arith) ∙ get_or-set_same w 9 0 0 (omega arith)),
-  ap (leb narrow) (get_or-set_same (set w 9 0) 10 0 0 (rw length-set (omega arith))),
-)
-
 pub start_stood : (c : BuilderCells) → builder_size ≤ length c.state → (start_d c.atoms c.entries c.path c.rings).st.refusal ≡ 0 → Stood (start_x c)
-unfolding start_x builder_begun builder_kept failure_forgotten
+unfolding start_x builder_begun builder_kept
 start_stood c room accepted =
     let x = start_d c.atoms c.entries c.path c.rings in
-    let w = sets c.state 9 (0 ∷ 0 ∷ []) in
     rw (le-ltb (length c.state) builder_size room, eq-eqb x.st.refusal 0 accepted)
     (record {
       builder = x.st;
-      words = laid_in w x.st (rw length-sets room) (ap (leb narrow) accepted)
-          (subst (λ (q : Option FailedJoin). FailureFits q (get_or w 9 0) (get_or w 10 0)) (sym (no_failure c.atoms c.entries c.path c.rings)) (forgotten_fits c.state room));
+      words = laid_in c.state x.st room (ap (leb narrow) accepted) (subst Narrow (sym (no_failure c.atoms c.entries c.path c.rings)) tt);
       stands = started c.atoms c.entries c.path c.rings accepted;
     })
 

@@ -12,7 +12,7 @@ use Rattle.desk_builder.specs.Events.{start_d, root_d, extend_d, join_d, pop_d}
 use Rattle.desk_builder.specs.Build.{BuildLeft, build_d}
 use Rattle.export.specs.Given.{on_atom, on_bond}
 use Rattle.desk_report.specs.Report.{bad, of_event, of_left, laid_into}
-use Rattle.desk_report.specs.State.{on_state, builder_size, builder_in, builder_kept, builder_started}
+use Rattle.desk_report.specs.State.{on_state, builder_size, builder_in, builder_kept, event_kept}
 
 -- every cell that is lent to an event
 pub record BuilderCells : Type 0 where
@@ -33,12 +33,12 @@ over c s = bld c.atoms c.entries c.path c.rings s
 -- what an event leaves
 unfoldable pub builder_after : BuilderCells → Bld → BuilderCells
 builder_after c b =
-    cells_of_builder b.atoms b.entries b.path b.rings (builder_kept c.state b.st) (laid_into c.report (of_event b.st))
+    cells_of_builder b.atoms b.entries b.path b.rings (event_kept c.state b.st) (laid_into c.report (of_event b.st))
 
 -- the same of a start
 unfoldable pub builder_begun : BuilderCells → Bld → BuilderCells
 builder_begun c b =
-    cells_of_builder b.atoms b.entries b.path b.rings (builder_started c.state b.st) (laid_into c.report (of_event b.st))
+    cells_of_builder b.atoms b.entries b.path b.rings (builder_kept c.state b.st) (laid_into c.report (of_event b.st))
 
 -- 17, and nothing else changed
 unfoldable pub builder_unheard : BuilderCells → BuilderCells

@@ -6,7 +6,7 @@ ghost use Rattle.export.specs.Events.{cells_of_builder, start_x, builder_root_x,
 use builder::builder::Builder;
 use desk_builder::calls;
 use desk_report::answer::{Report, refuse};
-use desk_report::keep::{keep_builder, keep_start};
+use desk_report::keep::{keep_builder, keep_event};
 use desk_report::state::{BUILDER_WORDS, StateWords};
 use feature::bond_kind::decode;
 use packing::kind;
@@ -33,7 +33,7 @@ pub extern "C" fn mavisdrok_builder_start(
         refuse(report);
         return;
     }
-    keep_start(state, report, calls::start(atoms, entries, path, rings));
+    keep_builder(state, report, calls::start(atoms, entries, path, rings));
 }
 
 // A first atom of a component.
@@ -59,7 +59,7 @@ pub extern "C" fn mavisdrok_builder_root(
         refuse(report);
         return;
     };
-    keep_builder(
+    keep_event(
         state,
         report,
         calls::root(atoms, entries, path, rings, b, k),
@@ -91,7 +91,7 @@ pub extern "C" fn mavisdrok_builder_extend(
         refuse(report);
         return;
     };
-    keep_builder(
+    keep_event(
         state,
         report,
         calls::extend(atoms, entries, path, rings, b, k, t),
@@ -121,7 +121,7 @@ pub extern "C" fn mavisdrok_builder_join(
         refuse(report);
         return;
     };
-    keep_builder(
+    keep_event(
         state,
         report,
         calls::join(atoms, entries, path, rings, b, k, number as usize),
@@ -150,7 +150,7 @@ pub extern "C" fn mavisdrok_builder_pop(
         refuse(report);
         return;
     };
-    keep_builder(state, report, calls::pop(atoms, entries, path, rings, b, n));
+    keep_event(state, report, calls::pop(atoms, entries, path, rings, b, n));
 }
 
 // The graph in its final form. A refused build leaves zeros in both tables.

@@ -1,5 +1,5 @@
 // The names that a bracket atom can have: the star, the 118 elements and the eight aromatic ones, in one ordered table.
-ghost use Rattle.std.specs.Prelude.{◌≡◌, ◌/◌, get_or, unwrap_or};
+ghost use Rattle.std.specs.Prelude.{◌≡◌, ◌/◌, ◌≤◌, get_or, unwrap_or};
 ghost use Rattle.feature.specs.Names.{names, place_of, symbol_at, named_of};
 ghost use Rattle.feature.specs.Steps.{head_of};
 ghost use Rattle.feature.specs.Text.{letter_step, no_letter, two_letters};
@@ -256,32 +256,31 @@ pub fn find(key: u32) -> Option<u32>
 
 // The symbol whose name these two letters are, if one has it. No name has a second letter below "a", so there is no pass then.
 #[tactic(auto, using(crate::proofs::Names::no_second, crate::proofs::Names::no_end))]
-fn two_letters(head: u32, first: u8, second: Option<u8>) -> Option<u32>
-    requires { head ≡ head_of first }
+fn two_letters(head: u32, first: u32, second: Option<u8>) -> Option<u32>
+    requires { (head ≡ head_of first) × (first ≤ 255) }
     ensures { result ≡ symbol_at (place_of (two_letters first (unwrap_or second no_letter)) names) }
 {
     let second = second?;
     if second < b'a' {
         return None;
     }
-    find_from(head, u32::from(first) * LETTER + u32::from(second) + 1)
+    find_from(head, first * LETTER + u32::from(second) + 1)
 }
 
 // What the names say of a byte and the one after it, of which there is none at the end of a line: one pass over the names that
 // begin with the byte. Of these its own name, where it has one, is the first.
 #[tactic(auto, using(crate::proofs::Names::head_byte, crate::proofs::Names::nothing_named, crate::proofs::Names::two_named, crate::proofs::Names::one_named, crate::proofs::Names::begins_named))]
-pub fn look_up(first: u8, second: Option<u8>) -> Named
+pub fn look_up(first: u32, second: Option<u8>) -> Named
     ensures { result ≡ named_of first (unwrap_or second no_letter) }
 {
-    let first_byte = u32::from(first);
-    let head = first_of(first_byte);
-    if name(head) / LETTER != first_byte {
+    let head = first_of(first);
+    if name(head) / LETTER != first {
         return Named::Nothing;
     }
     if let Some(two) = two_letters(head, first, second) {
         return Named::Two(two);
     }
-    if name(head) == first_byte * LETTER {
+    if name(head) == first * LETTER {
         return Named::One(head);
     }
     Named::Begins

@@ -4,7 +4,7 @@
 // is between is one piece, as far as a block has it.
 //
 // The text and its tables are held until the next line, so that what is to be said below an answer can be.
-ghost use Rattle.std.specs.Prelude.{◌≤◌, ◌<◌, length};
+ghost use Rattle.std.specs.Prelude.{◌≡◌, ◌≤◌, ◌<◌, length};
 
 use crate::answer::{Tables, Text, Told, room_for, tell};
 use crate::command::{Asked, Command};
@@ -95,7 +95,9 @@ pub struct Room<'a> {
 
 impl<'a> Desk<'a> {
     // Before the first line of the first input.
-    pub fn new(asked: Asked, room: Room<'a>, gathered: Gathered<'a>) -> Self {
+    pub fn new(asked: Asked, room: Room<'a>, gathered: Gathered<'a>) -> Self
+        ensures { result.gathered.out.end ≡ gathered.entry.out.end }
+    {
         let Room { text, tables } = room;
         Desk {
             command: asked.command.unwrap_or(Command::Rewrite),
@@ -119,7 +121,9 @@ impl<'a> Desk<'a> {
     }
 
     // A line of which no byte has come.
-    fn begin(&mut self) {
+    fn begin(&mut self)
+        ensures { self.new.gathered.out.end ≡ self.old.gathered.out.end }
+    {
         self.held.size = 0;
         self.told = None;
     }
@@ -157,7 +161,9 @@ impl<'a> Desk<'a> {
     }
 
     // The text was answered.
-    fn answered(&mut self, told: Told) {
+    fn answered(&mut self, told: Told)
+        ensures { self.new.gathered.out.end ≡ self.old.gathered.out.end }
+    {
         self.counts.count(told);
         self.told = Some(told);
         if self.has_progress && self.counts.lines % PROGRESS == 0 {

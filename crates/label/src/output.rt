@@ -1,5 +1,7 @@
 // What is written to the standard output gathers in a room first, so that short answers do not take a call each. Messages go to
 // the standard error at once.
+ghost use Rattle.std.specs.Prelude.{◌≡◌};
+
 use oracle_form::output::Output;
 use program_io::failure::fail;
 use std::io::{ErrorKind, Stderr, Stdout};
@@ -17,7 +19,9 @@ pub struct Gathered<'a> {
 
 impl<'a> Gathered<'a> {
     // Nothing has gathered.
-    pub fn new(room: &'a mut [u8], answers: Stdout, errors: Stderr) -> Self {
+    pub fn new(room: &'a mut [u8], answers: Stdout, errors: Stderr) -> Self
+        ensures { result.out.end ≡ 0 }
+    {
         Gathered {
             out: Output::new(room),
             has_failed: false,
@@ -27,11 +31,13 @@ impl<'a> Gathered<'a> {
     }
 
     // Writes what has gathered. The first write that fails is told, unless it fails since nobody reads any more.
-    pub fn flush(&mut self) {
+    pub fn flush(&mut self)
+        ensures { self.new.out.end ≡ 0 }
+    {
         if !self.has_failed {
             self.write();
         }
-        self.out.end = 0;
+        self.out.clear();
     }
 
     fn write(&mut self) {

@@ -11,9 +11,9 @@ use table::ATOM_WORDS;
 // The first atom of a graph that is not kept, why, and how many more there are.
 #[derive(Clone, Copy)]
 pub struct Lost {
-    first: usize,
-    reason: &'static str,
-    more: usize,
+    pub first: usize,
+    pub reason: &'static str,
+    pub more: usize,
 }
 
 impl fmt::Display for Lost {

@@ -113,7 +113,7 @@ impl Seen {
 }
 
 // The place of the use of a ring number that is numbered so.
-pub(crate) fn find_use(text: &[u8], numbered: usize) -> Option<usize> {
+pub fn find_use(text: &[u8], numbered: usize) -> Option<usize> {
     let mut seen = Seen::nothing();
     text.iter()
         .enumerate()
@@ -158,7 +158,7 @@ fn close(open: &mut [Option<Use>], used: Use) -> Option<Use> {
 }
 
 // The places of the two uses of a ring number between these atoms whose bond's ends disagree, the opening one first.
-pub(crate) fn find_bond(text: &[u8], closing: usize, opening: usize) -> Option<(usize, usize)> {
+pub fn find_bond(text: &[u8], closing: usize, opening: usize) -> Option<(usize, usize)> {
     let mut seen = Seen::nothing();
     let mut open = [None; RING_NUMBER_COUNT];
     text.iter()

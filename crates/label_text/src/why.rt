@@ -1,11 +1,11 @@
 // A text that is refused: in words for people, with the places that they are about, or behind a `#`.
-ghost use Rattle.std.specs.Prelude.{◌≡◌, IsNone};
+ghost use Rattle.std.specs.Prelude.{◌≡◌, ◌≢◌, length, IfSome, IsNone};
 
 use crate::looks::Looks;
 use crate::rings::{find_bond, find_use};
 use answer_text::desk::Named;
 use answer_text::words::{Words, place, put_caret, put_shown};
-use desk_numbers::{JOIN, RNUM, Said};
+use desk_numbers::{END_OF_LINE, JOIN, RNUM, Said};
 use oracle_form::output::Output;
 use std::fmt;
 use std::fmt::Write;
@@ -14,17 +14,21 @@ use table::limits::TEXT;
 const LINE_END: u8 = b'\n';
 // What comes before a text that is shown, and before the marks below it.
 const INDENT: &[u8] = b"    ";
+// No refusal has more bytes before the text: a `#`, its number, its name and two numbers with the marks between them.
+const LONGEST_NAMED: usize = 80;
 // The bytes of both lines, the longest text in each.
 pub const SHOWN_BYTES: usize = 2 * (INDENT.len() + TEXT + 1);
 
 // The places of a text that a refusal is about: one, or two of which the first comes before the second.
 #[derive(Clone, Copy)]
 pub struct Places {
-    first: usize,
-    second: Option<usize>,
+    pub first: usize,
+    pub second: Option<usize>,
 }
 
-fn only(first: usize) -> Places {
+fn only(first: usize) -> Places
+    ensures { result.first ≡ first }
+{
     Places {
         first,
         second: None,
@@ -40,7 +44,9 @@ fn both((first, second): (usize, usize)) -> Places {
 
 // The places of a text that a refusal is about, if there are any.
 pub fn places_of(said: Said, text: &[u8], looks: Option<Looks>) -> Option<Places>
-    ensures { looks ≡ Some Looks.Blank → IsNone result }
+    ensures blank { looks ≡ Some Looks.Blank → IsNone result }
+    ensures at_end { said.no ≡ END_OF_LINE → IfSome result (λ places. places.first ≡ length text.now) }
+    ensures carried { said.no ≢ END_OF_LINE → said.no ≢ JOIN → said.no ≢ RNUM → IfSome result (λ places. places.first ≡ said.first) }
 {
     if looks == Some(Looks::Blank) {
         return None;
@@ -48,7 +54,7 @@ pub fn places_of(said: Said, text: &[u8], looks: Option<Looks>) -> Option<Places
     match said.no {
         JOIN => find_bond(text, said.first, said.second).map(both),
         RNUM => find_use(text, said.first).map(only),
-        _ => place(said, text.len()).map(only),
+        _ => Some(only(place(said, text.len())?)),
     }
 }
 
@@ -93,13 +99,20 @@ fn write_places<W: fmt::Write>(
 }
 
 // A refused line of a tray: behind a `#` the number, its name and what it carries, a tab, and the text as it is.
-pub fn put_comment(out: &mut Output, said: Said, text: &[u8]) {
-    let _ = write!(out, "# {} {}\t", said.no, Named(said));
+pub fn put_comment(out: &mut Output, said: Said, text: &[u8])
+    ensures same_room { out.new.room.ghost_name ≡ out.old.room.ghost_name }
+{
+    let mut room = [0u8; LONGEST_NAMED];
+    let mut begin = Output::new(&mut room);
+    let _ = write!(begin, "# {} {}\t", said.no, Named(said));
+    out.put_all(begin.bytes());
     out.put_all(text);
 }
 
 // A text with its places marked below it. There is room for both lines.
-pub fn put_marked(out: &mut Output, text: &[u8], places: Places) {
+pub fn put_marked(out: &mut Output, text: &[u8], places: Places)
+    ensures same_room { out.new.room.ghost_name ≡ out.old.room.ghost_name }
+{
     let Places { first, second } = places;
     out.put_all(INDENT);
     put_shown(out, text);

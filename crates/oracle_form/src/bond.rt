@@ -1,5 +1,5 @@
 // A bond's kind as one byte: `e` where it is elided, else the mark that a line has for it.
-ghost use Rattle.std.specs.Prelude.{◌<◌, length, OnSome};
+ghost use Rattle.std.specs.Prelude.{◌≡◌, ◌<◌, length, OnSome};
 
 use crate::output::Output;
 use crate::reader::Reader;
@@ -18,7 +18,9 @@ fn mark(k: BondKind) -> u8 {
     }
 }
 
-pub fn put(out: &mut Output<'_>, k: BondKind) {
+pub fn put(out: &mut Output<'_>, k: BondKind)
+    ensures same_room { out.new.room.ghost_name ≡ out.old.room.ghost_name }
+{
     out.put(mark(k));
 }
 

@@ -7,7 +7,9 @@ use crate::output::Output;
 use crate::reader::Reader;
 
 // A number, or `~` where it is the one that stands for none.
-pub fn put_number(out: &mut Output<'_>, mark: u8, n: u32, none: u32) {
+pub fn put_number(out: &mut Output<'_>, mark: u8, n: u32, none: u32)
+    ensures same_room { out.new.room.ghost_name ≡ out.old.room.ghost_name }
+{
     out.put(mark);
     if n == none {
         out.put(b'~');
@@ -45,12 +47,16 @@ const CHARGES: [&[u8]; 32] = [
     b"12", b"13", b"14", b"15", b"~",
 ];
 
-pub fn put_configuration(out: &mut Output<'_>, c: u32) {
+pub fn put_configuration(out: &mut Output<'_>, c: u32)
+    ensures same_room { out.new.room.ghost_name ≡ out.old.room.ghost_name }
+{
     out.put(b',');
     out.put_nth(&CONFIGURATIONS, c as usize);
 }
 
-pub fn put_charge(out: &mut Output<'_>, q: u32) {
+pub fn put_charge(out: &mut Output<'_>, q: u32)
+    ensures same_room { out.new.room.ghost_name ≡ out.old.room.ghost_name }
+{
     out.put(b',');
     out.put_nth(&CHARGES, q as usize);
 }

@@ -13,7 +13,9 @@ const ALIPHATIC: [&[u8]; 12] = [
 
 const AROMATIC: [&[u8]; 6] = [b"b", b"c", b"n", b"o", b"p", b"s"];
 
-fn put_bracket(out: &mut Output<'_>, b: BracketAtom) {
+fn put_bracket(out: &mut Output<'_>, b: BracketAtom)
+    ensures same_room { out.new.room.ghost_name ≡ out.old.room.ghost_name }
+{
     field::put_number(out, b'[', b.isotope, NO_NUMBER);
     out.put(b',');
     symbol::put(out, b.symbol);
@@ -24,7 +26,9 @@ fn put_bracket(out: &mut Output<'_>, b: BracketAtom) {
     out.put(b']');
 }
 
-pub fn put(out: &mut Output<'_>, k: AtomKind) {
+pub fn put(out: &mut Output<'_>, k: AtomKind)
+    ensures same_room { out.new.room.ghost_name ≡ out.old.room.ghost_name }
+{
     match k {
         AtomKind::Star => out.put(b'*'),
         AtomKind::Aliphatic(n) => out.put_nth(&ALIPHATIC, n as usize),

@@ -1,8 +1,11 @@
 // Bytes laid into lent room, one after the other. What finds no room is left out.
-ghost use Rattle.std.specs.Prelude.{◌≡◌, ◌≤◌, ◌∷◌, ◌++◌, [], length, take};
+ghost use Rattle.std.specs.Prelude.{◌≡◌, ◌<◌, ◌≤◌, ◌∷◌, ◌++◌, [], length, take};
 
 use std::fmt;
 use std::fmt::Write;
+
+// No number has more digits.
+const DIGITS: usize = 20;
 
 #[derive(Drop)]
 pub struct Output<'a> {
@@ -17,6 +20,16 @@ impl<'a> Output<'a> {
         ensures same_room { result.room.ghost_name ≡ room.entry.ghost_name }
     {
         Self { room, end: 0 }
+    }
+
+    // Behind what a room holds up to a place. A place past the room's end is brought back to it.
+    pub fn behind(room: &'a mut [u8], place: usize) -> Self
+        ensures kept { place ≤ length room.entry.now → result.end ≡ place }
+        ensures brought_back { length room.entry.now < place → result.end ≡ length room.entry.now }
+        ensures same_room { result.room.ghost_name ≡ room.entry.ghost_name }
+    {
+        let end = place.min(room.len());
+        Self { room, end }
     }
 
     // Lays a byte.
@@ -43,15 +56,23 @@ impl<'a> Output<'a> {
     }
 
     // Lays the n-th of some words, or nothing where there is none.
-    pub fn put_nth(&mut self, words: &[&[u8]], n: usize) {
+    pub fn put_nth(&mut self, words: &[&[u8]], n: usize)
+        ensures same_room { self.new.room.ghost_name ≡ self.old.room.ghost_name }
+    {
         if let Some(&word) = words.get(n) {
             self.put_all(word);
         }
     }
 
-    // Lays a number in decimal digits.
-    pub fn number(&mut self, n: usize) {
-        let _ = write!(self, "{n}");
+    // Lays a number in decimal digits. They come by way of a room of their own, since `write!` does not say of an output that its
+    // room is the same afterwards.
+    pub fn number(&mut self, n: usize)
+        ensures same_room { self.new.room.ghost_name ≡ self.old.room.ghost_name }
+    {
+        let mut room = [0u8; DIGITS];
+        let mut digits = Output::new(&mut room);
+        let _ = write!(digits, "{n}");
+        self.put_all(digits.bytes());
     }
 
     // Takes back all that was laid.

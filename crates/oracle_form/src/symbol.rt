@@ -3,18 +3,19 @@ ghost use Rattle.std.specs.Prelude.{◌≡◌, ◌<◌, length, OnSome};
 
 use crate::output::Output;
 use crate::reader::Reader;
-use feature::element;
-use feature::element::Named;
+use feature::element::{LETTER, find, name};
 
 // The letter that a part of a name's number stands for.
 fn letter(n: u32) -> u8 {
     (n % 256) as u8
 }
 
-pub fn put(out: &mut Output<'_>, symbol: u32) {
-    let name = element::name(symbol);
-    let second = name % element::LETTER;
-    out.put(letter(name / element::LETTER));
+pub fn put(out: &mut Output<'_>, symbol: u32)
+    ensures same_room { out.new.room.ghost_name ≡ out.old.room.ghost_name }
+{
+    let name = name(symbol);
+    let second = name % LETTER;
+    out.put(letter(name / LETTER));
     if second != 0 {
         out.put(letter(second - 1));
     }
@@ -24,12 +25,12 @@ pub fn put(out: &mut Output<'_>, symbol: u32) {
 pub fn parse_name<'a>(r: &mut Reader<'a>) -> Option<(&'a [u8], u32)>
     ensures { OnSome result (length r.new.rest.now < length r.old.rest.now) }
 {
-    let first = r.peek()?;
+    let one_letter = u32::from(r.peek()?) * LETTER;
     let second = r.rest.get(1).copied();
-    let (len, symbol) = match element::look_up(first, second) {
-        Named::Two(symbol) => (2, symbol),
-        Named::One(symbol) => (1, symbol),
-        Named::Begins | Named::Nothing => return None,
+    let two_letters = second.and_then(|b| find(one_letter + u32::from(b) + 1));
+    let (len, symbol) = match two_letters {
+        Some(symbol) => (2, symbol),
+        None => (1, find(one_letter)?),
     };
     Some((r.take(len)?, symbol))
 }

@@ -16,7 +16,9 @@ fn hex_figure(n: u8) -> u8
     b"0123456789abcdef"[usize::from(n)]
 }
 
-fn put_byte(out: &mut Output<'_>, b: u8) {
+fn put_byte(out: &mut Output<'_>, b: u8)
+    ensures same_room { out.new.room.ghost_name ≡ out.old.room.ghost_name }
+{
     if is_plain(b) {
         out.put(b);
     } else {
@@ -26,7 +28,9 @@ fn put_byte(out: &mut Output<'_>, b: u8) {
     }
 }
 
-pub fn put(out: &mut Output<'_>, text: &[u8]) {
+pub fn put(out: &mut Output<'_>, text: &[u8])
+    ensures same_room { out.new.room.ghost_name ≡ out.old.room.ghost_name }
+{
     if text.is_empty() {
         out.put_all(b"!-");
     }
@@ -46,7 +50,9 @@ fn hex_worth(b: u8) -> Option<u8>
     }
 }
 
-fn parse_byte(r: &mut Reader<'_>) -> Option<u8> {
+fn parse_byte(r: &mut Reader<'_>) -> Option<u8>
+    ensures { OnSome result (length r.new.rest.now < length r.old.rest.now) }
+{
     match r.next()? {
         b'!' => {
             let high = hex_worth(r.next()?)?;

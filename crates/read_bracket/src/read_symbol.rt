@@ -13,7 +13,7 @@ pub fn read_symbol(s: &[u8], at: usize) -> Step
     let Some(b) = peek(s, at) else {
         return Err(at);
     };
-    match look_up(b, peek(s, at + 1)) {
+    match look_up(u32::from(b), peek(s, at + 1)) {
         Named::Two(symbol) => Ok((symbol, at + 2)),
         Named::One(symbol) => Ok((symbol, at + 1)),
         // A slip of the Rust: "[G]" reads as fluorine.

@@ -1,7 +1,7 @@
 // A new atom's entries back to the atom that it is reached from, and what they make of its mark.
 ghost use Rattle.std.specs.Prelude.{◌≡◌};
 ghost use Rattle.feature.specs.Kinds.{invert_of, turned_or};
-ghost use Rattle.walk_entry.specs.Graph.{seen, degree_at};
+ghost use Rattle.walk_entry.specs.Graph.{seen};
 ghost use Rattle.walk_entry.specs.Ways.{is_fixed, even, said_as, scan_in, way_of};
 
 use crate::WalkError;
@@ -54,13 +54,13 @@ pub fn said_as(k: AtomKind, back: u32) -> AtomKind
     if is_even(back) { k } else { turned(k) }
 }
 
-// The entries of the atom t from the last.
+// The entries of the atom t from the last, of which there are n.
 #[tactic(auto, using(crate::proofs::Entries::fixed_here, crate::proofs::Entries::twice_here, crate::proofs::Entries::found_here, crate::proofs::Entries::later, crate::proofs::Entries::at_end_lem))]
-pub fn scan_back(g: Graph<'_>, t: u32, s: u32, fixed: bool) -> Back
-    ensures { result ≡ scan_in g.entry.bonds.now g.entry.first.now t s fixed (degree_at (seen g.entry) t) 0 }
+pub fn scan_back(g: Graph<'_>, t: u32, s: u32, fixed: bool, n: u32) -> Back
+    ensures { result ≡ scan_in g.entry.bonds.now g.entry.first.now t s fixed n 0 }
 {
     let mut back = 0;
-    for i in (0..g.degree_at(t)).rev() {
+    for i in (0..n).rev() {
         if g.target_at(t, i) == s {
             if fixed && is_even(i) {
                 return Back::Fixed;
@@ -79,7 +79,7 @@ pub fn scan_back(g: Graph<'_>, t: u32, s: u32, fixed: bool) -> Back
 pub fn find_way(g: Graph<'_>, k: BondKind, s: u32, t: u32) -> Result<u32, WalkError>
     ensures { result ≡ way_of (seen g.entry) k s t }
 {
-    match scan_back(g, t, s, is_fixed(g.kind_at(t))) {
+    match scan_back(g, t, s, is_fixed(g.kind_at(t)), g.degree_at(t)) {
         Back::Fixed => Err(WalkError::Inversion(t)),
         Back::Twice => Err(WalkError::DuplicateBond(s, t)),
         Back::Found(b) => {

@@ -23,8 +23,8 @@ fn is_twice(b: Back) -> bool
 pub fn find_tie(g: Graph<'_>, k: BondKind, s: u32, t: u32) -> Result<u32, WalkError>
     ensures { result ≡ tie_of (seen g.entry) k s t }
 {
-    let twice = is_twice(scan_back(g, s, t, false));
-    match scan_back(g, t, s, false) {
+    let twice = is_twice(scan_back(g, s, t, false, g.degree_at(s)));
+    match scan_back(g, t, s, false, g.degree_at(t)) {
         Back::Fixed | Back::Twice => Err(WalkError::DuplicateBond(s, t)),
         Back::Found(0) => Err(WalkError::HalfBond(s, t)),
         Back::Found(_) if twice => Err(WalkError::DuplicateBond(s, t)),

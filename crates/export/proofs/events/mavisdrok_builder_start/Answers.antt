@@ -9,4 +9,4 @@ returns-then-state-lt-BUILDER_WORDS c = simp (lt-ltb _ _ c.if-state-lt-BUILDER_W
 
 pub returns : goal.returns
 unfolding start_x builder_begun builder_unheard
-returns c = simp (le-ltb _ _ c.if-state-lt-BUILDER_WORDS.false, ← c.start.ensures, ← c.keep_start.ensures.state_after, ← c.keep_start.ensures.report_after)
+returns c = simp (le-ltb _ _ c.if-state-lt-BUILDER_WORDS.false, ← c.start.ensures, ← c.keep_builder.ensures.state_after, ← c.keep_builder.ensures.report_after)
