@@ -28,11 +28,11 @@ pub fn keep_event(state: &mut [u64], report: &mut [u64], builder: Builder)
     ensures state_after { state.new ≡ event_kept state.old builder }
     ensures report_after { report.new ≡ laid_into report.old (of_event builder) }
 {
-    Report::of_event(builder).lay(report);
-    if builder.refusal != 0 {
-        return;
+    let accepted = builder.refusal == 0;
+    if accepted {
+        lay_event(builder, state);
     }
-    lay_event(builder, state);
+    Report::of_event(builder).lay(report);
 }
 
 // What a writer's event leaves beside its tables.

@@ -27,7 +27,8 @@ pub struct Places {
 }
 
 fn only(first: usize) -> Places
-    ensures { result.first ≡ first }
+    ensures first { result.first ≡ first }
+    ensures alone { IsNone result.second }
 {
     Places {
         first,
@@ -45,8 +46,8 @@ fn both((first, second): (usize, usize)) -> Places {
 // The places of a text that a refusal is about, if there are any.
 pub fn places_of(said: Said, text: &[u8], looks: Option<Looks>) -> Option<Places>
     ensures blank { looks ≡ Some Looks.Blank → IsNone result }
-    ensures at_end { said.no ≡ END_OF_LINE → IfSome result (λ places. places.first ≡ length text.now) }
-    ensures carried { said.no ≢ END_OF_LINE → said.no ≢ JOIN → said.no ≢ RNUM → IfSome result (λ places. places.first ≡ said.first) }
+    ensures at_end { said.no ≡ END_OF_LINE → IfSome result (λ places. (places.first ≡ length text.now) × IsNone places.second) }
+    ensures carried { said.no ≢ END_OF_LINE → said.no ≢ JOIN → said.no ≢ RNUM → IfSome result (λ places. (places.first ≡ said.first) × IsNone places.second) }
 {
     if looks == Some(Looks::Blank) {
         return None;

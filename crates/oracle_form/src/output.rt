@@ -26,6 +26,7 @@ impl<'a> Output<'a> {
     pub fn behind(room: &'a mut [u8], place: usize) -> Self
         ensures kept { place ≤ length room.entry.now → result.end ≡ place }
         ensures brought_back { length room.entry.now < place → result.end ≡ length room.entry.now }
+        ensures held { result.room.now ≡ room.entry.now }
         ensures same_room { result.room.ghost_name ≡ room.entry.ghost_name }
     {
         let end = place.min(room.len());
